@@ -1,0 +1,3 @@
+pub mod Length
+pub mod Level
+pub mod Levels

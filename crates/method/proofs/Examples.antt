@@ -1,0 +1,96 @@
+-- Document 01's worked runs, computed from the definitions: the figures of its listing and of "Run by a program", and an unjoined network.
+-- Assumes nothing.
+use mathlib.Core.Path.{_≡_}
+use mathlib.Core.Bool.{Bool, true, _&&_}
+use mathlib.Core.Option.{none, some, bind}
+use mathlib.Core.List.{List, [], _∷_, _++_}
+use Prim.Native.Nat.{ℕ, zero, suc, _<_}
+use native.Mathlib.Nat.{not-suc-le-zero, le-of-suc-le-suc}
+use lib.Dec.{T}
+use lib.ListN.{length, getD}
+use Rattle.arith.specs.Ceiling.{ceil}
+use Rattle.arith.specs.Lists.{upFrom, upTo, exists, flat, keep}
+use Rattle.arith.specs.Sum.{sum}
+use Rattle.arith.proofs.Same.{same, same-eq, and-left, and-right}
+use Rattle.length.specs.Length.{scale, mark, start, growth, halving}
+use Rattle.length.specs.Level.{level, threshold}
+use Rattle.length.specs.Levels.{levels}
+use Rattle.network.specs.Network.{Network}
+use Rattle.network.specs.Path.{leads, follow, pathLength}
+use Rattle.method.specs.Choice.{words, endsAt, paths, candidates, sooner, least, choice}
+use Rattle.method.specs.Iteration.{initial, weight, lowest, draw, update, grown, settled, advance, iteration}
+use Rattle.method.specs.Run.{ended, runs, run}
+use Rattle.method.specs.Answer.{Outcome, fullest, numbersOf, unjoined, outcomeOf, outcome}
+
+-- The answer's seven numbers, then the flow, then the best lengths.
+pub figures : Outcome → List ℕ
+figures o = numbersOf (o .answer) ++ (o .flow ++ o .lengths)
+
+-- The definitions give these figures for the network at precision 4.
+gives : Network → List ℕ → Bool
+unfolding
+    figures ceil upFrom upTo exists flat keep sum same scale mark start growth halving level threshold levels leads follow pathLength words
+    endsAt paths candidates sooner least choice initial weight lowest draw update grown settled advance iteration ended runs run fullest
+    numbersOf unjoined outcomeOf outcome bind
+gives net xs = same (figures (outcome net 4)) xs
+
+-- n nodes; arcs by tails, heads and capacities; commodities by sources and sinks.
+net : ℕ → List ℕ → List ℕ → List ℕ → List ℕ → List ℕ → Network
+net n ts hs cs ss zs = record { nodes = n; tails = ts; heads = hs; capacities = cs; sources = ss; sinks = zs }
+
+-- The rows: a network, and what document 01 and a second solver say of it at precision 4.
+pub record Example : Type 0 where
+  pub network : Network
+  pub figures : List ℕ
+
+pub rows : List Example
+rows =
+    -- "File and listing": total 31 over 16, bound 137438953472 over 68719476736, 31 choices, the first gave the bound, belts 16 and 15
+    record {
+      network = net 2 (1 ∷ 1 ∷ []) (2 ∷ 2 ∷ []) (1 ∷ 1 ∷ []) (1 ∷ []) (2 ∷ []);
+      figures = 31 ∷ 1 ∷ 16 ∷ 137438953472 ∷ 68719476736 ∷ 31 ∷ 1 ∷ 16 ∷ 15 ∷ 68719476736 ∷ 68719476736 ∷ [];
+    } ∷
+    -- "Run by a program": one belt of 5 gives 4 choices, F = 20, scale 5 over 20
+    record {
+      network = net 2 (1 ∷ []) (2 ∷ []) (5 ∷ []) (1 ∷ []) (2 ∷ []);
+      figures = 20 ∷ 5 ∷ 20 ∷ 68719476740 ∷ 13743895348 ∷ 4 ∷ 1 ∷ 20 ∷ 13743895348 ∷ [];
+    } ∷
+    -- the same: belts 1→2 of 2 and 2→3 of 3, pairs (1,3) and (2,3): 16 choices, all for pair 2, F = 48, total 3
+    record {
+      network = net 3 (1 ∷ 2 ∷ []) (2 ∷ 3 ∷ []) (2 ∷ 3 ∷ []) (1 ∷ 2 ∷ []) (3 ∷ 3 ∷ []);
+      figures = 48 ∷ 3 ∷ 48 ∷ 2021844476893 ∷ 651041666719 ∷ 16 ∷ 16 ∷ 0 ∷ 0 ∷ 0 ∷ 48 ∷ 34359738368 ∷ 651041666719 ∷ [];
+    } ∷
+    -- five belts between three stations, two pairs; the figures are a second solver's
+    record {
+      network =
+          net 3 (1 ∷ 1 ∷ 2 ∷ 3 ∷ 1 ∷ []) (2 ∷ 3 ∷ 3 ∷ 2 ∷ 3 ∷ []) (2 ∷ 4 ∷ 3 ∷ 1 ∷ 2 ∷ []) (1 ∷ 2 ∷ []) (3 ∷ 3 ∷ []);
+      figures =
+          274 ∷ 4 ∷ 128 ∷ 5017645813062 ∷ 542101086249 ∷ 90 ∷ 90 ∷ 0 ∷ 128 ∷ 0 ∷ 0 ∷ 56 ∷ 0 ∷ 0 ∷ 90 ∷ 0 ∷ 0 ∷ 1073741824 ∷
+          542101086249 ∷ 578241158712 ∷ 2147483648 ∷ 555111512317 ∷ [];
+    } ∷
+    -- no pair joined: zeros, and the bound 0 over 1
+    record {
+      network = net 3 (1 ∷ []) (2 ∷ []) (2 ∷ []) (1 ∷ 2 ∷ []) (3 ∷ 1 ∷ []);
+      figures = 0 ∷ 1 ∷ 1 ∷ 0 ∷ 1 ∷ 0 ∷ 0 ∷ 0 ∷ 0 ∷ 0 ∷ [];
+    } ∷
+    []
+
+-- Every row is as the definitions compute it.
+holds : List Example → Bool
+holds [] = true
+holds (r ∷ rs) = gives (r .network) (r .figures) && holds rs
+
+computed : T (holds rows)
+unfolding holds gives rows net
+computed = tt
+
+-- ... so the figures of row j are the outcome's.
+at : (rs : List Example) → T (holds rs) → (j : ℕ) (d : Example) → j < length rs → figures (outcome (getD rs j d .network) 4) ≡ getD rs j d .figures
+unfolding holds gives
+at [] t j d h = absurd (not-suc-le-zero h)
+at (r ∷ rs) t zero d h = same-eq (figures (outcome (r .network) 4)) (r .figures) (and-left (gives (r .network) (r .figures)) (holds rs) t)
+at (r ∷ rs) t (suc j) d h = at rs (and-right (gives (r .network) (r .figures)) (holds rs) t) j d (le-of-suc-le-suc h)
+
+-- The examples, proved together: row j's network at precision 4 has row j's figures.
+pub examples : (j : ℕ) (d : Example) → j < length rows → figures (outcome (getD rows j d .network) 4) ≡ getD rows j d .figures
+examples j d h = at rows computed j d h

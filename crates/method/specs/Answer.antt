@@ -1,0 +1,74 @@
+-- The answer. Document 01, "One choice of route".
+use mathlib.Core.Bool.{cond}
+use mathlib.Core.Option.{none, some}
+use mathlib.Core.List.{List, [], _∷_, _++_}
+use Prim.Native.Nat.{ℕ, zero, suc, _*_, _-_}
+use lib.Dec.{ltb}
+use lib.ListN.{length, getD, drop, replicate}
+use Rattle.network.specs.Network.{Network, arcs, commodities, capacity}
+use Rattle.method.specs.Choice.{choice}
+use Rattle.method.specs.Iteration.{State, initial}
+use Rattle.method.specs.Run.{run}
+
+-- Of the arcs 0 to n the lowest-numbered with the greatest load over capacity: b, for n one less than the number of arcs.
+unfoldable pub fullest : Network → List ℕ → ℕ → ℕ
+fullest net loads zero = 0
+fullest net loads (suc n) =
+    let b = fullest net loads n in
+    cond (ltb (getD loads b 0 * capacity net (suc n)) (getD loads (suc n) 0 * capacity net b)) (suc n) b
+
+-- The seven numbers: F, c(b), Y(b), the bound's D and alpha, the count of iterations, and which of them gave the bound.
+pub record Answer : Type 0 where
+  pub total : ℕ
+  pub capacity : ℕ
+  pub load : ℕ
+  pub bound : ℕ
+  pub alpha : ℕ
+  pub count : ℕ
+  pub best : ℕ
+
+-- ... in the order of the answer table
+unfoldable pub numbersOf : Answer → List ℕ
+numbersOf a = a .total ∷ a .capacity ∷ a .load ∷ a .bound ∷ a .alpha ∷ a .count ∷ a .best ∷ []
+
+-- What an accepted call hands back: the flow, the best lengths and the answer.
+pub record Outcome : Type 0 where
+  pub flow : List ℕ
+  pub lengths : List ℕ
+  pub answer : Answer
+
+-- Document 01: "unjoined".
+unfoldable pub unjoined : Network → Outcome
+unjoined net =
+    record {
+      flow = replicate (commodities net * arcs net) 0;
+      lengths = replicate (arcs net) 0;
+      answer = record { total = 0; capacity = 1; load = 1; bound = 0; alpha = 1; count = 0; best = 0 };
+    }
+
+-- The outcome of a run that left the state s.
+unfoldable pub outcomeOf : Network → State → Outcome
+outcomeOf net s =
+    let b = fullest net (s .loads) (arcs net - 1) in
+    record {
+      flow = s .flow;
+      lengths = s .bestLengths;
+      answer =
+          record {
+            total = s .total;
+            capacity = capacity net b;
+            load = getD (s .loads) b 0;
+            bound = s .bound;
+            alpha = s .alpha;
+            count = s .count;
+            best = s .best;
+          };
+    }
+
+-- The outcome for a network at precision q.
+unfoldable pub outcome : Network → ℕ → Outcome
+outcome net q = elim (choice net (initial net .lengths)) [ none ↦ unjoined net | some c ↦ outcomeOf net (run net q) ]
+
+-- A lent table after its first places took the numbers xs; later places keep their contents.
+unfoldable pub after : List ℕ → List ℕ → List ℕ
+after xs table = xs ++ drop (length xs) table

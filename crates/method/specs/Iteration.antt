@@ -1,0 +1,91 @@
+-- One iteration of the method. Document 01, "One choice of route"; its word for an iteration is a choice.
+use mathlib.Core.Bool.{Bool, cond}
+use mathlib.Core.Option.{Option, none, some}
+use mathlib.Core.List.{List, [], _∷_, map}
+use Prim.Native.Nat.{ℕ, suc, _+_, _*_, min}
+use lib.Dec.{leb, ltb}
+use lib.ListN.{getD, set, replicate}
+use Rattle.arith.specs.Lists.{exists, upTo}
+use Rattle.arith.specs.Sum.{sum}
+use Rattle.length.specs.Length.{mark, start, growth, halving}
+use Rattle.network.specs.Network.{Network, arcs, commodities, capacity}
+use Rattle.network.specs.Path.{pathLength}
+use Rattle.method.specs.Choice.{Choice, choice}
+
+-- What the method keeps: the lengths; the flow, m numbers for each commodity in turn; the load of each arc; the drawn total F; the count of
+-- iterations; and of the least D over alpha so far D, alpha, the iteration that gave it, from 1, and the lengths of that iteration.
+pub record State : Type 0 where
+  pub lengths : List ℕ
+  pub flow : List ℕ
+  pub loads : List ℕ
+  pub total : ℕ
+  pub count : ℕ
+  pub bound : ℕ
+  pub alpha : ℕ
+  pub best : ℕ
+  pub bestLengths : List ℕ
+
+-- The start. The least fraction so far is 1 over 0, which every D over alpha is below.
+unfoldable pub initial : Network → State
+initial net =
+    record {
+      lengths = map (λ e. start (capacity net e)) (upTo (arcs net));
+      flow = replicate (commodities net * arcs net) 0;
+      loads = replicate (arcs net) 0;
+      total = 0;
+      count = 0;
+      bound = 1;
+      alpha = 0;
+      best = 0;
+      bestLengths = replicate (arcs net) 0;
+    }
+
+-- D, the sum over all arcs of capacity times length.
+unfoldable pub weight : Network → List ℕ → ℕ
+weight net l = sum (arcs net) (λ e. capacity net e * getD l e 0)
+
+-- The least of g and the capacities of the arcs of a list.
+unfoldable pub lowest : Network → ℕ → List ℕ → ℕ
+lowest net g [] = g
+lowest net g (e ∷ p) = lowest net (min g (capacity net e)) p
+
+-- The draw g: the least capacity on the path.
+unfoldable pub draw : Network → List ℕ → ℕ
+draw net [] = 0
+draw net (e ∷ p) = lowest net (capacity net e) p
+
+-- The list xs with x replaced by f e x at each place e of a list in turn.
+unfoldable pub update : (ℕ → ℕ → ℕ) → List ℕ → List ℕ → List ℕ
+update f [] xs = xs
+update f (e ∷ p) xs = update f p (set xs e (f e (getD xs e 0)))
+
+-- The lengths with those of the path grown.
+unfoldable pub grown : Network → ℕ → ℕ → List ℕ → List ℕ → List ℕ
+grown net q g p l = update (λ e x. growth q g (capacity net e) x) p l
+
+-- Every length halved once if some length is at the mark.
+unfoldable pub settled : Network → List ℕ → List ℕ
+settled net l = cond (exists (arcs net) (λ e. leb mark (getD l e 0))) (map halving l) l
+
+-- The state after an iteration that chose c. A smaller D over alpha replaces the least so far, an equal one does not.
+unfoldable pub advance : Network → ℕ → Choice → State → State
+advance net q c s =
+    let g = draw net (c .path) in
+    let a = pathLength (s .lengths) (c .path) in
+    let d = weight net (s .lengths) in
+    let better = ltb (d * s .alpha) (s .bound * a) in
+    record {
+      lengths = settled net (grown net q g (c .path) (s .lengths));
+      flow = update (λ e x. x + g) (map (λ e. c .commodity * arcs net + e) (c .path)) (s .flow);
+      loads = update (λ e x. x + g) (c .path) (s .loads);
+      total = s .total + g;
+      count = suc (s .count);
+      bound = cond better d (s .bound);
+      alpha = cond better a (s .alpha);
+      best = cond better (suc (s .count)) (s .best);
+      bestLengths = cond better (s .lengths) (s .bestLengths);
+    }
+
+-- One iteration; nothing changes where no commodity is joined.
+unfoldable pub iteration : Network → ℕ → State → State
+iteration net q s = elim (choice net (s .lengths)) [ none ↦ s | some c ↦ advance net q c s ]

@@ -1,0 +1,4 @@
+pub mod Answer
+pub mod Choice
+pub mod Iteration
+pub mod Run

@@ -1,0 +1,5 @@
+pub mod Flow
+pub mod Network
+pub mod Path
+pub mod Refusal
+pub mod Verdict

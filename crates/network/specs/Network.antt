@@ -1,0 +1,38 @@
+-- A network and its commodities.
+-- Words: document 01's station, belt and pair are here node, arc and commodity. Nodes are numbered from 1 as there; arcs and commodities are
+-- counted from 0 here, so document 01's belt number is the arc's place plus 1.
+use mathlib.Core.List.{List}
+use Prim.Native.Nat.{ℕ}
+use lib.ListN.{length, getD}
+
+-- Document 01, "The floor and its flow": arc e leads from tail e to head e; commodity i goes from source i to sink i.
+pub record Network : Type 0 where
+  pub nodes : ℕ
+  pub tails : List ℕ
+  pub heads : List ℕ
+  pub capacities : List ℕ
+  pub sources : List ℕ
+  pub sinks : List ℕ
+
+-- m, the number of arcs
+abbrev pub arcs : Network → ℕ
+arcs net = length (net .tails)
+
+-- k, the number of commodities
+abbrev pub commodities : Network → ℕ
+commodities net = length (net .sources)
+
+abbrev pub tail : Network → ℕ → ℕ
+tail net e = getD (net .tails) e 0
+
+abbrev pub head : Network → ℕ → ℕ
+head net e = getD (net .heads) e 0
+
+abbrev pub capacity : Network → ℕ → ℕ
+capacity net e = getD (net .capacities) e 0
+
+abbrev pub source : Network → ℕ → ℕ
+source net i = getD (net .sources) i 0
+
+abbrev pub sink : Network → ℕ → ℕ
+sink net i = getD (net .sinks) i 0

@@ -1,0 +1,29 @@
+// The network's verdict: what a call is turned down for, in document 01's order.
+
+// Why a call is turned down. Document 01, "Turned down": its numbers and places are given by specs/Refusal.antt alone.
+pub enum Refusal {
+    Nodes,
+    Arcs,
+    Commodities,
+    Precision,
+    ShortTable,
+    LooseArc(u64),
+    Capacity(u64),
+    LooseCommodity(u64),
+    Layout(u64),
+    LongFile,
+    FullCount,
+}
+
+pub enum Verdict {
+    Accepted,
+    Refused(Refusal),
+}
+
+// How many complete numbers the lent tables have.
+pub struct Tables {
+    pub flow: usize,
+    pub length: usize,
+    pub answer: usize,
+    pub count: usize,
+}
