@@ -1,3 +1,4 @@
 pub mod Ceilings
+pub mod Order
 pub mod Same
 pub mod Sums

@@ -1,1 +1,5 @@
+pub mod Balance
+pub mod Drawn
 pub mod Examples
+pub mod Through
+pub mod Times

@@ -2,7 +2,7 @@
 use mathlib.Core.Bool.{cond}
 use mathlib.Core.Option.{none, some}
 use mathlib.Core.List.{List, [], _∷_, _++_}
-use Prim.Native.Nat.{ℕ, zero, suc, _*_, _-_}
+use Prim.Native.Nat.{ℕ, zero, suc, _+_, _*_, _-_}
 use lib.Dec.{ltb}
 use lib.ListN.{length, getD, drop, replicate}
 use Rattle.network.specs.Network.{Network, arcs, commodities, capacity}
@@ -36,6 +36,10 @@ pub record Outcome : Type 0 where
   pub flow : List ℕ
   pub lengths : List ℕ
   pub answer : Answer
+
+-- A flow table's number of commodity i on arc e: the table holds m numbers for each commodity in turn.
+unfoldable pub amounts : Network → List ℕ → ℕ → ℕ → ℕ
+amounts net table i e = getD table (i * arcs net + e) 0
 
 -- Document 01: "unjoined".
 unfoldable pub unjoined : Network → Outcome
