@@ -60,10 +60,10 @@ unfoldable pub along : (ℕ → ℕ) → List ℕ → ℕ
 along f [] = 0
 along f (e ∷ p) = f e + along f p
 
-once-same : (e : ℕ) → once e e ≡ 1
+pub once-same : (e : ℕ) → once e e ≡ 1
 once-same e = ap (λ t. cond t 1 0) (eq-eqb e e refl)
 
-once-other : (e j : ℕ) → (j ≡ e → ⊥) → once j e ≡ 0
+pub once-other : (e j : ℕ) → (j ≡ e → ⊥) → once j e ≡ 0
 once-other e j n = ap (λ t. cond t 1 0) (ne-eqb e j (λ h. n (sym h)))
 
 sum-once : (m : ℕ) (f : ℕ → ℕ) (e : ℕ) → e < m → sum m (λ j. once j e * f j) ≡ f e
