@@ -10,7 +10,6 @@ use native.Mathlib.Omega.{arith}
 use borrow.Author.Tests.{ltb-true, ltb-false}
 use lib.Dec.{ltb}
 use lib.ListN.{getD}
-use Rattle.network.specs.Network.{Network, capacity}
 use Rattle.method.specs.Answer.{fullest}
 
 -- x / c ≤ y / d and y / d < z / f give x / c < z / f, multiplied out
@@ -18,30 +17,30 @@ ratio-lt : (x c y d z f : ℕ) → 0 < d → 0 < c → x * d ≤ y * c → y * f
 ratio-lt x c y d z f p r h k =
     lt-of-mul-lt-mul-left d (omega (arith, mul-le-mul-right f h, mul-lt-mul-of-pos-right {k = c} k r))
 
-pub record Fullest (net : Network) (loads : List ℕ) (n b : ℕ) : Type 0 where
+pub record Fullest (caps : List ℕ) (loads : List ℕ) (n b : ℕ) : Type 0 where
   pub among : b ≤ n
-  pub greatest : (e : ℕ) → e ≤ n → getD loads e 0 * capacity net b ≤ getD loads b 0 * capacity net e
-  pub lowest : (e : ℕ) → e < b → getD loads e 0 * capacity net b < getD loads b 0 * capacity net e
+  pub greatest : (e : ℕ) → e ≤ n → getD loads e 0 * getD caps b 0 ≤ getD loads b 0 * getD caps e 0
+  pub lowest : (e : ℕ) → e < b → getD loads e 0 * getD caps b 0 < getD loads b 0 * getD caps e 0
 
-pub is-fullest : (net : Network) (loads : List ℕ) (n : ℕ) → ((e : ℕ) → e ≤ n → 1 ≤ capacity net e) → Fullest net loads n (fullest net loads n)
+pub is-fullest : (caps : List ℕ) (loads : List ℕ) (n : ℕ) → ((e : ℕ) → e ≤ n → 1 ≤ getD caps e 0) → Fullest caps loads n (fullest caps loads n)
 unfolding fullest
-is-fullest net loads zero pos =
+is-fullest caps loads zero pos =
     record {
       among = le-refl 0;
       greatest = λ e l. let z : e ≡ 0 = omega arith in rw z (le-refl _);
       lowest = λ e l. absurd (omega arith)
     }
-is-fullest net loads (suc n) pos = go (is-fullest net loads n (λ e l. pos e (omega arith))) (ltb (Y b * C k) (Y k * C b)) refl
+is-fullest caps loads (suc n) pos = go (is-fullest caps loads n (λ e l. pos e (omega arith))) (ltb (Y b * C k) (Y k * C b)) refl
   where
     Y : ℕ → ℕ
     Y e = getD loads e 0
     C : ℕ → ℕ
-    C e = capacity net e
+    C e = getD caps e 0
     b : ℕ
-    b = fullest net loads n
+    b = fullest caps loads n
     k : ℕ
     k = suc n
-    go : Fullest net loads n b → (t : Bool) → ltb (Y b * C k) (Y k * C b) ≡ t → Fullest net loads k (cond t k b)
+    go : Fullest caps loads n b → (t : Bool) → ltb (Y b * C k) (Y k * C b) ≡ t → Fullest caps loads k (cond t k b)
     go F true q =
       let h : Y b * C k < Y k * C b = ltb-true (Y b * C k) (Y k * C b) q in
       let less : (e : ℕ) → e < k → Y e * C k < Y k * C e =

@@ -6,28 +6,20 @@ use Prim.Native.Nat.{ℕ, zero, suc, _+_, _*_, _-_}
 use lib.Dec.{ltb}
 use lib.ListN.{length, getD, drop, replicate}
 use Rattle.network.specs.Network.{Network, arcs, commodities, capacity}
+use Rattle.method.specs.declared.Answer.{Answer}
 use Rattle.method.specs.Choice.{choice}
 use Rattle.method.specs.Iteration.{State, initial}
 use Rattle.method.specs.Run.{run}
 
 -- Of the arcs 0 to n the lowest-numbered with the greatest load over capacity: b, for n one less than the number of arcs.
-unfoldable pub fullest : Network → List ℕ → ℕ → ℕ
-fullest net loads zero = 0
-fullest net loads (suc n) =
-    let b = fullest net loads n in
-    cond (ltb (getD loads b 0 * capacity net (suc n)) (getD loads (suc n) 0 * capacity net b)) (suc n) b
+unfoldable pub fullest : List ℕ → List ℕ → ℕ → ℕ
+fullest capacities loads zero = 0
+fullest capacities loads (suc n) =
+    let b = fullest capacities loads n in
+    cond (ltb (getD loads b 0 * getD capacities (suc n) 0) (getD loads (suc n) 0 * getD capacities b 0)) (suc n) b
 
--- The seven numbers: F, c(b), Y(b), the bound's D and alpha, the count of iterations, and which of them gave the bound.
-pub record Answer : Type 0 where
-  pub total : ℕ
-  pub capacity : ℕ
-  pub load : ℕ
-  pub bound : ℕ
-  pub alpha : ℕ
-  pub count : ℕ
-  pub best : ℕ
-
--- ... in the order of the answer table
+-- The seven numbers of an answer in the order of the answer table: F, c(b), Y(b), the bound's D and alpha, the count of iterations, and which of
+-- them gave the bound.
 unfoldable pub numbersOf : Answer → List ℕ
 numbersOf a = a .total ∷ a .capacity ∷ a .load ∷ a .bound ∷ a .alpha ∷ a .count ∷ a .best ∷ []
 
@@ -53,7 +45,7 @@ unjoined net =
 -- The outcome of a run that left the state s.
 unfoldable pub outcomeOf : Network → State → Outcome
 outcomeOf net s =
-    let b = fullest net (s .loads) (arcs net - 1) in
+    let b = fullest (net .capacities) (s .loads) (arcs net - 1) in
     record {
       flow = s .flow;
       lengths = s .bestLengths;

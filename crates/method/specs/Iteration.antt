@@ -45,14 +45,14 @@ unfoldable pub weight : Network → List ℕ → ℕ
 weight net l = sum (arcs net) (λ e. capacity net e * getD l e 0)
 
 -- The least of g and the capacities of the arcs of a list.
-unfoldable pub lowest : Network → ℕ → List ℕ → ℕ
-lowest net g [] = g
-lowest net g (e ∷ p) = lowest net (min g (capacity net e)) p
+unfoldable pub lowest : List ℕ → ℕ → List ℕ → ℕ
+lowest capacities g [] = g
+lowest capacities g (e ∷ p) = lowest capacities (min g (getD capacities e 0)) p
 
 -- The draw g: the least capacity on the path.
-unfoldable pub draw : Network → List ℕ → ℕ
-draw net [] = 0
-draw net (e ∷ p) = lowest net (capacity net e) p
+unfoldable pub draw : List ℕ → List ℕ → ℕ
+draw capacities [] = 0
+draw capacities (e ∷ p) = lowest capacities (getD capacities e 0) p
 
 -- The list xs with x replaced by f e x at each place e of a list in turn.
 unfoldable pub update : (ℕ → ℕ → ℕ) → List ℕ → List ℕ → List ℕ
@@ -70,7 +70,7 @@ settled net l = cond (exists (arcs net) (λ e. leb mark (getD l e 0))) (map halv
 -- The state after an iteration that chose c. A smaller D over alpha replaces the least so far, an equal one does not.
 unfoldable pub advance : Network → ℕ → Choice → State → State
 advance net q c s =
-    let g = draw net (c .path) in
+    let g = draw (net .capacities) (c .path) in
     let a = pathLength (s .lengths) (c .path) in
     let d = weight net (s .lengths) in
     let better = ltb (d * s .alpha) (s .bound * a) in
