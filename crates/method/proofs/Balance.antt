@@ -23,8 +23,8 @@ path-below net v t (e ∷ p) h =
 
 -- At node w: arcs of the path that leave, and 1 if it ends here, are as many as those that enter, and 1 if it starts here.
 pub path-balance :
-  (net : Network) (w v t : ℕ) (p : List ℕ) → Path net v t p →
-  along (λ e. once w (tail net e)) p + once w t ≡ along (λ e. once w (head net e)) p + once w v
+    (net : Network) (w v t : ℕ) (p : List ℕ) → Path net v t p →
+    along (λ e. once w (tail net e)) p + once w t ≡ along (λ e. once w (head net e)) p + once w v
 unfolding along
 path-balance net w v t [] h = rw (path-empty net v t h) refl
 path-balance net w v t (e ∷ p) h =

@@ -19,8 +19,9 @@ update-other f (e ∷ p) xs j h = go (eqb e j) refl h (update-other f p (set xs 
   where
     ys : List ℕ
     ys = set xs e (f e (getD xs e 0))
+
     go : (t : Bool) → eqb e j ≡ t → cond t 1 0 + times j p ≡ 0 → (times j p ≡ 0 → getD (update f p ys) j 0 ≡ getD ys j 0) →
-      getD (update f p ys) j 0 ≡ getD xs j 0
+        getD (update f p ys) j 0 ≡ getD xs j 0
     go true q h rest = absurd (omega arith)
     go false q h rest = rest (omega arith) ∙ getD-set-other xs e j (f e (getD xs e 0)) 0 (λ r. eqb-false e j q (sym r))
 
@@ -33,10 +34,11 @@ update-once f (e ∷ p) xs j l h =
   where
     ys : List ℕ
     ys = set xs e (f e (getD xs e 0))
+
     go : (t : Bool) → eqb e j ≡ t → cond t 1 0 + times j p ≡ 1 → (times j p ≡ 0 → getD (update f p ys) j 0 ≡ getD ys j 0) →
-      (times j p ≡ 1 → getD (update f p ys) j 0 ≡ f j (getD ys j 0)) → getD (update f p ys) j 0 ≡ f j (getD xs j 0)
+        (times j p ≡ 1 → getD (update f p ys) j 0 ≡ f j (getD ys j 0)) → getD (update f p ys) j 0 ≡ f j (getD xs j 0)
     go true q h none more =
-      let same : e ≡ j = eqb-true e j q in
-      none (omega arith) ∙ (rw (← same) (getD-set-same xs e (f e (getD xs e 0)) 0 (rw same l)))
+        let same : e ≡ j = eqb-true e j q in
+        none (omega arith) ∙ (rw (← same) (getD-set-same xs e (f e (getD xs e 0)) 0 (rw same l)))
     go false q h none more =
-      more (omega arith) ∙ ap (f j) (getD-set-other xs e j (f e (getD xs e 0)) 0 (λ r. eqb-false e j q (sym r)))
+        more (omega arith) ∙ ap (f j) (getD-set-other xs e j (f e (getD xs e 0)) 0 (λ r. eqb-false e j q (sym r)))

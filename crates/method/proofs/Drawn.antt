@@ -41,7 +41,7 @@ sum-row k i g c x x' l h =
     (h i l ∙ omega (arith, ap (λ t. c i * (t * g)) (once-same i)))
 
 module _ (net : Network) (i g : ℕ) (p : List ℕ) (path : Path net (source net i) (sink net i) p) (listed : i < commodities net) (table : List ℕ)
-  (sized : length table ≡ commodities net * arcs net) where
+    (sized : length table ≡ commodities net * arcs net) where
   -- The table after the draw.
   abbrev next : List ℕ
   next = update (λ e x. x + g) (map (λ e. i * arcs net + e) p) table
@@ -53,10 +53,11 @@ module _ (net : Network) (i g : ℕ) (p : List ℕ) (path : Path net (source net
   adds : (j e : ℕ) → e < arcs net → amounts net next j e ≡ amounts net table j e + times e p * (once j i * g)
   unfolding amounts
   adds j e l =
-    omega
-    (arith,
-    update-adds g (map (λ e. i * arcs net + e) p) table (j * arcs net + e) (rw sized (row-below (arcs net) (commodities net) i p listed below)),
-    ap (λ t. t * g) (times-row (arcs net) i j e p below l))
+      omega (
+        arith,
+        update-adds g (map (λ e. i * arcs net + e) p) table (j * arcs net + e) (rw sized (row-below (arcs net) (commodities net) i p listed below)),
+        ap (λ t. t * g) (times-row (arcs net) i j e p below l),
+      )
 
   out-adds : (j v : ℕ) → outflow net (amounts net next j) v ≡ outflow net (amounts net table j) v + along (λ e. once v (tail net e)) p * (once j i * g)
   unfolding outflow
@@ -69,50 +70,52 @@ module _ (net : Network) (i g : ℕ) (p : List ℕ) (path : Path net (source net
   -- It is a flow still.
   pub stays-flow : Flow net (amounts net table) → Flow net (amounts net next)
   stays-flow F =
-    record {
-      balance = λ j v lj lo hi ns nt.
-        let levels : along (λ e. once v (tail net e)) p * (once j i * g) ≡ along (λ e. once v (head net e)) p * (once j i * g) =
-          even v j (eqb i j) refl ns nt in
-        omega (arith, out-adds j v, in-adds j v, F .balance j v lj lo hi ns nt)
-    }
+      record {
+        balance = λ j v lj lo hi ns nt.
+            let levels : along (λ e. once v (tail net e)) p * (once j i * g) ≡ along (λ e. once v (head net e)) p * (once j i * g) =
+            even v j (eqb i j) refl ns nt in
+            omega (arith, out-adds j v, in-adds j v, F .balance j v lj lo hi ns nt);
+      }
     where
       even : (v j : ℕ) (t : Bool) → eqb i j ≡ t → (v ≡ source net j → ⊥) → (v ≡ sink net j → ⊥) →
-        along (λ e. once v (tail net e)) p * (cond t 1 0 * g) ≡ along (λ e. once v (head net e)) p * (cond t 1 0 * g)
+          along (λ e. once v (tail net e)) p * (cond t 1 0 * g) ≡ along (λ e. once v (head net e)) p * (cond t 1 0 * g)
       even v j false q ns nt = omega arith
       even v j true q ns nt =
-        let same : i ≡ j = eqb-true i j q in
-        ap (λ t. t * (1 * g))
-        (omega
-        (arith,
-        path-balance net v (source net i) (sink net i) p path,
-        once-other (source net i) v (λ (h : source net i ≡ v). ns (sym h ∙ ap (source net) same)),
-        once-other (sink net i) v (λ (h : sink net i ≡ v). nt (sym h ∙ ap (sink net) same))))
+          let same : i ≡ j = eqb-true i j q in
+          ap (λ t. t * (1 * g))
+          (omega (
+            arith,
+            path-balance net v (source net i) (sink net i) p path,
+            once-other (source net i) v (λ (h : source net i ≡ v). ns (sym h ∙ ap (source net) same)),
+            once-other (sink net i) v (λ (h : sink net i ≡ v). nt (sym h ∙ ap (sink net) same)),
+          ))
 
   leaving-adds : leaving net (amounts net next) ≡ leaving net (amounts net table) + along (λ e. once (source net i) (tail net e)) p * g
   unfolding leaving
   leaving-adds =
-    sum-row (commodities net) i g (λ j. along (λ e. once (source net j) (tail net e)) p) (λ j. outflow net (amounts net table j) (source net j))
-    (λ j. outflow net (amounts net next j) (source net j)) listed (λ j l. out-adds j (source net j))
+      sum-row (commodities net) i g (λ j. along (λ e. once (source net j) (tail net e)) p) (λ j. outflow net (amounts net table j) (source net j))
+      (λ j. outflow net (amounts net next j) (source net j)) listed (λ j l. out-adds j (source net j))
 
   entering-adds : entering net (amounts net next) ≡ entering net (amounts net table) + along (λ e. once (source net i) (head net e)) p * g
   unfolding entering
   entering-adds =
-    sum-row (commodities net) i g (λ j. along (λ e. once (source net j) (head net e)) p) (λ j. inflow net (amounts net table j) (source net j))
-    (λ j. inflow net (amounts net next j) (source net j)) listed (λ j l. in-adds j (source net j))
+      sum-row (commodities net) i g (λ j. along (λ e. once (source net j) (head net e)) p) (λ j. inflow net (amounts net table j) (source net j))
+      (λ j. inflow net (amounts net next j) (source net j)) listed (λ j l. in-adds j (source net j))
 
   -- Its total is larger by the draw.
   pub carries-more : (total : ℕ) → (source net i ≡ sink net i → ⊥) → Carries net (amounts net table) total → Carries net (amounts net next) (total + g)
   carries-more total apart h =
-    let one : along (λ e. once (source net i) (tail net e)) p ≡ along (λ e. once (source net i) (head net e)) p + 1 =
-      omega
-      (arith,
-      path-balance net (source net i) (source net i) (sink net i) p path,
-      once-same (source net i),
-      once-other (sink net i) (source net i) (λ (h : sink net i ≡ source net i). apart (sym h))) in
-    omega (arith, leaving-adds, entering-adds, ap (λ t. t * g) one)
+      let one : along (λ e. once (source net i) (tail net e)) p ≡ along (λ e. once (source net i) (head net e)) p + 1 =
+      omega (
+        arith,
+        path-balance net (source net i) (source net i) (sink net i) p path,
+        once-same (source net i),
+        once-other (sink net i) (source net i) (λ (h : sink net i ≡ source net i). apart (sym h)),
+      ) in
+      omega (arith, leaving-adds, entering-adds, ap (λ t. t * g) one)
 
   -- The load of an arc grows by the draw as often as the path has the arc.
   pub load-adds : (e : ℕ) → e < arcs net → loadOf net (amounts net next) e ≡ loadOf net (amounts net table) e + times e p * g
   unfolding loadOf
   load-adds e l =
-    sum-row (commodities net) i g (λ j. times e p) (λ j. amounts net table j e) (λ j. amounts net next j e) listed (λ j b. adds j e l)
+      sum-row (commodities net) i g (λ j. times e p) (λ j. amounts net table j e) (λ j. amounts net next j e) listed (λ j b. adds j e l)

@@ -61,7 +61,7 @@ lowest-full caps g (e ∷ p) =
     (λ a. inr (later-at caps e p (lowest caps (min g (capAt caps e)) p) a)) (lowest-full caps (min g (capAt caps e)) p)
   where
     here : lowest caps (min g (capAt caps e)) p ≡ min g (capAt caps e) → min g (capAt caps e) ≡ capAt caps e →
-      At caps (e ∷ p) (lowest caps (min g (capAt caps e)) p)
+        At caps (e ∷ p) (lowest caps (min g (capAt caps e)) p)
     here q r = rw (q ∙ r) (first-at caps e p)
 
 -- The draw is within the capacity of every arc of the path.

@@ -28,32 +28,36 @@ is-fullest caps loads zero pos =
     record {
       among = le-refl 0;
       greatest = λ e l. let z : e ≡ 0 = omega arith in rw z (le-refl _);
-      lowest = λ e l. absurd (omega arith)
+      lowest = λ e l. absurd (omega arith);
     }
 is-fullest caps loads (suc n) pos = go (is-fullest caps loads n (λ e l. pos e (omega arith))) (ltb (Y b * C k) (Y k * C b)) refl
   where
     Y : ℕ → ℕ
     Y e = getD loads e 0
+
     C : ℕ → ℕ
     C e = getD caps e 0
+
     b : ℕ
     b = fullest caps loads n
+
     k : ℕ
     k = suc n
+
     go : Fullest caps loads n b → (t : Bool) → ltb (Y b * C k) (Y k * C b) ≡ t → Fullest caps loads k (cond t k b)
     go F true q =
-      let h : Y b * C k < Y k * C b = ltb-true (Y b * C k) (Y k * C b) q in
-      let less : (e : ℕ) → e < k → Y e * C k < Y k * C e =
+        let h : Y b * C k < Y k * C b = ltb-true (Y b * C k) (Y k * C b) q in
+        let less : (e : ℕ) → e < k → Y e * C k < Y k * C e =
         λ e l. ratio-lt (Y e) (C e) (Y b) (C b) (Y k) (C k) (pos b (omega (arith, F .among))) (pos e (omega arith)) (F .greatest e (omega arith)) h in
-      record {
-        among = le-refl k;
-        greatest = λ e l. ⊎-elim (λ (s : e ≡ k). rw s (le-refl _)) (λ (s : e < k). omega (arith, less e s)) (eq-or-lt-of-le l);
-        lowest = less
-      }
+        record {
+          among = le-refl k;
+          greatest = λ e l. ⊎-elim (λ (s : e ≡ k). rw s (le-refl _)) (λ (s : e < k). omega (arith, less e s)) (eq-or-lt-of-le l);
+          lowest = less;
+        }
     go F false q =
-      let h : Y k * C b ≤ Y b * C k = ltb-false (Y b * C k) (Y k * C b) q in
-      record {
-        among = omega (arith, F .among);
-        greatest = λ e l. ⊎-elim (λ (s : e ≡ k). rw s h) (λ (s : e < k). F .greatest e (omega arith)) (eq-or-lt-of-le l);
-        lowest = F .lowest
-      }
+        let h : Y k * C b ≤ Y b * C k = ltb-false (Y b * C k) (Y k * C b) q in
+        record {
+          among = omega (arith, F .among);
+          greatest = λ e l. ⊎-elim (λ (s : e ≡ k). rw s h) (λ (s : e < k). F .greatest e (omega arith)) (eq-or-lt-of-le l);
+          lowest = F .lowest;
+        }

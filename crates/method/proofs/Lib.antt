@@ -4,5 +4,6 @@ pub mod Drawn
 pub mod Draws
 pub mod Examples
 pub mod Fullest
+pub mod Instance
 pub mod Through
 pub mod Times

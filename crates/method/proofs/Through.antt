@@ -26,8 +26,8 @@ cond-adds false x t g = omega arith
 
 -- What passes node v by the ends (tails or heads) of the arcs, after g was drawn along p.
 pub through-adds :
-  (m : ℕ) (ends f f' : ℕ → ℕ) (p : List ℕ) (g v : ℕ) → Below m p → ((e : ℕ) → e < m → f' e ≡ f e + times e p * g) →
-  sum m (λ e. cond (eqb (ends e) v) (f' e) 0) ≡ sum m (λ e. cond (eqb (ends e) v) (f e) 0) + along (λ e. once v (ends e)) p * g
+    (m : ℕ) (ends f f' : ℕ → ℕ) (p : List ℕ) (g v : ℕ) → Below m p → ((e : ℕ) → e < m → f' e ≡ f e + times e p * g) →
+    sum m (λ e. cond (eqb (ends e) v) (f' e) 0) ≡ sum m (λ e. cond (eqb (ends e) v) (f e) 0) + along (λ e. once v (ends e)) p * g
 through-adds m ends f f' p g v b h =
     sum-cong m (λ e. cond (eqb (ends e) v) (f' e) 0) (λ e. cond (eqb (ends e) v) (f e) 0 + times e p * (once v (ends e) * g))
     (λ e l. ap (λ x. cond (eqb (ends e) v) x 0) (h e l) ∙ cond-adds (eqb (ends e) v) (f e) (times e p) g) ∙
@@ -43,7 +43,7 @@ same-row m i j x e a b h =
 
 -- The places of row i that a path's draw changes, at row j.
 pub times-row :
-  (m i j e : ℕ) (p : List ℕ) → Below m p → e < m → times (j * m + e) (map (λ x. i * m + x) p) ≡ once j i * times e p
+    (m i j e : ℕ) (p : List ℕ) → Below m p → e < m → times (j * m + e) (map (λ x. i * m + x) p) ≡ once j i * times e p
 unfolding times
 times-row m i j e [] b l = omega arith
 times-row m i j e (x ∷ p) (also k b) l = omega (arith, times-row m i j e p b l, one (eqb i j) (eqb x e) refl refl)
@@ -51,8 +51,8 @@ times-row m i j e (x ∷ p) (also k b) l = omega (arith, times-row m i j e p b l
     one : (s t : Bool) → eqb i j ≡ s → eqb x e ≡ t → once (j * m + e) (i * m + x) ≡ cond s 1 0 * cond t 1 0
     one true true a c = ap (λ t. cond t 1 0) (eq-eqb (i * m + x) (j * m + e) (rw (eqb-true i j a, eqb-true x e c) refl))
     one true false a c =
-      ap (λ t. cond t 1 0)
-      (ne-eqb (i * m + x) (j * m + e)
-      (λ h. eqb-false x e c (add-left-cancel (j * m) (rw (eqb-true i j a) at h))))
+        ap (λ t. cond t 1 0)
+        (ne-eqb (i * m + x) (j * m + e)
+        (λ h. eqb-false x e c (add-left-cancel (j * m) (rw (eqb-true i j a) at h))))
     one false t a c =
-      ap (λ t. cond t 1 0) (ne-eqb (i * m + x) (j * m + e) (λ h. eqb-false i j a (same-row m i j x e k l h))) ∙ omega arith
+        ap (λ t. cond t 1 0) (ne-eqb (i * m + x) (j * m + e) (λ h. eqb-false i j a (same-row m i j x e k l h))) ∙ omega arith

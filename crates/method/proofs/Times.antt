@@ -40,8 +40,8 @@ set-adds g xs e j l = go (eqb e j) refl
   where
     go : (t : Bool) → eqb e j ≡ t → getD (set xs e (getD xs e 0 + g)) j 0 ≡ getD xs j 0 + cond t 1 0 * g
     go true q =
-      let h : e ≡ j = eqb-true e j q in
-      rw (← h) (omega (arith, getD-set-same xs e (getD xs e 0 + g) 0 l))
+        let h : e ≡ j = eqb-true e j q in
+        rw (← h) (omega (arith, getD-set-same xs e (getD xs e 0 + g) 0 l))
     go false q = omega (arith, getD-set-other xs e j (getD xs e 0 + g) 0 (λ (h : j ≡ e). eqb-false e j q (sym h)))
 
 -- Adding g at each place of p adds g to the number at j as often as j stands in p.
@@ -50,10 +50,11 @@ unfolding update times
 update-adds g [] xs j b = omega arith
 update-adds g (e ∷ p) xs j (also l b) =
     let ys : List ℕ = set xs e (getD xs e 0 + g) in
-    omega
-    (arith,
-    update-adds g p ys j (rw (length-set xs e (getD xs e 0 + g)) b),
-    set-adds g xs e j l)
+    omega (
+      arith,
+      update-adds g p ys j (rw (length-set xs e (getD xs e 0 + g)) b),
+      set-adds g xs e j l,
+    )
 
 -- The numbers f e of the members of a list, added up.
 unfoldable pub along : (ℕ → ℕ) → List ℕ → ℕ

@@ -1,0 +1,21 @@
+-- The load side of one draw (guarantee.md, section 3, B): a length that grows by the fraction g / (q * c), to the power c,
+-- grows at least as 1 + 1 / q to the power g. Assumes nothing.
+use mathlib.Core.Path.{_≡_}
+use Prim.Native.Nat.{ℕ, _+_, _*_, _^_, _≤_}
+use native.Mathlib.Nat.{le-dest, mul-le-mul-right}
+use native.Mathlib.Omega.{arith}
+use lib.Pow.{pow-add}
+use Rattle.arith.proofs.Powers.{mul-pow}
+use Rattle.packing.proofs.AtMost.{AtMost}
+use Rattle.packing.proofs.Mean.{mean}
+
+load-at : (q g k : ℕ) → AtMost (q + 1) q (q * (g + k)) (q * (g + k) + g) g (g + k)
+load-at q g k =
+    let e : g * (q + 1) + k * q ≡ q * (g + k) + g = omega arith in
+    record {
+      le =
+          rw (mul-pow q (g + k) (g + k), pow-add q g k) (omega (arith, mul-le-mul-right (q ^ g) (rw e at (mean g k (q + 1) q))));
+    }
+
+pub load : (q : ℕ) {c g : ℕ} → g ≤ c → AtMost (q + 1) q (q * c) (q * c + g) g c
+load q {c} {g} h = let d = le-dest h in rw (d .1) at (load-at q g (d .0))

@@ -1,0 +1,1 @@
+// The guarantee of the packing method, over abstract resources and columns.
