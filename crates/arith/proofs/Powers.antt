@@ -1,14 +1,10 @@
--- Laws of powers: a product and a power raised to a power, the power of one, and what a comparison of powers says of the bases and exponents.
+-- Laws of powers: a product and a power raised to a power, and what a comparison of powers says of the bases and exponents.
 -- Assumes nothing.
 use mathlib.Core.Path.{_≡_, ap}
 use Prim.Native.Nat.{ℕ, zero, suc, _+_, _*_, _^_, _≤_, _<_}
 use native.Mathlib.Nat.{pow-zero, pow-suc, one-le-pow, mul-zero, mul-suc, le-dest, lt-trans, mul-pos, mul-lt-mul-of-pos-left, pow-lt-pow-left, suc-ne-zero}
 use native.Mathlib.Omega.{arith, by-contra}
 use lib.Pow.{pow-add}
-
-pub one-pow : (n : ℕ) → 1 ^ n ≡ 1
-one-pow zero = pow-zero 1
-one-pow (suc n) = omega (arith, pow-suc 1 n, one-pow n)
 
 pub pow-one : (a : ℕ) → a ^ 1 ≡ a
 pow-one a = omega (arith, pow-suc a 0, ap (λ t. t * a) (pow-zero a))

@@ -5,5 +5,6 @@ pub mod Draws
 pub mod Examples
 pub mod Fullest
 pub mod Instance
+pub mod Table
 pub mod Through
 pub mod Times

@@ -1,44 +1,32 @@
--- What it means that an arc leads from a node to another, and that a list of arcs does.
+-- Where an arc leads: from its tail to its head, and from nowhere else. All laws of paths rest on these.
 -- Assumes nothing.
-use mathlib.Core.Path.{_≡_, refl, sym}
+use mathlib.Core.Path.{_≡_, refl, sym, ap, subst}
 use mathlib.Core.Bool.{Bool, true, false, cond, _&&_}
-use mathlib.Core.Option.{Option, none, some, bind, Option·some-injective, Option·none-ne-some}
-use mathlib.Core.List.{List, [], _∷_}
-use Prim.Native.Nat.{ℕ, _<_}
-use borrow.Author.Tests.{ltb-true, eqb-true}
+use mathlib.Core.Option.{Option, none, some, Option·none-ne-some, Option·some-injective}
+use Prim.Native.Nat.{ℕ, _≤_, _<_}
 use lib.Dec.{ltb, eqb}
+use borrow.Author.Tests.{ltb-true, eqb-true, lt-ltb, eq-eqb}
 use Rattle.network.specs.Network.{Network, arcs, tail, head}
-use Rattle.network.specs.Path.{leads, follow, Path}
+use Rattle.network.specs.Path.{leads}
+use Rattle.network.specs.Ends.{Node, Ends}
 
--- Arc e leads from v to w.
-pub record Arc (net : Network) (v e w : ℕ) : Type 0 where
-  pub arc : e < arcs net
-  pub from : tail net e ≡ v
-  pub to : head net e ≡ w
+both : (b c : Bool) (h w : ℕ) → cond (b && c) (some h) none ≡ some w → (b ≡ true) × (c ≡ true) × (h ≡ w)
+both true true h w e = (refl, refl, Option·some-injective h w e)
+both true false h w e = absurd (Option·none-ne-some w e)
+both false true h w e = absurd (Option·none-ne-some w e)
+both false false h w e = absurd (Option·none-ne-some w e)
 
-pub leads-arc : (net : Network) (v e w : ℕ) → leads net v e ≡ some w → Arc net v e w
-unfolding leads
-leads-arc net v e w h = go (ltb e (arcs net)) (eqb (tail net e) v) refl refl h
-  where
-    go : (a b : Bool) → ltb e (arcs net) ≡ a → eqb (tail net e) v ≡ b → cond (a && b) (some (head net e)) none ≡ some w → Arc net v e w
-    go true true p q h = record { arc = ltb-true e (arcs net) p; from = eqb-true (tail net e) v q; to = Option·some-injective (head net e) w h }
-    go true false p q h = absurd (Option·none-ne-some w h)
-    go false b p q h = absurd (Option·none-ne-some w h)
+module _ (net : Network) where
+  pub leads-some : (v e w : ℕ) → leads net v e ≡ some w → (e < arcs net) × (tail net e ≡ v) × (head net e ≡ w)
+  unfolding leads
+  leads-some v e w h =
+      let r = both (ltb e (arcs net)) (eqb (tail net e) v) (head net e) w h in
+      (ltb-true e (arcs net) (r .0), eqb-true (tail net e) v (r .1), r .2)
 
--- A path that is not empty: its first arc, and the rest from where that leads.
-pub record First (net : Network) (v t e : ℕ) (p : List ℕ) : Type 0 where
-  pub next : ℕ
-  pub first : Arc net v e next
-  pub rest : Path net next t p
+  pub some-leads : (v e : ℕ) → e < arcs net → tail net e ≡ v → leads net v e ≡ some (head net e)
+  unfolding leads
+  some-leads v e l q = rw (lt-ltb e (arcs net) l, eq-eqb (tail net e) v q)
 
-pub path-first : (net : Network) (v t e : ℕ) (p : List ℕ) → Path net v t (e ∷ p) → First net v t e p
-unfolding follow bind
-path-first net v t e p h = go (leads net v e) refl h
-  where
-    go : (o : Option ℕ) → leads net v e ≡ o → bind o (λ w. follow net w p) ≡ some t → First net v t e p
-    go none q h = absurd (Option·none-ne-some t h)
-    go (some w) q h = record { next = w; first = leads-arc net v e w q; rest = h }
-
-pub path-empty : (net : Network) (v t : ℕ) → Path net v t [] → v ≡ t
-unfolding follow
-path-empty net v t h = Option·some-injective v t h
+  -- An arc leads to a node.
+  pub leads-node : Ends net → (v e w : ℕ) → leads net v e ≡ some w → Node net w
+  leads-node ends v e w h = let r = leads-some v e w h in subst (Node net) (r .2) (ends .heads e (r .0))

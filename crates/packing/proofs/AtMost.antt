@@ -1,8 +1,8 @@
 -- One relation that does the work of logarithms (guarantee.md, section 2), and its rules: the only place where powers are multiplied out.
 -- Assumes nothing.
 use mathlib.Core.Path.{_≡_, ap, sym, _∙_}
-use Prim.Native.Nat.{ℕ, zero, suc, _+_, _*_, _^_, _≤_, _<_}
-use native.Mathlib.Nat.{mul-comm, mul-pos, mul-le-mul, mul-le-mul-left, mul-le-mul-right, pow-le-pow-left, le-trans, le-of-mul-le-mul-left}
+use Prim.Native.Nat.{ℕ, _+_, _*_, _^_, _≤_, _<_}
+use native.Mathlib.Nat.{mul-comm, mul-pos, mul-le-mul, mul-le-mul-right, pow-le-pow-left, le-trans, le-of-mul-le-mul-left}
 use native.Mathlib.Omega.{arith}
 use lib.Pow.{pow-add}
 use Rattle.arith.proofs.Powers.{mul-pow, pow-mul, pow-pos, exponent-le}
@@ -11,20 +11,25 @@ use Rattle.arith.proofs.Powers.{mul-pow, pow-mul, pow-pos, exponent-le}
 pub record AtMost (a b u v x y : ℕ) : Type 0 where
   pub le : u ^ y * a ^ x ≤ v ^ y * b ^ x
 
+-- two exponents exchanged
 pow-swap : (a m n : ℕ) → (a ^ m) ^ n ≡ (a ^ n) ^ m
 pow-swap a m n = sym (pow-mul a m n) ∙ ap (λ k. a ^ k) (mul-comm m n) ∙ pow-mul a n m
 
+-- Two fractions under one root.
 pub product : {a b u v x u′ v′ x′ y : ℕ} → AtMost a b u v x y → AtMost a b u′ v′ x′ y → AtMost a b (u * u′) (v * v′) (x + x′) y
 product {a} {b} {u} {v} {x} {u′} {v′} {x′} {y} h k =
     record { le = simp (mul-pow, pow-add) (omega (arith, mul-le-mul (h .le) (k .le))) }
 
+-- Numerator and denominator of the exponent times k.
 pub scale : {a b u v x y : ℕ} (k : ℕ) → AtMost a b u v x y → AtMost a b u v (x * k) (y * k)
 scale {a} {b} {u} {v} {x} {y} k h = record { le = simp pow-mul (simp mul-pow at (pow-le-pow-left (h .le) k)) }
 
+-- A fraction to the power k.
 pub power : {a b u v x y : ℕ} (k : ℕ) → AtMost a b u v x y → AtMost a b (u ^ k) (v ^ k) (x * k) y
 power {a} {b} {u} {v} {x} {y} k h =
     record { le = rw (pow-swap u k y, pow-swap v k y, pow-mul a, pow-mul b) (simp mul-pow at (pow-le-pow-left (h .le) k)) }
 
+-- weaken and its powers, as plain numbers
 through : (u u′ v v′ a b : ℕ) → u * v′ ≤ u′ * v → u′ * a ≤ v′ * b → v′ * (u * a) ≤ v′ * (v * b)
 through u u′ v v′ a b h k = le-trans {m = u′ * a * v} (omega (arith, mul-le-mul-right a h)) (omega (arith, mul-le-mul-right v k))
 

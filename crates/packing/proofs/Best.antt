@@ -1,7 +1,6 @@
 -- The kept fraction is the least of all: no iteration of the run met a smaller D / alpha (document 01, "the bound B").
 -- Assumes nothing.
-use mathlib.Core.Path.{_≡_}
-use Prim.Native.Nat.{ℕ, _*_, _≤_, _<_}
+use Prim.Native.Nat.{ℕ, _*_, _≤_}
 use native.Mathlib.Nat.{le-refl}
 use Rattle.packing.proofs.Fraction.{at-most-old, at-most-met}
 use Rattle.packing.proofs.Health.{healthy, size-pos, positive-bound}
@@ -19,5 +18,6 @@ module _ {m q L : ℕ} {c : ℕ → ℕ} (p : Program m q L c) {a b : State} (i 
   at-most (Made.earlier {r = r} j k) d x h =
       at-most k d x (at-most-old (positive-bound p r) (size-pos p (j .column) (healthy p r)) (j .least) d x h)
 
+  -- bound / alpha is at most the fraction of every iteration made.
   pub best : {s : State} {r : Run m q c s} → Made i s r → s .bound * i .size ≤ volume m c (a .length) * s .alpha
   best {s} k = at-most k (s .bound) (s .alpha) (le-refl (s .bound * s .alpha))

@@ -3,13 +3,14 @@
 use mathlib.Core.Path.{_≡_, ap}
 use mathlib.Core.Logic.{⊎-elim}
 use Prim.Native.Nat.{ℕ, zero, suc, _+_, _*_, _-_, _/_, _≤_, _<_}
-use native.Mathlib.Nat.{le-trans, le-refl, le-of-suc-le-suc, eq-or-lt-of-le, le-div-iff-mul-le, div-lt-iff-lt-mul, div-mul-le-self, mul-le-mul-left, mul-le-mul}
+use native.Mathlib.Nat.{le-trans, le-refl, le-of-suc-le-suc, eq-or-lt-of-le, le-div-iff-mul-le, div-lt-iff-lt-mul, div-mul-le-self, mul-le-mul}
 use native.Mathlib.Omega.{arith}
 use Rattle.arith.specs.Sum.{sum}
 use Rattle.arith.proofs.Sums.{sum-le, sum-const}
 use Rattle.packing.proofs.Program.{Program}
-use Rattle.packing.proofs.Run.{State, Start, Iteration, Run, Below}
+use Rattle.packing.proofs.Run.{State, Iteration, Run, Below}
 
+-- one term less, and none greater
 sum-lt : (n : ℕ) (f g : ℕ → ℕ) (k : ℕ) → k < n → ((i : ℕ) → i < n → f i ≤ g i) → f k < g k → sum n f < sum n g
 unfolding sum
 sum-lt zero f g k l h s = omega arith
@@ -19,6 +20,7 @@ sum-lt (suc n) f g k l h s =
     (λ (b : k < n). omega (arith, sum-lt n f g k b (λ i d. h i (omega arith)) s, h n (le-refl (suc n))))
     (eq-or-lt-of-le (le-of-suc-le-suc l))
 
+-- more drawn is no fewer whole capacities, and a capacity more is one more
 quotient-mono : (x y c : ℕ) → 0 < c → x ≤ y → x / c ≤ y / c
 quotient-mono x y c p h = le-div-iff-mul-le p .1 (le-trans (div-mul-le-self x c) h)
 
@@ -36,8 +38,8 @@ module _ {m q L : ℕ} {c : ℕ → ℕ} (p : Program m q L c) where
       let k : ℕ = i .column .narrow in
       let b : k < m = i .column .inside in
       sum-lt m (λ e. s .load e / c e) (λ e. t .load e / c e) k b
-      (λ e h. quotient-mono (s .load e) (t .load e) (c e) (p .positive e h) (omega (arith, i .load e h)))
-      (quotient-next (s .load k) (t .load k) (c k) (p .positive k b) (omega (arith, i .load k b, i .column .used, i .column .full)))
+      (λ e h. quotient-mono (s .load e) (t .load e) (c e) (p .capacity-low e h) (omega (arith, i .load e h)))
+      (quotient-next (s .load k) (t .load k) (c k) (p .capacity-low k b) (omega (arith, i .load k b, i .column .used, i .column .full)))
 
   counted : {s : State} → Run m q c s → s .count ≤ drawn s
   counted (Run.start h) = omega (arith, h .count)
@@ -50,7 +52,7 @@ module _ {m q L : ℕ} {c : ℕ → ℕ} (p : Program m q L c) where
       le-trans (counted r)
       (le-trans
       (sum-le m (λ e. s .load e / c e) (λ e. q * L - 1)
-      (λ e b. let d : s .load e / c e < q * L = div-lt-iff-lt-mul (p .positive e b) .1 (h e b) in omega arith))
+      (λ e b. let d : s .load e / c e < q * L = div-lt-iff-lt-mul (p .capacity-low e b) .1 (h e b) in omega arith))
       (omega (arith, sum-const m (q * L - 1))))
 
   -- One more at the end.
@@ -60,8 +62,8 @@ module _ {m q L : ℕ} {c : ℕ → ℕ} (p : Program m q L c) where
   -- At most m * T in all.
   pub count-all : {s t : State} → Run m q c s → Below m q L c s → Iteration m q c s t → t .count ≤ m * (q * L)
   count-all r h i =
-      let d : 1 ≤ q * L = mul-le-mul {n₁ = 1} {m₁ = 1} (omega (arith, p .coarse)) (p .level) in
-      omega (arith, count-last r h i, ap (λ x. m * x) (pred-eq (q * L) d), p .some)
+      let d : 1 ≤ q * L = mul-le-mul {n₁ = 1} {m₁ = 1} (omega (arith, p .precision-low)) (p .level) in
+      omega (arith, count-last r h i, ap (λ x. m * x) (pred-eq (q * L) d), p .resources-low)
     where
       pred-eq : (n : ℕ) → 1 ≤ n → n ≡ n - 1 + 1
       pred-eq n d = omega arith

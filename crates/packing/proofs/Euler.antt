@@ -13,6 +13,7 @@ use Rattle.packing.proofs.Mean.{mean}
 cancel : (a b c d x y z : ℕ) → 0 < b → 0 < d → 0 < z → a * b * (c * d) * z ≤ x * d * (b * y) * z → a * c ≤ x * y
 cancel a b c d x y z p q r h = le-of-mul-le-mul-left {k = b * d * z} (omega arith) (mul-pos (mul-pos p q) r)
 
+-- (1 + 1 / n) ^ n is at most (1 + 1 / m) ^ (m + 1).
 pub euler : (n m : ℕ) → 0 < n → AtMost m (suc m) (suc n) n (suc m) n
 euler n m h =
     let k : ℕ = n + suc m in

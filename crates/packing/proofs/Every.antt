@@ -3,7 +3,7 @@
 use mathlib.Core.Path.{_≡_, subst, sym}
 use mathlib.Core.Bool.{Bool, true, false}
 use mathlib.Core.Logic.{⊎-elim}
-use Prim.Native.Nat.{ℕ, zero, suc, _≤_, _<_}
+use Prim.Native.Nat.{ℕ, zero, suc, _<_}
 use native.Mathlib.Nat.{eq-or-lt-of-le, le-of-suc-le-suc, not-suc-le-zero}
 use lib.Dec.{T}
 
@@ -12,6 +12,7 @@ abbrev pub both : Bool → Bool → Bool
 both true b = b
 both false b = false
 
+-- what both tests say of each
 pub left : (a b : Bool) → T (both a b) → T a
 left true b t = tt
 left false b t = t
@@ -25,6 +26,7 @@ abbrev pub every : (ℕ → Bool) → ℕ → Bool
 every f zero = true
 every f (suc n) = both (every f n) (f n)
 
+-- If it does, it succeeds at any of them.
 pub every-at : (f : ℕ → Bool) (n : ℕ) → T (every f n) → (i : ℕ) → i < n → T (f i)
 every-at f zero t i l = absurd (not-suc-le-zero l)
 every-at f (suc n) t i l =

@@ -1,7 +1,6 @@
 -- The least fraction: what is at most the new least fraction is at most the old one and at most the one just met.
 -- Passing from one to the other cancels a length, so lengths of columns must be positive. Assumes nothing.
-use mathlib.Core.Path.{_≡_}
-use Prim.Native.Nat.{ℕ, zero, suc, _+_, _*_, _≤_, _<_}
+use Prim.Native.Nat.{ℕ, _*_, _≤_, _<_}
 use native.Mathlib.Nat.{le-trans, lt-of-lt-of-le, mul-pos, mul-le-mul-right, le-of-mul-le-mul-left}
 use native.Mathlib.Omega.{arith}
 use Rattle.packing.proofs.Rounding.{factor-pos}
@@ -17,6 +16,7 @@ held-pos : (d e x y : ℕ) → 0 < x → 0 < e → x * e ≤ d * y → 0 < y
 held-pos d e x y p k h = factor-pos d y (lt-of-lt-of-le (mul-pos p k) h)
 
 module _ {D a B A B′ A′ : ℕ} (old : 0 < B) (pos : 0 < a) where
+  -- From here on: the new fraction B′ / A′ after D / a.
   pub alpha-pos : Least D a B A B′ A′ → 0 < A′
   alpha-pos (Least.smaller h e f) = omega (arith, f)
   alpha-pos (Least.held h e f) = omega (arith, f, held-pos D a B A old pos h)
@@ -25,10 +25,12 @@ module _ {D a B A B′ A′ : ℕ} (old : 0 < B) (pos : 0 < a) where
   bound-pos (Least.smaller h e f) d = omega (arith, e)
   bound-pos (Least.held h e f) d = omega (arith, e)
 
+  -- What is at most the new fraction is at most the old one ..
   pub at-most-old : Least D a B A B′ A′ → (b x : ℕ) → b * A′ ≤ B′ * x → b * A ≤ B * x
   at-most-old (Least.smaller h e f) b x k = fraction-trans b x D a B A pos (rw (e, f) at k) (omega (arith, h))
   at-most-old (Least.held h e f) b x k = rw (e, f) at k
 
+  -- .. and at most the one just met.
   pub at-most-met : Least D a B A B′ A′ → (b x : ℕ) → b * A′ ≤ B′ * x → b * a ≤ D * x
   at-most-met (Least.smaller h e f) b x k = rw (e, f) at k
   at-most-met (Least.held h e f) b x k = fraction-trans b x B A D a (held-pos D a B A old pos h) (rw (e, f) at k) h

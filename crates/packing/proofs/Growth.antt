@@ -1,6 +1,5 @@
--- The upper side of one draw (guarantee.md, section 3): (N + a) / N is at most (1 + 1 / q) ^ ((8 * q + 5) * a / (8 * N)).
+-- What a draw may add to the volume, as a power of 1 + 1 / q (guarantee.md, section 3, K and the line marked with one star).
 -- Assumes nothing.
-use mathlib.Core.Path.{_≡_}
 use mathlib.Core.Bool.{Bool}
 use Prim.Native.Nat.{ℕ, zero, suc, _+_, _*_, _^_, _≤_, _<_}
 use native.Mathlib.Nat.{pow-zero, pow-suc, le-dest, zero-lt-suc, mul-comm, mul-le-mul-right}
@@ -35,6 +34,7 @@ bernoulli n (suc a) = simp pow-suc (bernoulli-step (n ^ a) (suc n ^ a) (bernoull
     bernoulli-step : (u v : ℕ) → (n + a) * u ≤ v * n → (n + suc a) * (u * n) ≤ v * suc n * n
     bernoulli-step u v h = omega (arith, mul-le-mul-right (suc n) h)
 
+-- (n + a) / n is at most (1 + 1 / q) ^ ((8 * q + 5) * a / (8 * n)).
 pub growth : (q n a : ℕ) → 4 ≤ q → q ≤ 16 → 0 < n → AtMost q (q + 1) (n + a) n ((8 * q + 5) * a) (8 * n)
 growth q n a h l p =
     rw (mul-comm 8 n) (weaken (bernoulli n a) (pow-pos a p)

@@ -19,5 +19,6 @@ pub mod Sides
 pub mod Sizes
 pub mod Slack
 pub mod Step
+pub mod TwoIterations
 pub mod TwoResources
 pub mod Upper

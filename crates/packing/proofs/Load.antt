@@ -17,5 +17,6 @@ load-at q g k =
           rw (mul-pow q (g + k) (g + k), pow-add q g k) (omega (arith, mul-le-mul-right (q ^ g) (rw e at (mean g k (q + 1) q))));
     }
 
+-- (1 + 1 / q) ^ g is at most (1 + g / (q * c)) ^ c.
 pub load : (q : ℕ) {c g : ℕ} → g ≤ c → AtMost (q + 1) q (q * c) (q * c + g) g c
 load q {c} {g} h = let d = le-dest h in rw (d .1) at (load-at q g (d .0))

@@ -1,7 +1,6 @@
 -- The lower side (guarantee.md, section 4): the length of a resource, weighed by its capacity, shows its load.
 -- Rounding a length down would break exactly this. Assumes nothing.
-use mathlib.Core.Path.{_≡_}
-use Prim.Native.Nat.{ℕ, zero, suc, _+_, _*_, _^_, _≤_, _<_}
+use Prim.Native.Nat.{ℕ, _+_, _*_, _≤_, _<_}
 use native.Mathlib.Nat.{pow-zero, pow-le-pow-left, mul-pos, mul-le-mul-right}
 use native.Mathlib.Omega.{arith}
 use Rattle.packing.proofs.AtMost.{AtMost, product, weaken}
@@ -11,9 +10,11 @@ use Rattle.packing.proofs.Load.{load}
 lower-algebra : (S c w l l′ f b y : ℕ) → l * (b + y) ≤ b * (f * l′) → S * (c * (w * l) * (b + y)) ≤ S * b * (c * (w * f * l′))
 lower-algebra S c w l l′ f b y h = omega (arith, mul-le-mul-right (S * c * w) h)
 
+-- the length v of the start, weighed by its capacity, is at least the scale S
 pub lower-start : (q S v c : ℕ) → S ≤ v → AtMost (q + 1) q S v 0 c
 lower-start q S v c h = record { le = simp pow-zero (omega (arith, pow-le-pow-left h c)) }
 
+-- one step by a draw y, with w for the weight before and f for the step's factor
 pub lower-step : (q S c w l l′ f y Y : ℕ) → 0 < q → 0 < c → 0 < w → 0 < l → y ≤ c → l * (q * c + y) ≤ q * c * (f * l′) →
     AtMost (q + 1) q S (c * (w * l)) Y c → AtMost (q + 1) q S (c * (w * f * l′)) (Y + y) c
 lower-step q S c w l l′ f y Y pq pc pw pl h k before =

@@ -6,6 +6,7 @@ use native.Mathlib.Nat.{pow-zero, pow-suc, mul-le-mul-left, mul-le-mul-right, le
 use native.Mathlib.Omega.{arith}
 use Rattle.arith.proofs.Powers.{mul-pow, pow-one, pow-pos}
 
+-- the tangent of a square
 square : (x y : ℕ) → 2 * (x * y) ≤ x * x + y * y
 square zero y = omega arith
 square (suc x) zero = omega arith
@@ -35,6 +36,7 @@ rise : (k t y : ℕ) → suc k ^ suc k * (t ^ k * y) ≤ k ^ k * (t + y) ^ suc k
 rise zero t y = simp (pow-one, pow-zero) (omega arith)
 rise (suc k) t y = rise-pos (suc k) t y (zero-lt-suc k)
 
+-- of 0 too
 self-pos : (k : ℕ) → 0 < k ^ k
 self-pos zero = simp pow-zero (le-refl 1)
 self-pos (suc k) = pow-pos (suc k) (zero-lt-suc k)
@@ -58,5 +60,6 @@ mean-at i (suc j) x y n s e f =
     (self-pos (i + j)) (mean-at i j x y (i + j) (i * x + j * y) refl refl) (rise (i + j) (i * x + j * y) y)
     in omega arith))
 
+-- The mean of i numbers x and j numbers y, to the power i + j, is at least their product.
 pub mean : (i j x y : ℕ) → x ^ i * y ^ j * (i + j) ^ (i + j) ≤ (i * x + j * y) ^ (i + j)
 mean i j x y = mean-at i j x y (i + j) (i * x + j * y) refl refl

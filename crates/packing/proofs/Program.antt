@@ -4,12 +4,12 @@ use Prim.Native.Nat.{ℕ, _+_, _*_, _-_, _^_, _≤_, _<_}
 
 -- The bounds of document 01, "The floor and its flow", the rule of its table L, and the test S of guarantee.md, section 3.
 pub record Program (m q L : ℕ) (c : ℕ → ℕ) : Type 0 where
-  pub some : 1 ≤ m
-  pub few : m ≤ 256
-  pub coarse : 4 ≤ q
-  pub fine : q ≤ 16
-  pub positive : (e : ℕ) → e < m → 1 ≤ c e
-  pub capped : (e : ℕ) → e < m → c e ≤ 1000
+  pub resources-low : 1 ≤ m
+  pub resources-high : m ≤ 256
+  pub precision-low : 4 ≤ q
+  pub precision-high : q ≤ 16
+  pub capacity-low : (e : ℕ) → e < m → 1 ≤ c e
+  pub capacity-high : (e : ℕ) → e < m → c e ≤ 1000
   pub level : 1 ≤ L
   pub enough : m * q ^ L ≤ (q + 1) ^ L
   pub room : m * q * L < 2 ^ 20

@@ -1,8 +1,7 @@
 -- What the roundings cost one length: growth by y / b and halving, both rounded up, from either side.
 -- Assumes nothing.
-use mathlib.Core.Path.{_≡_}
 use Prim.Native.Nat.{ℕ, zero, suc, _+_, _*_, _≤_, _<_}
-use native.Mathlib.Nat.{mul-le-mul-left, lt-of-mul-lt-mul-left, mul-pos, zero-lt-suc}
+use native.Mathlib.Nat.{mul-le-mul-left, lt-of-mul-lt-mul-left, zero-lt-suc}
 use native.Mathlib.Omega.{arith}
 use Rattle.arith.specs.Ceiling.{ceil}
 use Rattle.arith.proofs.Ceilings.{ceil-above, ceil-below}
@@ -12,9 +11,11 @@ pub factor-pos : (m n : ℕ) → 0 < m * n → 0 < n
 factor-pos m zero h = omega arith
 factor-pos m (suc n) h = zero-lt-suc n
 
+-- Growth loses nothing.
 pub grown-low : (l y b : ℕ) → 0 < b → l * (b + y) ≤ b * (l + ceil (l * y) b)
 grown-low l y b h = omega (arith, ceil-above (l * y) b h)
 
+-- Growth gains less than 1.
 pub grown-high : (l y b : ℕ) → 0 < b → b * (l + ceil (l * y) b) ≤ l * (b + y) + b
 grown-high l y b h = omega (arith, ceil-below (l * y) b h)
 
@@ -24,6 +25,7 @@ grown-double l y b h k =
     let r : ceil (l * y) b < suc l = lt-of-mul-lt-mul-left b (omega (arith, ceil-below (l * y) b h, mul-le-mul-left l k)) in
     omega arith
 
+-- Halving loses nothing, and gains at most one half.
 pub half-low : (x : ℕ) → x ≤ 2 * ceil x 2
 half-low x = ceil-above x 2 (zero-lt-suc 1)
 

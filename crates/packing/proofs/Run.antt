@@ -23,6 +23,7 @@ volume m c l = sum m (λ e. c e * l e)
 abbrev pub grown : ℕ → (ℕ → ℕ) → (ℕ → ℕ) → (ℕ → ℕ) → ℕ → ℕ
 grown q c l y e = l e + ceil (l e * y e) (q * c e)
 
+-- Every length is the scale over the capacity, rounded up, and nothing is drawn.
 pub record Start (m : ℕ) (c : ℕ → ℕ) (s : State) : Type 0 where
   pub length : (e : ℕ) → e < m → s .length e ≡ ceil (2 ^ 36) (c e)
   pub load : (e : ℕ) → e < m → s .load e ≡ 0
@@ -32,7 +33,7 @@ pub record Start (m : ℕ) (c : ℕ → ℕ) (s : State) : Type 0 where
   pub alpha : s .alpha ≡ 0
 
 -- A column of length a at the lengths l, drawn by g: y e is g where the column uses e, and 0 elsewhere, so that y l sums to g * a.
--- The draw is the capacity of a resource that it uses.
+-- The draw is the capacity of a resource that it uses. The argument needs no more of a column than these facts.
 pub record Column (m : ℕ) (c l y : ℕ → ℕ) (g a : ℕ) : Type 0 where
   pub within : (e : ℕ) → e < m → y e ≤ c e
   pub size : sum m (λ e. y e * l e) ≡ g * a
@@ -63,6 +64,7 @@ pub record Iteration (m q : ℕ) (c : ℕ → ℕ) (s t : State) : Type 0 where
   pub count : t .count ≡ suc (s .count)
   pub least : Least (volume m c (s .length)) size (s .bound) (s .alpha) (t .bound) (t .alpha)
 
+-- States that the method reaches: the start, or one iteration from one.
 pub data Run (m q : ℕ) (c : ℕ → ℕ) : State → Type 0 where
   start : {s : State} → Start m c s → Run m q c s
   next : {s t : State} → Run m q c s → Iteration m q c s t → Run m q c t

@@ -1,7 +1,6 @@
 -- Both sides of the argument along a run (guarantee.md, section 4), by induction on its iterations.
 -- Assumes nothing.
-use mathlib.Core.Path.{_≡_}
-use Prim.Native.Nat.{ℕ, zero, suc, _+_, _*_, _^_, _≤_, _<_}
+use Prim.Native.Nat.{ℕ, suc, _+_, _*_, _^_, _≤_, _<_}
 use native.Mathlib.Nat.{mul-pos}
 use native.Mathlib.Omega.{arith}
 use lib.Dec.{lit≤}
@@ -32,7 +31,7 @@ module _ {m q L : ℕ} {c : ℕ → ℕ} (p : Program m q L c) where
   start-volume {s} h =
       omega (
         arith,
-        sum-le m (λ e. c e * s .length e) (λ e. 2 ^ 36 + c e) (λ e b. rw (h .length e b) (omega (arith, ceil-below (2 ^ 36) (c e) (p .positive e b)))),
+        sum-le m (λ e. c e * s .length e) (λ e. 2 ^ 36 + c e) (λ e b. rw (h .length e b) (omega (arith, ceil-below (2 ^ 36) (c e) (p .capacity-low e b)))),
         sum-add m (λ e. 2 ^ 36) c,
         sum-const m (2 ^ 36),
         capacity-each p,
@@ -54,18 +53,19 @@ module _ {m q L : ℕ} {c : ℕ → ℕ} (p : Program m q L c) where
         weight-pos = mul-pos (before .weight-pos) (step .factor-pos);
         lower = λ e b. rw (i .load e b)
             (lower-step q (2 ^ 36) (c e) (before .weight) (s .length e) (t .length e) (step .factor) (i .draw e) (s .load e)
-            (omega (arith, p .coarse)) (p .positive e b) (before .weight-pos) (healthy p r .positive e b)
+            (omega (arith, p .precision-low)) (p .capacity-low e b) (before .weight-pos) (healthy p r .positive e b)
             (i .column .within e b) (step .low e b) (before .lower e b));
         upper = λ b x pb k. rw (i .count, i .total)
             (upper-step (2 ^ 20) (m * 2 ^ 36) q (before .weight) (step .factor) (volume m c (s .length)) (volume m c (t .length))
             (i .amount) (i .size) (sum m c) b x (s .count) (s .total)
-            (p .coarse) (p .fine) pb (mul-pos (p .some) (lit≤ tt))
+            (p .precision-low) (p .precision-high) pb (mul-pos (p .resources-low) (lit≤ tt))
             (rw (i .column .size) at (volume-high step))
             (at-most-met (positive-bound p r) size (i .least) b x k)
             (healthy p r .large)
             (before .upper b x pb (at-most-old (positive-bound p r) size (i .least) b x k)));
       }
 
+  -- Both sides hold at every state of a run.
   pub sides : {s : State} → Run m q c s → Sides m q c s
   sides (Run.start h) = start-sides h
   sides (Run.next r i) = next-sides r i (step-at p (healthy p r) i) (sides r)

@@ -2,10 +2,10 @@
 -- Assumes nothing.
 use mathlib.Core.Path.{_≡_}
 use Prim.Native.Nat.{ℕ, zero, suc, _+_, _*_, _-_, _^_, _≤_, _<_}
-use native.Mathlib.Nat.{pow-zero, pow-suc, le-trans, mul-comm, mul-le-mul-left, mul-le-mul-right}
+use native.Mathlib.Nat.{pow-zero, pow-suc, le-trans, mul-le-mul-left, mul-le-mul-right}
 use native.Mathlib.Omega.{arith}
-use Rattle.arith.proofs.Powers.{pow-one, one-pow, mul-pow}
-use Rattle.packing.proofs.AtMost.{AtMost, product, scale, power, weaken}
+use Rattle.arith.proofs.Powers.{pow-one}
+use Rattle.packing.proofs.AtMost.{AtMost, product, scale, weaken}
 use Rattle.packing.proofs.Program.{Program}
 
 -- u and v are the powers to n of suc r and r
@@ -29,6 +29,7 @@ slack-at m q L R d t p h start each =
     let o : 1 * d ≡ d = omega arith in
     weaken (simp pow-suc (rounds m R d (suc R ^ t) (R ^ t) (down R t d R h (omega arith)))) p (rw (e, o) at both)
 
+-- m * (1 + 1 / 2 ^ 20) ^ (t + 1) is at most (1 + 1 / q) ^ (9 * L / 8) after t iterations.
 pub slack : {m q L : ℕ} {c : ℕ → ℕ} → Program m q L c → (t : ℕ) → t ≤ m * (q * L) →
     AtMost q (q + 1) (m * (2 ^ 20 + 1) ^ suc t) ((2 ^ 20) ^ suc t) (L * 9) 8
 slack {m} {q} {L} p t h =

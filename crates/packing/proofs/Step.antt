@@ -1,13 +1,13 @@
 -- One iteration's lengths as the few inequalities that the guarantee needs (guarantee.md, sections 4 and 7).
 -- Halving appears here and nowhere after: a step multiplies the lengths by 1 or 2 besides. Assumes nothing.
 use mathlib.Core.Path.{_≡_, ap}
-use Prim.Native.Nat.{ℕ, zero, suc, _+_, _*_, _^_, _≤_, _<_}
-use native.Mathlib.Nat.{le-trans, le-add-right, mul-pos, mul-le-mul, mul-le-mul-left, mul-le-mul-right, lt-of-lt-of-le}
+use Prim.Native.Nat.{ℕ, _+_, _*_, _^_, _≤_, _<_}
+use native.Mathlib.Nat.{le-trans, mul-pos, mul-le-mul, mul-le-mul-left, mul-le-mul-right}
 use native.Mathlib.Omega.{arith}
 use Rattle.arith.specs.Ceiling.{ceil}
 use Rattle.arith.specs.Sum.{sum}
-use Rattle.arith.proofs.Sums.{sum-le, sum-scale, term-le-sum}
-use Rattle.packing.proofs.Capacity.{capacity-each, capacity-all}
+use Rattle.arith.proofs.Sums.{sum-le, term-le-sum}
+use Rattle.packing.proofs.Capacity.{capacity-all}
 use Rattle.packing.proofs.Program.{Program}
 use Rattle.packing.proofs.Rounding.{grown-low, grown-high, grown-double, half-low, half-high}
 use Rattle.packing.proofs.Run.{volume, grown, Lengths}
@@ -35,15 +35,16 @@ halved-high b l y r x h k = omega (arith, mul-le-mul-left b k)
 
 module _ {m q L : ℕ} {c : ℕ → ℕ} (p : Program m q L c) (l y : ℕ → ℕ) (within : (e : ℕ) → e < m → y e ≤ c e) (h : Healthy m c l) where
   divisor-pos : (e : ℕ) → e < m → 0 < q * c e
-  divisor-pos e b = mul-pos (omega (arith, p .coarse)) (p .positive e b)
+  divisor-pos e b = mul-pos (omega (arith, p .precision-low)) (p .capacity-low e b)
 
   fits : (e : ℕ) → e < m → y e ≤ q * c e
-  fits e b = omega (arith, within e b, mul-le-mul-right (c e) (p .coarse))
+  fits e b = omega (arith, within e b, mul-le-mul-right (c e) (p .precision-low))
 
   -- A draw at most doubles a length.
   pub double : (e : ℕ) → e < m → grown q c l y e ≤ 2 * l e
   double e b = grown-double (l e) (y e) (q * c e) (divisor-pos e b) (fits e b)
 
+  -- The inequalities of a step, whether its lengths were halved or not.
   pub step-of : (l′ : ℕ → ℕ) → Lengths m (grown q c l y) l′ → Step m q c l y l′
   step-of l′ (Lengths.kept below same) = record {
     factor = 1;
@@ -66,7 +67,7 @@ module _ {m q L : ℕ} {c : ℕ → ℕ} (p : Program m q L c) (l y : ℕ → �
     healthy = record {
       positive = λ e b. omega (arith, h .positive e b, same e b, half-low (grown q c l y e));
       below = λ e b. omega (arith, h .below e b, same e b, half-high (grown q c l y e), double e b);
-      large = omega (arith, capacity-all p, term-le-sum m (λ e. c e * l′ e) k inside, mul-le-mul (p .positive k inside) (halved-large k inside high same));
+      large = omega (arith, capacity-all p, term-le-sum m (λ e. c e * l′ e) k inside, mul-le-mul (p .capacity-low k inside) (halved-large k inside high same));
     };
   }
     where

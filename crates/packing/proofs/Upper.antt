@@ -1,7 +1,7 @@
 -- The upper side (guarantee.md, section 4): a step raises the volume by little more than what its draw is worth.
 -- Assumes nothing.
 use mathlib.Core.Path.{_≡_}
-use Prim.Native.Nat.{ℕ, zero, suc, _+_, _*_, _^_, _≤_, _<_}
+use Prim.Native.Nat.{ℕ, suc, _+_, _*_, _^_, _≤_, _<_}
 use native.Mathlib.Nat.{pow-zero, pow-suc, pow-le-pow-left, mul-pos, mul-le-mul-left, mul-le-mul-right}
 use native.Mathlib.Omega.{arith}
 use Rattle.arith.specs.Sum.{sum}
@@ -37,6 +37,7 @@ upper-algebra : (w f D D′ N a R u v z : ℕ) → f * D′ * N * R ≤ D * (N +
     w * f * D′ * (u * R) * (v * z * N) ≤ w * D * u * (N + a) * (v * (z * suc R))
 upper-algebra w f D D′ N a R u v z h = omega (arith, mul-le-mul-right (w * u * v * z) h)
 
+-- the start, with nothing drawn
 pub upper-start : (q x u v : ℕ) {y : ℕ} → u ≤ v → AtMost q (q + 1) u v ((8 * q + 5) * (x * 0)) y
 upper-start q x u v {y} h =
     let e : (8 * q + 5) * (x * 0) ≡ 0 = omega arith in

@@ -1,0 +1,48 @@
+-- Being Chosen determines the choice, so whatever has these properties is what the rule chooses.
+-- Assumes nothing.
+use mathlib.Core.Path.{_≡_, refl, sym, ap₂, subst, _∙_}
+use mathlib.Core.Option.{Option, some}
+use mathlib.Core.List.{List}
+use Prim.Native.Nat.{ℕ, _≤_, _<_}
+use native.Mathlib.Omega.{arith}
+use Rattle.arith.proofs.Trichotomy.{Compared, below, equal, above, compare}
+use Rattle.network.specs.Ends.{Ends, Positive}
+use Rattle.network.specs.Network.{Network, source, sink}
+use Rattle.network.specs.Path.{Path, follow, pathLength}
+use Rattle.method.specs.Choice.{Choice, choiceOf, choice}
+use Rattle.method.specs.Chosen.{Chosen}
+use Rattle.method.specs.Order.{Before}
+use Rattle.method.proofs.Choosing.{chosen}
+use Rattle.method.proofs.Joining.{joined-choice}
+use Rattle.method.proofs.Orders.{Ordered, earlier, same, later, ordered}
+
+module _ (net : Network) (l : List ℕ) where
+  module _ (c d : Choice) (x : Chosen net l c) (y : Chosen net l d) where
+    not-lower : c .commodity < d .commodity → ⊥
+    not-lower b = omega (arith, y .lowest (c .commodity) (c .path) b (x .path), x .shortest (d .commodity) (d .path) (y .commodity) (y .path))
+
+    not-before : c .commodity ≡ d .commodity → Before (c .path) (d .path) → ⊥
+    not-before q b =
+        omega (
+          arith,
+          y .first (c .path) (subst (λ (i : ℕ). Path net (source net i) (sink net i) (c .path)) q (x .path)) b,
+          x .shortest (d .commodity) (d .path) (y .commodity) (y .path),
+        )
+
+  pub chosen-unique : (c d : Choice) → Chosen net l c → Chosen net l d → c ≡ d
+  chosen-unique c d x y = by-commodity (compare (c .commodity) (d .commodity))
+    where
+      by-path : c .commodity ≡ d .commodity → Ordered (c .path) (d .path) → c ≡ d
+      by-path q (earlier b) = absurd (not-before c d x y q b)
+      by-path q (same e) = ap₂ choiceOf q e
+      by-path q (later b) = absurd (not-before d c y x (sym q) b)
+
+      by-commodity : Compared (c .commodity) (d .commodity) → c ≡ d
+      by-commodity (below b) = absurd (not-lower c d x y b)
+      by-commodity (equal q) = by-path q (ordered (c .path) (d .path))
+      by-commodity (above b) = absurd (not-lower d c y x b)
+
+  pub chosen-choice : Ends net → Positive net l → (c : Choice) → Chosen net l c → choice net l ≡ some c
+  chosen-choice ends pos c x =
+      let s = joined-choice net ends l (c .commodity) (x .commodity) (c .path, x .path) in
+      rw (chosen-unique c (s .0) x (chosen net l ends pos (s .0) (s .1))) (s .1)

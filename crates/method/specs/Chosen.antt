@@ -1,0 +1,29 @@
+-- What the choice rule comes to, in the words of document 01, "One choice of route".
+use Prim.Native.Nat.{ℕ, _≤_, _<_}
+use mathlib.Core.List.{List}
+use lib.ListN.{length}
+use Rattle.arith.specs.Distinct.{Distinct}
+use Rattle.network.specs.Network.{Network, commodities, source, sink}
+use Rattle.network.specs.Path.{Path, pathLength}
+use Rattle.network.specs.Visited.{visited}
+use Rattle.method.specs.Choice.{Choice}
+use Rattle.method.specs.Order.{Before}
+
+-- c is the choice by the lengths l. Paths here have any number of arcs.
+pub record Chosen (net : Network) (l : List ℕ) (c : Choice) : Type 0 where
+  -- its commodity is one of the network's, and its path a path for that commodity
+  pub commodity : c .commodity < commodities net
+  pub path : Path net (source net (c .commodity)) (sink net (c .commodity)) (c .path)
+  -- no path of any commodity is shorter
+  pub shortest :
+      (i : ℕ) (p : List ℕ) → i < commodities net → Path net (source net i) (sink net i) p → pathLength l (c .path) ≤ pathLength l p
+  -- lower-numbered commodities have only longer paths
+  pub lowest :
+      (i : ℕ) (p : List ℕ) → i < c .commodity → Path net (source net i) (sink net i) p → pathLength l (c .path) < pathLength l p
+  -- paths of its commodity that are before it in dictionary order are longer
+  pub first :
+      (p : List ℕ) → Path net (source net (c .commodity)) (sink net (c .commodity)) p → Before p (c .path) → pathLength l (c .path) <
+      pathLength l p
+  -- it visits no node twice, and has at most n - 1 arcs
+  pub distinct : Distinct (visited net (source net (c .commodity)) (c .path))
+  pub few : length (c .path) < net .nodes

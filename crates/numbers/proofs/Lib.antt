@@ -1,0 +1,10 @@
+pub mod Columns
+pub mod Digits
+pub mod Examples
+pub mod Over
+pub mod Parts
+pub mod Places
+pub mod Puts
+pub mod Splices
+pub mod Tables
+pub mod Values

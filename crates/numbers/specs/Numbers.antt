@@ -1,0 +1,42 @@
+-- Numbers in byte slices: "In a byte slice each number takes eight bytes, lowest first; an incomplete last item is not read"
+-- (document 01, "The floor and its flow"). Assumes nothing.
+use Prim.Native.Nat.{ℕ, zero, suc, _+_, _*_, _/_}
+use mathlib.Core.List.{List, [], _∷_, _++_}
+use lib.ListN.{length, take, drop}
+use Rattle.numbers.specs.Digits.{value, digits}
+
+-- How many complete numbers the bytes hold.
+abbrev pub count : List ℕ → ℕ
+count s = length s / 8
+
+-- How many complete items of k numbers the bytes hold: "m and k are the counts of complete items", of three numbers a belt and of two a pair.
+abbrev pub items : ℕ → List ℕ → ℕ
+items k s = length s / (8 * k)
+
+-- Number i, counted from 0, in the eight bytes from 8 * i on.
+unfoldable pub numberAt : List ℕ → ℕ → ℕ
+numberAt s i = value (take 8 (drop (8 * i) s))
+
+-- The bytes with ds in place of as many from place p on; all others kept. A number is written in such parts.
+abbrev pub splice : List ℕ → ℕ → List ℕ → List ℕ
+splice s p ds = take p s ++ (ds ++ drop (p + length ds) s)
+
+-- The bytes with x as number i, all others kept.
+unfoldable pub putAt : List ℕ → ℕ → ℕ → List ℕ
+putAt s i x = take (8 * i) s ++ (digits 8 x ++ drop (8 * i + 8) s)
+
+-- Member j, counted from 0, of each of the first n items of k numbers, in order: member 0 of the belts is their tails, 1 their heads,
+-- 2 their capacities ("A belt is an item of three numbers (tail, head, capacity), a pair one of two").
+unfoldable pub column : List ℕ → ℕ → ℕ → ℕ → List ℕ
+column s k j zero = []
+column s k j (suc n) = column s k j n ++ (numberAt s (k * n + j) ∷ [])
+
+-- The bytes of a list of numbers, eight each.
+unfoldable pub encode : List ℕ → List ℕ
+encode [] = []
+encode (x ∷ xs) = digits 8 x ++ encode xs
+
+-- The bytes of a lent table once its first numbers are xs: "later places keep their contents"
+-- (document 01, "One choice of route"), also those of an incomplete last number.
+unfoldable pub written : List ℕ → List ℕ → List ℕ
+written s xs = encode xs ++ drop (8 * length xs) s
