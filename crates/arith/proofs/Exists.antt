@@ -3,7 +3,7 @@
 use mathlib.Core.Path.{_≡_, refl, sym, ap, _∙_}
 use mathlib.Core.Logic.{⊎-elim}
 use mathlib.Core.Bool.{Bool, true, false, _||_, false≢true, or-true}
-use Prim.Native.Nat.{ℕ, zero, suc, _≤_, _<_}
+use Prim.Native.Nat.{ℕ, zero, suc, _<_}
 use native.Mathlib.Nat.{le-refl, eq-or-lt-of-le, le-of-suc-le-suc}
 use native.Mathlib.Omega.{arith}
 use Rattle.arith.specs.Lists.{exists}
@@ -23,7 +23,11 @@ exists-true (suc n) f t = here-or-below n f (exists n f) (f n) refl (exists-true
 pub true-exists : (n : ℕ) (f : ℕ → Bool) (i : ℕ) → i < n → f i ≡ true → exists n f ≡ true
 unfolding exists
 true-exists zero f i l t = absurd (omega arith)
-true-exists (suc n) f i l t = ⊎-elim (λ (e : i ≡ n). rw (sym (ap f e) ∙ t) (or-true (exists n f))) (λ (l : i < n). rw (true-exists n f i l t)) (eq-or-lt-of-le (le-of-suc-le-suc l))
+true-exists (suc n) f i l t =
+    ⊎-elim
+    (λ (e : i ≡ n). rw (sym (ap f e) ∙ t) (or-true (exists n f)))
+    (λ (l : i < n). rw (true-exists n f i l t))
+    (eq-or-lt-of-le (le-of-suc-le-suc l))
 
 pub exists-false : (n : ℕ) (f : ℕ → Bool) → exists n f ≡ false → (i : ℕ) → i < n → f i ≡ false
 exists-false n f t i l = by-value (f i) refl

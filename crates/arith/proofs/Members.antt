@@ -1,16 +1,14 @@
--- The members of the numbers in order, of lists one after the other, and of what a test keeps: each exactly those that the words say.
+-- The members of lists one after the other, and of what a test keeps: exactly those that the words say. Membership of numbers is decided.
 -- Assumes nothing.
 use mathlib.Core.Path.{_≡_, refl, sym, ap, subst, _∙_}
 use mathlib.Core.Logic.{_⊎_, inl, inr, ⊎-elim}
 use mathlib.Core.Bool.{Bool, true, false, cond}
-use mathlib.Core.List.{List, [], _∷_, _++_}
-use Prim.Native.Nat.{ℕ, zero, suc, _+_, _≤_, _<_}
-use native.Mathlib.Nat.{eq-or-lt-of-le}
-use native.Mathlib.Omega.{arith}
+use mathlib.Core.List.{List, [], _∷_}
+use Prim.Native.Nat.{ℕ}
 use lib.Dec.{eqb}
 use borrow.Author.Tests.{eqb-true, eqb-false}
+use Rattle.arith.specs.Lists.{flat, keep}
 use Rattle.arith.specs.Member.{Member, first, later, no-member, first-or-later, left-or-right, member-left, member-right}
-use Rattle.arith.specs.Lists.{upFrom, upTo, flat, keep}
 
 -- A number is a member or not.
 pub member-or-not : (x : ℕ) (xs : List ℕ) → Member x xs ⊎ (Member x xs → ⊥)
@@ -21,32 +19,6 @@ member-or-not x (y ∷ xs) = by-test (eqb x y) refl (member-or-not x xs)
     by-test true e d = inl (first (eqb-true x y e))
     by-test false e (inl m) = inl (later m)
     by-test false e (inr n) = inr (λ m. ⊎-elim (eqb-false x y e) n (first-or-later m))
-
-pub member-upFrom : (j i n : ℕ) → Member j (upFrom i n) → (i ≤ j) × (j < i + n)
-unfolding upFrom
-member-upFrom j i zero m = absurd (no-member m)
-member-upFrom j i (suc n) m =
-    ⊎-elim
-    (λ (e : j ≡ i). omega arith)
-    (λ (m : Member j (upFrom (suc i) n)). omega (arith, member-upFrom j (suc i) n m))
-    (first-or-later m)
-
-pub upFrom-member : (j i n : ℕ) → i ≤ j → j < i + n → Member j (upFrom i n)
-unfolding upFrom
-upFrom-member j i zero a b = absurd (omega arith)
-upFrom-member j i (suc n) a b =
-    ⊎-elim
-    (λ (e : i ≡ j). first (sym e))
-    (λ (l : i < j). later (upFrom-member j (suc i) n l (omega arith)))
-    (eq-or-lt-of-le a)
-
-pub member-upTo : (j n : ℕ) → Member j (upTo n) → j < n
-unfolding upTo
-member-upTo j n m = omega (arith, member-upFrom j 0 n m)
-
-pub upTo-member : (j n : ℕ) → j < n → Member j (upTo n)
-unfolding upTo
-upTo-member j n l = upFrom-member j 0 n (omega arith) (omega arith)
 
 module _ {A B : Type 0} (f : A → List B) where
   pub member-flat : {y : B} (xs : List A) → Member y (flat f xs) → (x : A) × Member x xs × Member y (f x)

@@ -1,15 +1,15 @@
 -- A list without repetition whose members are all in another list is no longer than that one; so distinct numbers from 1 to n are at most n.
 -- Assumes nothing.
-use mathlib.Core.Path.{_≡_, refl, sym, ap, _∙_}
+use mathlib.Core.Path.{_≡_, refl, sym, ap}
 use mathlib.Core.Logic.{⊎-elim}
 use mathlib.Core.List.{List, [], _∷_, _++_}
-use Prim.Native.Nat.{ℕ, zero, suc, _+_, _≤_, _<_}
+use Prim.Native.Nat.{ℕ, _≤_}
 use native.Mathlib.Omega.{arith}
 use lib.ListN.{length, length-append}
-use Rattle.arith.specs.Member.{Member, first, later, first-or-later, left-or-right, member-left, member-right, equal-member}
 use Rattle.arith.specs.Distinct.{Distinct, empty, more}
-use Rattle.arith.specs.Lists.{upFrom, upTo}
-use Rattle.arith.proofs.Members.{upFrom-member}
+use Rattle.arith.specs.Lists.{upFrom}
+use Rattle.arith.specs.Member.{Member, first, later, first-or-later, left-or-right, member-left, member-right, equal-member}
+use Rattle.arith.proofs.Ranges.{length-upFrom, upFrom-member}
 
 module _ {A : Type 0} where
   -- A list around one of its members: what stands before it, and after it.
@@ -36,14 +36,16 @@ module _ {A : Type 0} where
   pigeonhole ys empty h = omega arith
   pigeonhole ys (more {x = x} {xs = xs} new d) h =
       let r = around (h x (first refl)) in
-      let shorter =
-      pigeonhole (r .front ++ r .back) d (λ y m. without (r .front) (r .back) (λ e. new (equal-member (sym e) m)) (rw (r .whole) at (h y (later m)))) in
-      omega (arith, ap length (r .whole), length-append (r .front) (x ∷ r .back), length-append (r .front) (r .back))
-
-length-upFrom : (i n : ℕ) → length (upFrom i n) ≡ n
-unfolding upFrom
-length-upFrom i zero = refl
-length-upFrom i (suc n) = ap suc (length-upFrom (suc i) n)
+      omega (
+        arith,
+        ap length (r .whole),
+        length-append (r .front) (x ∷ r .back),
+        length-append (r .front) (r .back),
+        pigeonhole
+            (r .front ++ r .back)
+            d
+            (λ y m. without (r .front) (r .back) (λ e. new (equal-member (sym e) m)) (rw (r .whole) at (h y (later m)))),
+      )
 
 -- Distinct numbers from 1 to n are at most n.
 pub distinct-few : {xs : List ℕ} (n : ℕ) → Distinct xs → ((x : ℕ) → Member x xs → (1 ≤ x) × (x ≤ n)) → length xs ≤ n

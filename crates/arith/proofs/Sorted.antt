@@ -1,14 +1,15 @@
 -- Lists in the order of a relation, and what keeps them so: a test, a map that keeps the order, lists one after the other.
 -- Assumes nothing.
-use mathlib.Core.Path.{_≡_, refl, subst}
+use mathlib.Core.Path.{refl, subst}
 use mathlib.Core.Logic.{⊎-elim}
 use mathlib.Core.Bool.{Bool, true, false, cond}
 use mathlib.Core.List.{List, [], _∷_, _++_, map}
-use Prim.Native.Nat.{ℕ, zero, suc, _+_, _≤_, _<_}
+use Prim.Native.Nat.{ℕ, zero, suc, _<_}
 use native.Mathlib.Omega.{arith}
-use Rattle.arith.specs.Member.{Member, first, later, left-or-right, member-right, member-map}
 use Rattle.arith.specs.Lists.{upFrom, upTo, flat, keep}
-use Rattle.arith.proofs.Members.{member-upFrom, member-flat, member-keep}
+use Rattle.arith.specs.Member.{Member, first, later, left-or-right, member-right, member-map}
+use Rattle.arith.proofs.Members.{member-flat, member-keep}
+use Rattle.arith.proofs.Ranges.{member-upFrom}
 
 module _ {A : Type 0} (R : A → A → Type 0) where
   -- Each member is before every member that stands later.

@@ -1,3 +1,6 @@
 pub mod Ceiling
+pub mod Distinct
+pub mod Limbs
 pub mod Lists
+pub mod Member
 pub mod Sum

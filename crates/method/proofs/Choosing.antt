@@ -3,24 +3,22 @@
 use mathlib.Core.Path.{_≡_, refl}
 use mathlib.Core.Logic.{⊎-elim}
 use mathlib.Core.Option.{some}
-use mathlib.Core.List.{List, [], _++_}
-use Prim.Native.Nat.{ℕ, _≤_, _<_}
+use mathlib.Core.List.{List, _++_}
+use Prim.Native.Nat.{ℕ, _<_}
 use native.Mathlib.Omega.{arith}
-use lib.ListN.{length}
-use Rattle.arith.specs.Member.{}
 use Rattle.arith.specs.Distinct.{Distinct}
 use Rattle.network.specs.Ends.{Node, Ends, Positive}
-use Rattle.network.specs.Network.{Network, arcs, commodities, source, sink}
-use Rattle.network.specs.Path.{follow, Path, pathLength}
+use Rattle.network.specs.Network.{Network, source, sink}
+use Rattle.network.specs.Path.{Path, pathLength}
 use Rattle.network.specs.Visited.{visited}
-use Rattle.network.proofs.Paths.{path-arcs}
-use Rattle.network.proofs.Nodes.{distinct-path-few, distinct-arcs}
-use Rattle.network.proofs.Loops.{Loop, distinct-or-loop, cut-shorter}
+use Rattle.network.proofs.Cuts.{cut-shorter}
+use Rattle.network.proofs.Loops.{Loop, distinct-or-loop}
+use Rattle.network.proofs.Nodes.{distinct-path-few}
 use Rattle.method.specs.Choice.{Choice, choiceOf, choice}
 use Rattle.method.specs.Chosen.{Chosen}
 use Rattle.method.specs.Order.{Before}
-use Rattle.method.proofs.Candidates.{before, candidate-member}
-use Rattle.method.proofs.Shortest.{choice-path, choice-earlier, choice-shortest, choice-lowest}
+use Rattle.method.proofs.Candidates.{before}
+use Rattle.method.proofs.Shortest.{choice-candidate, choice-earlier, choice-shortest, choice-lowest}
 
 module _ (net : Network) (l : List ℕ) (ends : Ends net) (pos : Positive net l) (c : Choice) (h : choice net l ≡ some c) where
   abbrev s : ℕ
@@ -30,7 +28,7 @@ module _ (net : Network) (l : List ℕ) (ends : Ends net) (pos : Positive net l)
   t = sink net (c .commodity)
 
   start-node : Node net s
-  start-node = ends .sources (c .commodity) (choice-path net l c h .0)
+  start-node = ends .sources (c .commodity) (choice-candidate net l c h .commodity)
 
   -- A path with a loop is longer: without the loop it is shorter, and no path is shorter than the chosen one.
   loop-longer : (p : List ℕ) → Path net s t p → Loop net s t p → pathLength l (c .path) < pathLength l p
@@ -38,38 +36,39 @@ module _ (net : Network) (l : List ℕ) (ends : Ends net) (pos : Positive net l)
       omega (
         arith,
         cut-shorter net s t p k l pos r,
-        choice-shortest net l c h ends (c .commodity) (k .front ++ k .back) (k .cut) (choice-path net l c h .0),
+        choice-shortest net l c h ends (c .commodity) (k .front ++ k .back) (k .cut) (choice-candidate net l c h .commodity),
       )
 
   choice-distinct : Distinct (visited net s (c .path))
   choice-distinct =
       ⊎-elim
       (λ (d : Distinct (visited net s (c .path))). d)
-      (λ (k : Loop net s t (c .path)). absurd (omega (arith, loop-longer (c .path) (choice-path net l c h .1) k)))
-      (distinct-or-loop net s t (c .path) (choice-path net l c h .1))
+      (λ (k : Loop net s t (c .path)). absurd (omega (arith, loop-longer (c .path) (choice-candidate net l c h .path) k)))
+      (distinct-or-loop net s t (c .path) (choice-candidate net l c h .path))
 
   choice-before : (p : List ℕ) → Path net s t p → Before p (c .path) → pathLength l (c .path) < pathLength l p
-  choice-before p r b =
-      ⊎-elim
-      (λ (d : Distinct (visited net s p)). choice-earlier
-      net
-      l
-      c
-      h
-      (choiceOf (c .commodity) p)
-      (candidate-member net (c .commodity) p (choice-path net l c h .0) (omega (arith, distinct-path-few net ends s t p start-node r d)) r)
-      (before refl b))
-      (loop-longer p r)
-      (distinct-or-loop net s t p r)
+  choice-before p r b = ⊎-elim without-loop (loop-longer p r) (distinct-or-loop net s t p r)
+    where
+      without-loop : Distinct (visited net s p) → pathLength l (c .path) < pathLength l p
+      without-loop d =
+          let few = distinct-path-few net ends s t p start-node r d in
+          choice-earlier
+          net
+          l
+          c
+          h
+          (choiceOf (c .commodity) p)
+          (record { commodity = choice-candidate net l c h .commodity; path = r; short = omega arith })
+          (before refl b)
 
   pub chosen : Chosen net l c
   chosen =
       record {
-        commodity = choice-path net l c h .0;
-        path = choice-path net l c h .1;
+        commodity = choice-candidate net l c h .commodity;
+        path = choice-candidate net l c h .path;
         shortest = λ i p b r. choice-shortest net l c h ends i p r b;
         lowest = λ i p b r. choice-lowest net l c h ends i p r b;
         first = choice-before;
         distinct = choice-distinct;
-        few = distinct-path-few net ends s t (c .path) start-node (choice-path net l c h .1) choice-distinct;
+        few = distinct-path-few net ends s t (c .path) start-node (choice-candidate net l c h .path) choice-distinct;
       }

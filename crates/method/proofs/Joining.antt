@@ -1,8 +1,8 @@
 -- Something is chosen exactly where some commodity is joined, by whatever lengths.
 -- Assumes nothing.
-use mathlib.Core.Path.{_≡_, refl, sym, ap, _∙_}
-use mathlib.Core.Option.{Option, none, some, Option·none-ne-some}
-use mathlib.Core.List.{List, []}
+use mathlib.Core.Path.{_≡_, sym, ap, _∙_}
+use mathlib.Core.Option.{none, some, Option·none-ne-some}
+use mathlib.Core.List.{List}
 use Prim.Native.Nat.{ℕ, _<_}
 use Rattle.network.specs.Ends.{Ends}
 use Rattle.network.specs.Network.{Network, commodities, source, sink}
@@ -10,7 +10,7 @@ use Rattle.network.specs.Path.{Joined, pathLength}
 use Rattle.network.proofs.Shortcuts.{shortcut}
 use Rattle.method.specs.Choice.{Choice, choiceOf, candidates, least, choice}
 use Rattle.method.proofs.Least.{least-none, least-some}
-use Rattle.method.proofs.Shortest.{shortcut-candidate}
+use Rattle.method.proofs.Shortest.{shortcut-member}
 
 module _ (net : Network) where
   -- That nothing is chosen does not depend on the lengths.
@@ -23,7 +23,7 @@ module _ (net : Network) where
     unfolding choice
     joined-choice =
         let k = shortcut net (source net i) (sink net i) (j .0) (j .1) in
-        least-some (λ c. pathLength l (c .path)) (candidates net) (choiceOf i (k .path)) (shortcut-candidate net ends i (j .0) b k)
+        least-some (λ c. pathLength l (c .path)) (candidates net) (choiceOf i (k .path)) (shortcut-member net ends i (j .0) b k)
 
     pub choice-none : choice net l ≡ none → ⊥
     choice-none h = let s = joined-choice in Option·none-ne-some (s .0) (sym h ∙ s .1)

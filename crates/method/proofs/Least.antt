@@ -1,6 +1,6 @@
 -- The first member of least value, as a relation: which member it is, that none is smaller, and that those that stand earlier are greater.
 -- Assumes nothing.
-use mathlib.Core.Path.{_≡_, refl, sym, ap, subst, _∙_}
+use mathlib.Core.Path.{_≡_, refl, ap}
 use mathlib.Core.Logic.{⊎-elim}
 use mathlib.Core.Bool.{Bool, true, false, cond}
 use mathlib.Core.Option.{Option, none, some, Option·none-ne-some, Option·some-ne-none, Option·some-injective}
@@ -53,7 +53,9 @@ module _ {A : Type 0} (f : A → ℕ) where
   in-front x z xs true e r = here {x = x} {xs = xs} (λ w m. omega (arith, leb-true (f x) (f z) e, first-le r w m))
   in-front x z xs false e r = there (leb-false (f x) (f z) e) r
 
-  sooner-first : (x : A) (xs : List A) (o : Option A) → (o ≡ none → xs ≡ []) → ((z : A) → o ≡ some z → First f xs z) → First f (x ∷ xs) (sooner f x o)
+  sooner-first :
+      (x : A) (xs : List A) (o : Option A) → (o ≡ none → xs ≡ []) → ((z : A) → o ≡ some z → First f xs z) →
+      First f (x ∷ xs) (sooner f x o)
   unfolding sooner
   sooner-first x xs none h g = rw (h refl) (here (λ z m. absurd (no-member m)))
   sooner-first x xs (some z) h g = in-front x z xs (leb (f x) (f z)) refl (g z refl)

@@ -2,10 +2,10 @@
 -- Assumes nothing.
 use mathlib.Core.Path.{_≡_, refl, sym, ap₂, _∙_}
 use mathlib.Core.List.{List, [], _∷_}
-use Prim.Native.Nat.{ℕ, _<_}
+use Prim.Native.Nat.{ℕ}
 use native.Mathlib.Nat.{lt-trans}
 use native.Mathlib.Omega.{arith}
-use Rattle.arith.proofs.Trichotomy.{Compared, below, equal, above, compare}
+use Rattle.arith.proofs.Order.{Compared, below, equal, above, compare}
 use Rattle.method.specs.Order.{Before, ends, smaller, agrees}
 
 pub before-not-after : {p q : List ℕ} → Before p q → Before q p → ⊥

@@ -61,10 +61,11 @@ module _ (net : Network) (n : ℕ) where
   pub zero-carries : Carries net nothing 0
   unfolding leaving entering
   zero-carries =
-    omega
-    (arith,
-    sum-cong (commodities net) (λ i. outflow net (nothing i) (source net i)) (λ i. 0) (λ i l. out-zero i (source net i)),
-    sum-cong (commodities net) (λ i. inflow net (nothing i) (source net i)) (λ i. 0) (λ i l. in-zero i (source net i)))
+      omega (
+        arith,
+        sum-cong (commodities net) (λ i. outflow net (nothing i) (source net i)) (λ i. 0) (λ i l. out-zero i (source net i)),
+        sum-cong (commodities net) (λ i. inflow net (nothing i) (source net i)) (λ i. 0) (λ i l. in-zero i (source net i)),
+      )
 
   pub zero-load : (e : ℕ) → loadOf net nothing e ≡ 0
   unfolding loadOf
@@ -78,13 +79,13 @@ table-start net =
       places = length-replicate (arcs net) 0;
       flows = zero-flow net (commodities net * arcs net);
       carries = zero-carries net (commodities net * arcs net);
-      sums = λ e l. zeros (arcs net) e ∙ sym (zero-load net (commodities net * arcs net) e)
+      sums = λ e l. zeros (arcs net) e ∙ sym (zero-load net (commodities net * arcs net) e);
     }
 
 pub table-step :
-  (net : Network) (q : ℕ) (c : Choice) (s : State) → Path net (source net (c .commodity)) (sink net (c .commodity)) (c .path) →
-  c .commodity < commodities net → (source net (c .commodity) ≡ sink net (c .commodity) → ⊥) → Table net (s .flow) (s .loads) (s .total) →
-  Table net (advance net q c s .flow) (advance net q c s .loads) (advance net q c s .total)
+    (net : Network) (q : ℕ) (c : Choice) (s : State) → Path net (source net (c .commodity)) (sink net (c .commodity)) (c .path) →
+    c .commodity < commodities net → (source net (c .commodity) ≡ sink net (c .commodity) → ⊥) → Table net (s .flow) (s .loads) (s .total) →
+    Table net (advance net q c s .flow) (advance net q c s .loads) (advance net q c s .total)
 unfolding advance
 table-step net q c s path listed apart t =
     let g : ℕ = draw (net .capacities) (c .path) in
@@ -95,6 +96,6 @@ table-step net q c s path listed apart t =
       flows = stays-flow net (c .commodity) g (c .path) path listed (s .flow) (t .rows) (t .flows);
       carries = carries-more net (c .commodity) g (c .path) path listed (s .flow) (t .rows) (s .total) apart (t .carries);
       sums = λ e l.
-        update-adds g (c .path) (s .loads) e (rw (t .places) (path-below net (source net (c .commodity)) (sink net (c .commodity)) (c .path) path)) ∙
-        omega (arith, t .sums e l, load-adds net (c .commodity) g (c .path) path listed (s .flow) (t .rows) e l)
+          update-adds g (c .path) (s .loads) e (rw (t .places) (path-below net (source net (c .commodity)) (sink net (c .commodity)) (c .path) path)) ∙
+          omega (arith, t .sums e l, load-adds net (c .commodity) g (c .path) path listed (s .flow) (t .rows) e l);
     }

@@ -2,7 +2,6 @@
 -- Assumes nothing.
 use mathlib.Core.Path.{_≡_, refl, sym, ap, _∙_}
 use mathlib.Core.Bool.{Bool, true, false, cond}
-use mathlib.Core.Logic.{⊎-elim}
 use mathlib.Core.List.{List, [], _∷_, map}
 use Prim.Native.Nat.{ℕ, zero, suc, _+_, _*_, _≤_, _<_}
 use native.Mathlib.Nat.{mul-le-mul-right, add-left-cancel}
@@ -11,7 +10,7 @@ use borrow.Author.Tests.{eqb-true, eqb-false, eq-eqb, ne-eqb}
 use lib.Dec.{eqb}
 use lib.ListN.{length, getD}
 use Rattle.arith.specs.Sum.{sum}
-use Rattle.arith.proofs.Order.{eq-or-less}
+use Rattle.arith.proofs.Order.{Compared, below, equal, above, compare}
 use Rattle.arith.proofs.Sums.{sum-cong, sum-add}
 use Rattle.method.proofs.Times.{Below, none, also, once, times, along, sum-times}
 
@@ -37,9 +36,12 @@ through-adds m ends f f' p g v b h =
 -- Two places of a table of rows of m numbers are the same only in the same row.
 pub same-row : (m i j x e : ℕ) → x < m → e < m → i * m + x ≡ j * m + e → i ≡ j
 same-row m i j x e a b h =
-    ⊎-elim (λ q. q)
-    (⊎-elim (λ (l : i < j). absurd (omega (arith, mul-le-mul-right m l))) (λ (l : j < i). absurd (omega (arith, mul-le-mul-right m l))))
-    (eq-or-less i j)
+    by-order (compare i j)
+  where
+    by-order : Compared i j → i ≡ j
+    by-order (below l) = absurd (omega (arith, mul-le-mul-right m l))
+    by-order (equal q) = q
+    by-order (above l) = absurd (omega (arith, mul-le-mul-right m l))
 
 -- The places of row i that a path's draw changes, at row j.
 pub times-row :

@@ -1,26 +1,25 @@
 -- A worked choice in which both rules for ties decide, and an instance of what the theorem on the choice asks for: nothing is proved of nothing.
 -- Assumes nothing.
 use mathlib.Core.Path.{_≡_, refl}
-use mathlib.Core.Bool.{Bool, true, false, _&&_}
-use mathlib.Core.Option.{Option, none, some, bind}
+use mathlib.Core.Option.{some, bind}
 use mathlib.Core.List.{List, [], _∷_}
-use Prim.Native.Nat.{ℕ, zero, suc, _≤_, _<_}
+use Prim.Native.Nat.{ℕ, zero, suc}
 use native.Mathlib.Omega.{arith}
-use lib.Dec.{T, eqb}
-use lib.ListN.{getD}
 use Rattle.arith.specs.Lists.{upFrom, upTo, flat, keep}
-use Rattle.arith.proofs.Same.{same}
-use Rattle.network.specs.Ends.{Ends, Positive}
+use Rattle.network.specs.Ends.{Positive}
 use Rattle.network.specs.Network.{Network}
 use Rattle.network.specs.Path.{leads, follow, pathLength}
-use Rattle.network.specs.Verdict.{firstRow, outside, loose, arcRows, commodityRows, itemRows}
-use Rattle.network.proofs.Accepted.{items-ends}
-use Rattle.method.specs.Choice.{Choice, choiceOf, words, endsAt, paths, candidates, sooner, least, choice}
+use Rattle.network.specs.Sound.{Sound}
+use Rattle.network.specs.Verdict.{firstRow, outside, loose, short, sizeRows, arcRows, commodityRows, itemRows, rows, verdict}
+use Rattle.network.specs.declared.Verdict.the-variants.{Accepted}
+use Rattle.network.proofs.Accepted.{accepted-sound}
+use Rattle.network.proofs.Sounds.{sound-ends}
+use Rattle.method.specs.Choice.{choiceOf, words, endsAt, paths, candidates, sooner, least, choice}
 use Rattle.method.specs.Chosen.{Chosen}
 use Rattle.method.proofs.Choosing.{chosen}
 
 -- Arcs 1 to 2, 2 to 3 and 1 to 3, and twice the commodity from 1 to 3.
-floor : Network
+pub floor : Network
 floor =
     record {
       nodes = 3;
@@ -40,9 +39,13 @@ tied : choice floor lengths ≡ some (choiceOf 0 (0 ∷ 1 ∷ []))
 unfolding floor lengths upFrom upTo flat keep leads follow bind pathLength words endsAt paths candidates sooner least choice
 tied = refl
 
-ends : Ends floor
-unfolding floor upFrom upTo flat firstRow outside loose arcRows commodityRows itemRows
-ends = items-ends floor [] refl
+-- The network is accepted at precision 4.
+accepted : verdict floor 4 (record { flow = 6; length = 3; answer = 7; count = 1 }) 0 ≡ Accepted
+unfolding floor upFrom upTo flat firstRow outside loose short sizeRows arcRows commodityRows itemRows rows verdict
+accepted = refl
+
+pub sound : Sound floor 4
+sound = accepted-sound floor 4 (record { flow = 6; length = 3; answer = 7; count = 1 }) 0 accepted .0
 
 positive : Positive floor lengths
 unfolding floor lengths
@@ -52,4 +55,4 @@ positive (suc (suc zero)) l = omega arith
 positive (suc (suc (suc e))) l = absurd (omega arith)
 
 tied-chosen : Chosen floor lengths (choiceOf 0 (0 ∷ 1 ∷ []))
-tied-chosen = chosen floor lengths ends positive (choiceOf 0 (0 ∷ 1 ∷ [])) tied
+tied-chosen = chosen floor lengths (sound-ends floor 4 sound) positive (choiceOf 0 (0 ∷ 1 ∷ [])) tied

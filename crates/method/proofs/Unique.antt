@@ -1,14 +1,14 @@
 -- Being Chosen determines the choice, so whatever has these properties is what the rule chooses.
 -- Assumes nothing.
-use mathlib.Core.Path.{_≡_, refl, sym, ap₂, subst, _∙_}
-use mathlib.Core.Option.{Option, some}
+use mathlib.Core.Path.{_≡_, sym, ap₂, subst}
+use mathlib.Core.Option.{some}
 use mathlib.Core.List.{List}
-use Prim.Native.Nat.{ℕ, _≤_, _<_}
+use Prim.Native.Nat.{ℕ, _<_}
 use native.Mathlib.Omega.{arith}
-use Rattle.arith.proofs.Trichotomy.{Compared, below, equal, above, compare}
+use Rattle.arith.proofs.Order.{Compared, below, equal, above, compare}
 use Rattle.network.specs.Ends.{Ends, Positive}
 use Rattle.network.specs.Network.{Network, source, sink}
-use Rattle.network.specs.Path.{Path, follow, pathLength}
+use Rattle.network.specs.Path.{Path}
 use Rattle.method.specs.Choice.{Choice, choiceOf, choice}
 use Rattle.method.specs.Chosen.{Chosen}
 use Rattle.method.specs.Order.{Before}

@@ -6,9 +6,10 @@ use mathlib.Core.List.{List, [], _∷_, map}
 use Prim.Native.Nat.{ℕ, zero, suc, _≤_, _<_}
 use native.Mathlib.Omega.{arith}
 use lib.ListN.{length}
-use Rattle.arith.specs.Member.{Member, first, later, no-member, first-or-later, only-member, map-member, member-map}
 use Rattle.arith.specs.Lists.{upTo, flat}
-use Rattle.arith.proofs.Members.{member-upTo, upTo-member, member-flat, flat-member}
+use Rattle.arith.specs.Member.{Member, first, later, no-member, first-or-later, only-member, map-member, member-map}
+use Rattle.arith.proofs.Members.{member-flat, flat-member}
+use Rattle.arith.proofs.Ranges.{member-upTo, upTo-member}
 use Rattle.arith.proofs.Sorted.{Sorted, empty, before, sorted-map, sorted-flat, sorted-upTo}
 use Rattle.method.specs.Choice.{words}
 use Rattle.method.specs.Order.{Before, ends, smaller, agrees}

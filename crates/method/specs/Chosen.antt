@@ -9,7 +9,8 @@ use Rattle.network.specs.Visited.{visited}
 use Rattle.method.specs.Choice.{Choice}
 use Rattle.method.specs.Order.{Before}
 
--- c is the choice by the lengths l. Paths here have any number of arcs.
+-- c is the choice by the lengths l, paths having any number of arcs. What the rule chooses is so (proofs/Choosing), and nothing else is
+-- (proofs/Unique).
 pub record Chosen (net : Network) (l : List ℕ) (c : Choice) : Type 0 where
   -- its commodity is one of the network's, and its path a path for that commodity
   pub commodity : c .commodity < commodities net

@@ -1,14 +1,14 @@
 -- Where an arc leads: from its tail to its head, and from nowhere else. All laws of paths rest on these.
 -- Assumes nothing.
-use mathlib.Core.Path.{_≡_, refl, sym, ap, subst}
+use mathlib.Core.Path.{_≡_, refl, subst}
 use mathlib.Core.Bool.{Bool, true, false, cond, _&&_}
-use mathlib.Core.Option.{Option, none, some, Option·none-ne-some, Option·some-injective}
-use Prim.Native.Nat.{ℕ, _≤_, _<_}
+use mathlib.Core.Option.{none, some, Option·none-ne-some, Option·some-injective}
+use Prim.Native.Nat.{ℕ, _<_}
 use lib.Dec.{ltb, eqb}
 use borrow.Author.Tests.{ltb-true, eqb-true, lt-ltb, eq-eqb}
+use Rattle.network.specs.Ends.{Node, Ends}
 use Rattle.network.specs.Network.{Network, arcs, tail, head}
 use Rattle.network.specs.Path.{leads}
-use Rattle.network.specs.Ends.{Node, Ends}
 
 both : (b c : Bool) (h w : ℕ) → cond (b && c) (some h) none ≡ some w → (b ≡ true) × (c ≡ true) × (h ≡ w)
 both true true h w e = (refl, refl, Option·some-injective h w e)

@@ -1,21 +1,20 @@
 -- A path visits no node twice, or has a loop that can be cut out.
 -- Assumes nothing.
-use mathlib.Core.Path.{_≡_, refl, ap}
+use mathlib.Core.Path.{_≡_, ap}
 use mathlib.Core.Logic.{_⊎_, inl, inr}
 use mathlib.Core.Option.{some}
 use mathlib.Core.List.{List, [], _∷_, _++_}
-use Prim.Native.Nat.{ℕ, suc, _+_, _≤_, _<_}
+use Prim.Native.Nat.{ℕ, _≤_}
 use native.Mathlib.Omega.{arith}
-use lib.ListN.{length, length-append}
-use Rattle.arith.specs.Member.{Member, no-member, member-left, member-right}
+use lib.ListN.{length}
 use Rattle.arith.specs.Distinct.{Distinct, empty, more}
+use Rattle.arith.specs.Member.{Member, no-member}
 use Rattle.arith.proofs.Members.{member-or-not}
-use Rattle.network.specs.Ends.{Positive}
 use Rattle.network.specs.Network.{Network}
-use Rattle.network.specs.Path.{leads, Path, pathLength}
+use Rattle.network.specs.Path.{leads, Path}
 use Rattle.network.specs.Visited.{visited}
-use Rattle.network.proofs.Paths.{path-step, path-cons, path-arcs, pathLength-append, length-le-pathLength}
-use Rattle.network.proofs.Nodes.{visited-cons, Parted, part}
+use Rattle.network.proofs.Parts.{Parted, part}
+use Rattle.network.proofs.Paths.{path-step, path-cons}
 
 -- A path with a loop: what comes before it, the loop, what comes after; without the loop it still leads to the same end.
 pub record Loop (net : Network) (v t : ℕ) (p : List ℕ) : Type 0 where
@@ -63,35 +62,3 @@ module _ (net : Network) where
       at-start w l k (inr r) m = inr (further v w t e p l r)
       at-start w l k (inl d) (inl m) = inr (returning v w t e p (part net w t v p k m))
       at-start w l k (inl d) (inr n) = inl (rw l (more n d))
-
-  module _ (v t : ℕ) (p : List ℕ) (r : Loop net v t p) where
-    -- Cutting the loop takes arcs away,
-    pub cut-fewer : length (r .front ++ r .back) < length p
-    cut-fewer = omega (arith, ap length (r .whole), length-append (r .front) (r .back), length-append (r .front) (r .loop ++ r .back), length-append (r .loop) (r .back), r .real)
-
-    whole-length : (l : List ℕ) → pathLength l p ≡ pathLength l (r .front ++ r .back) + pathLength l (r .loop)
-    whole-length l =
-        omega (
-          arith,
-          ap (pathLength l) (r .whole),
-          pathLength-append l (r .front) (r .back),
-          pathLength-append l (r .front) (r .loop ++ r .back),
-          pathLength-append l (r .loop) (r .back),
-        )
-
-    -- adds no length,
-    pub cut-no-longer : (l : List ℕ) → pathLength l (r .front ++ r .back) ≤ pathLength l p
-    cut-no-longer l = omega (arith, whole-length l)
-
-    -- and takes length away where every arc has some.
-    pub cut-shorter : (l : List ℕ) → Positive net l → Path net v t p → pathLength l (r .front ++ r .back) < pathLength l p
-    cut-shorter l pos h =
-        omega (
-          arith,
-          whole-length l,
-          r .real,
-          length-le-pathLength
-              l
-              (r .loop)
-              (λ e m. pos e (path-arcs net v t p h e (rw (r .whole) (member-right (r .front) (member-left (r .back) m))))),
-        )

@@ -2,9 +2,9 @@
 -- Assumes nothing.
 use mathlib.Core.Path.{_≡_, refl, sym, _∙_}
 use mathlib.Core.Logic.{⊎-elim}
-use mathlib.Core.Option.{Option, none, some, bind, bind-eq-some-iff}
+use mathlib.Core.Option.{Option, none, some, bind, bind-eq-some-iff, Option·some-injective}
 use mathlib.Core.List.{List, [], _∷_, _++_}
-use Prim.Native.Nat.{ℕ, suc, _+_, _≤_, _<_}
+use Prim.Native.Nat.{ℕ, _+_, _≤_, _<_}
 use native.Mathlib.Omega.{arith}
 use lib.ListN.{length, getD}
 use Rattle.arith.specs.Member.{Member, first, later, no-member, first-or-later}
@@ -31,6 +31,12 @@ module _ (net : Network) where
       (λ (q : e ≡ d). rw q (leads-some net v d (s .0) (s .1) .0))
       (λ (r : Member e p). path-arcs (s .0) t p (s .2) e r)
       (first-or-later m)
+
+  -- A path between different nodes has an arc.
+  pub path-some : (v t : ℕ) (p : List ℕ) → (v ≡ t → ⊥) → Path net v t p → 1 ≤ length p
+  unfolding follow
+  path-some v t [] apart h = absurd (apart (Option·some-injective v t h))
+  path-some v t (e ∷ p) apart h = omega arith
 
   -- Following one list of arcs after another.
   pub follow-append : (v : ℕ) (p q : List ℕ) → follow net v (p ++ q) ≡ bind (follow net v p) (λ w. follow net w q)

@@ -11,8 +11,9 @@ use Rattle.network.specs.Ends.{Node, Ends, Positive}
 use Rattle.network.specs.Network.{Network}
 use Rattle.network.specs.Path.{Path, pathLength}
 use Rattle.network.specs.Visited.{visited}
+use Rattle.network.proofs.Cuts.{cut-fewer, cut-no-longer, cut-shorter}
+use Rattle.network.proofs.Loops.{Loop, distinct-or-loop}
 use Rattle.network.proofs.Nodes.{distinct-path-few}
-use Rattle.network.proofs.Loops.{Loop, distinct-or-loop, cut-fewer, cut-no-longer, cut-shorter}
 
 -- One path serves for all lengths. It is shorter where p visits a node twice and every arc has a length of at least 1.
 pub record Shortcut (net : Network) (v t : ℕ) (p : List ℕ) : Type 0 where

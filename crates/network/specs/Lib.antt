@@ -1,5 +1,9 @@
+pub mod Ends
 pub mod Flow
 pub mod Network
+pub mod Parts
 pub mod Path
 pub mod Refusal
+pub mod Sound
 pub mod Verdict
+pub mod Visited

@@ -1,0 +1,69 @@
+-- `shifted` meets its contract. The invariant is `Shifted`: i limbs of self stand in r, each one place up.
+-- Assumes nothing.
+use Prim.Native.Nat.{_<_, _-_}
+use native.Mathlib.Numerals.{add-one}
+use native.Mathlib.Omega.{arith}
+use Rattle.arith.specs.Limbs.{width}
+use Rattle.arith.proofs.Shifts.{Shifted, shifted-start, shifted-step, shifted-end}
+use Rattle.arith.proofs.wide.Wide.shifted.Statement.{statement}
+use Rattle.arith.proofs.wide.Wide.shifted.Tie as tie
+
+abbrev Inv-loop : tie.InvT-loop
+Inv-loop x r₀ i₀ r i = (i < width) × Shifted x r i
+
+abbrev μ-loop : tie.MeasureT-loop
+μ-loop x r₀ i₀ r i = width - i
+
+loop-holds : tie.Need-loop-holds Inv-loop μ-loop
+loop-holds c = (omega arith, shifted-start _)
+
+add-loop : tie.Need-add-loop Inv-loop μ-loop
+add-loop c = omega arith
+
+mul-r : tie.Need-mul-r Inv-loop μ-loop
+mul-r c = omega arith
+
+array-read-r : tie.Need-array-read-r Inv-loop μ-loop
+array-read-r c = omega arith
+
+add-r : tie.Need-add-r Inv-loop μ-loop
+add-r c = omega arith
+
+mul-r-2 : tie.Need-mul-r-2 Inv-loop μ-loop
+mul-r-2 c = omega arith
+
+array-write-r : tie.Need-array-write-r Inv-loop μ-loop
+array-write-r c = omega arith
+
+add-i : tie.Need-add-i Inv-loop μ-loop
+add-i c = omega arith
+
+loop-less : tie.Need-loop-less Inv-loop μ-loop
+loop-less c = omega arith
+
+loop-again : tie.Need-loop-again Inv-loop μ-loop
+loop-again c =
+    (omega arith, rw add-one (shifted-step (c .before .before .before .pre .0) (omega arith) (c .before .loop .inv .1)))
+
+returns : tie.Need-returns Inv-loop μ-loop
+returns c =
+    let p = c .before .before .before .pre in
+    shifted-end (c .before .loop .inv .1) (p .0) (omega arith) (p .1)
+
+pub shifted-spec : {M : Type 1} → statement M
+shifted-spec =
+    tie.close
+    (tie.spec
+    Inv-loop
+    μ-loop
+    loop-holds
+    add-loop
+    mul-r
+    array-read-r
+    add-r
+    mul-r-2
+    array-write-r
+    add-i
+    loop-less
+    loop-again
+    returns)

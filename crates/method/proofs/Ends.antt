@@ -1,0 +1,175 @@
+-- The run ends by its own rule: each iteration draws the whole capacity of some arc, so the loads cannot all stay below the threshold.
+-- Assumes nothing.
+use mathlib.Core.Path.{_≡_, refl, sym, ap, subst, _∙_}
+use mathlib.Core.Bool.{Bool, true, false}
+use mathlib.Core.Logic.{⊎-elim}
+use mathlib.Core.List.{List}
+use mathlib.Core.Option.{Option, none, some, Option·none-ne-some}
+use Prim.Native.Nat.{ℕ, zero, suc, _+_, _*_, _-_, _≤_, _<_}
+use native.Mathlib.Nat.{mul-pos, le-refl, eq-or-lt-of-le}
+use native.Mathlib.Omega.{arith}
+use borrow.Author.Tests.{leb-true}
+use lib.Dec.{leb}
+use lib.ListN.{getD}
+use Rattle.arith.proofs.Exists.{exists-true}
+use Rattle.length.specs.Level.{level, threshold}
+use Rattle.network.specs.Network.{Network, arcs, capacity}
+use Rattle.network.specs.Sound.{Sound}
+use Rattle.packing.proofs.Count.{count-below}
+use Rattle.packing.proofs.Run as packing
+use Rattle.method.specs.Choice.{Choice, choice}
+use Rattle.method.specs.Ending.{Ending}
+use Rattle.method.specs.Iteration.{State, initial, advance, iteration}
+use Rattle.method.specs.Run.{ended, runs, run, nth}
+use Rattle.method.proofs.Instance.{seen, iterated}
+use Rattle.method.proofs.Joining.{none-by-any}
+use Rattle.method.proofs.Programs.{program}
+use Rattle.method.proofs.Reached.{Valid, Reached, valid-step, reached-start, not-ended, fair}
+
+-- An iteration from a state that was reached, at whose end some load is at the threshold.
+pub record Final (net : Network) (q : ℕ) (t : State) : Type 0 where
+  pub prior : State
+  pub reached : Reached net q prior
+  pub choosing : Choice
+  pub chosen : choice net (prior .lengths) ≡ some choosing
+  pub is : t ≡ advance net q choosing prior
+  pub full : ended net q t ≡ true
+  pub at : prior ≡ nth net q (prior .count)
+  pub before : (j : ℕ) → j ≤ prior .count → ended net q (nth net q j) ≡ false
+
+module _ (net : Network) (q : ℕ) (sound : Sound net q) (joined : (l : List ℕ) → (c : Choice) × (choice net l ≡ some c)) where
+  iteration-some : (s : State) (c : Choice) → choice net (s .lengths) ≡ some c → iteration net q s ≡ advance net q c s
+  unfolding iteration
+  iteration-some s c h = rw (h, iteration) refl
+
+  -- Below the threshold the run has not ended.
+  open-ended : (s : State) → Reached net q s → ended net q s ≡ false
+  unfolding ended threshold seen
+  open-ended s r = by-test (ended net q s) refl
+    where
+      by-test : (t : Bool) → ended net q s ≡ t → t ≡ false
+      by-test false h = refl
+      by-test true h =
+          let w = exists-true (arcs net) (λ e. leb (q * level (arcs net) q * capacity net e) (getD (s .loads) e 0)) h in
+          absurd
+          (omega (
+            arith,
+            leb-true (q * level (arcs net) q * capacity net (w .0)) (getD (s .loads) (w .0) 0) (w .2),
+            r .below (w .0) (w .1),
+          ))
+
+  -- The next state's count, and its place among the states.
+  next-count : (s : State) → iteration net q s .count ≡ suc (s .count)
+  unfolding advance
+  next-count s = let c = joined (s .lengths) in ap (λ t. t .count) (iteration-some s (c .0) (c .1))
+
+  next-at : (s : State) → s ≡ nth net q (s .count) → iteration net q s ≡ nth net q (iteration net q s .count)
+  unfolding nth
+  next-at s at = ap (iteration net q) at ∙ ap (nth net q) (sym (next-count s))
+
+  next-valid : (s : State) → Valid net q s → Valid net q (iteration net q s)
+  next-valid s v =
+      let c = joined (s .lengths) in
+      rw (iteration-some s (c .0) (c .1)) (valid-step net q sound s v (c .0) (c .1))
+
+  -- States 0 to the count of s have not ended the run.
+  abbrev Open : State → Type 0
+  Open s = (j : ℕ) → j ≤ s .count → ended net q (nth net q j) ≡ false
+
+  next-open : (s : State) → s ≡ nth net q (s .count) → Open s → ended net q (iteration net q s) ≡ false → Open (iteration net q s)
+  next-open s at before h j l =
+      ⊎-elim
+      (λ (e : j ≡ iteration net q s .count). rw (e, ← (next-at s at)) h)
+      (λ (b : j < iteration net q s .count). before j (omega (arith, next-count s)))
+      (eq-or-lt-of-le l)
+
+  ends :
+      (n : ℕ) (s : State) → Reached net q s → s ≡ nth net q (s .count) → Open s → arcs net * (q * level (arcs net) q - 1) < s .count + n →
+      Final net q (runs net q n s)
+  unfolding runs seen
+  ends zero s r at before h = absurd (omega (arith, count-below (program net q sound) (r .valid .run) (r .below)))
+  ends (suc n) s r at before h = by-test (ended net q t) refl (ends n t)
+    where
+      t : State
+      t = iteration net q s
+
+      by-test :
+          (b : Bool) → ended net q t ≡ b →
+          (Reached net q t → t ≡ nth net q (t .count) → Open t → arcs net * (q * level (arcs net) q - 1) < t .count + n →
+          Final net q (runs net q n t)) → Final net q (elim b [ true ↦ t | false ↦ runs net q n t ])
+      by-test true e rest =
+          let c = joined (s .lengths) in
+          record {
+            prior = s;
+            reached = r;
+            choosing = c .0;
+            chosen = c .1;
+            is = iteration-some s (c .0) (c .1);
+            full = e;
+            at = at;
+            before = before;
+          }
+      by-test false e rest =
+          rest
+          (record { valid = next-valid s (r .valid); below = not-ended net q sound t e })
+          (next-at s at)
+          (next-open s at before e)
+          (omega (arith, next-count s))
+
+  start-open : Open (initial net)
+  unfolding initial nth
+  start-open j l =
+      let z : j ≡ 0 = omega arith in
+      rw z (open-ended (initial net) (reached-start net q sound))
+
+  -- m * T iterations are more than enough.
+  enough : arcs net * (q * level (arcs net) q - 1) < 0 + arcs net * (q * level (arcs net) q)
+  enough =
+      let p = program net q sound in
+      let coarse : 0 < q = omega (arith, p .precision-low) in
+      omega (arith, ap (λ x. arcs net * x) (less-one (q * level (arcs net) q) (mul-pos coarse (p .level))), p .resources-low)
+    where
+      less-one : (n : ℕ) → 0 < n → n ≡ n - 1 + 1
+      less-one n h = omega arith
+
+  start-at : initial net ≡ nth net q (initial net .count)
+  unfolding initial nth
+  start-at = refl
+
+  start-enough : arcs net * (q * level (arcs net) q - 1) < initial net .count + arcs net * (q * level (arcs net) q)
+  unfolding initial
+  start-enough = enough
+
+  -- The whole run ends so.
+  pub run-final : Final net q (run net q)
+  unfolding run threshold
+  run-final = ends (arcs net * (q * level (arcs net) q)) (initial net) (reached-start net q sound) start-at start-open start-enough
+
+  final-count : (t : State) (f : Final net q t) → t .count ≡ suc (f .prior .count)
+  unfolding advance
+  final-count t f = ap (λ t. t .count) (f .is)
+
+  final-at : (t : State) (f : Final net q t) → t ≡ nth net q (t .count)
+  unfolding nth
+  final-at t f =
+      f .is ∙
+      (sym (iteration-some (f .prior) (f .choosing) (f .chosen)) ∙ (ap (iteration net q) (f .at) ∙ ap (nth net q) (sym (final-count t f))))
+
+  final-few : (t : State) (f : Final net q t) → t .count ≤ arcs net * (q * level (arcs net) q - 1) + 1
+  unfolding seen
+  final-few t f =
+      omega (
+        arith,
+        final-count t f,
+        count-below (program net q sound) (f .reached .valid .run) (f .reached .below),
+      )
+
+  pub run-ends : Ending net q
+  unfolding threshold
+  run-ends =
+      record {
+        steps = final-at (run net q) run-final;
+        last = run-final .full;
+        before = λ j l. run-final .before j (omega (arith, final-count (run net q) run-final));
+        few = final-few (run net q) run-final;
+      }

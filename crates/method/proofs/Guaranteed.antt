@@ -1,0 +1,160 @@
+-- The outcome of every accepted network, joined or not, meets the guarantee.
+-- Assumes nothing.
+use mathlib.Core.Path.{_≡_, refl, sym, ap, subst, _∙_}
+use mathlib.Core.Bool.{Bool, true, false}
+use mathlib.Core.List.{List}
+use mathlib.Core.Option.{Option, none, some, Option·none-ne-some}
+use Prim.Native.Nat.{ℕ, zero, suc, _+_, _*_, _-_, _≤_, _<_}
+use native.Mathlib.Nat.{mul-pos, mul-le-mul-right, le-of-mul-le-mul-left}
+use native.Mathlib.Omega.{arith}
+use borrow.Author.Tests.{leb-true}
+use lib.Dec.{leb}
+use lib.ListN.{getD, replicate}
+use Rattle.arith.proofs.Exists.{exists-true}
+use Rattle.length.specs.Level.{level, threshold}
+use Rattle.network.specs.Network.{Network, arcs, commodities, capacity}
+use Rattle.network.specs.Path.{Joined}
+use Rattle.network.specs.Flow.{Flow, Keeps, Carries, AtMost, loadOf}
+use Rattle.network.specs.Sound.{Sound}
+use Rattle.network.proofs.Sounds.{sound-ends}
+use Rattle.network.proofs.Duality.{Bounds}
+use Rattle.packing.proofs.Count.{count-all}
+use Rattle.packing.proofs.Near.{near, near-two}
+use Rattle.packing.proofs.Health.{positive-alpha}
+use Rattle.packing.proofs.Run as packing
+use Rattle.method.specs.Answer.{Outcome, amounts, fullest, unjoined, outcomeOf, outcome}
+use Rattle.method.specs.Choice.{Choice, choice}
+use Rattle.method.specs.Guarantee.{Guarantee}
+use Rattle.method.specs.Iteration.{State, initial, advance}
+use Rattle.method.specs.Run.{ended, run}
+use Rattle.method.proofs.Bound.{bounded, unjoined-bounded}
+use Rattle.method.proofs.Ends.{Final, run-final, run-ends}
+use Rattle.method.proofs.Fullest.{Fullest, is-fullest}
+use Rattle.method.proofs.Instance.{seen, iterated}
+use Rattle.method.proofs.Joining.{choice-none, none-by-any}
+use Rattle.method.proofs.Programs.{program}
+use Rattle.method.proofs.Reached.{Best, unset, kept, Valid, Reached, valid-step, fair}
+use Rattle.method.proofs.Table.{zero-flow, zero-carries, zero-load}
+
+-- T * ce ≤ ye and ye / ce ≤ yb / cb give T * cb ≤ yb.
+ratio-le : (T ce cb ye yb : ℕ) → 0 < ce → T * ce ≤ ye → ye * cb ≤ yb * ce → T * cb ≤ yb
+ratio-le T ce cb ye yb pos h k = le-of-mul-le-mul-left {k = ce} (omega (arith, mul-le-mul-right cb h)) pos
+
+-- What chooses by some lengths chooses by any.
+pub always : (net : Network) (m : List ℕ) (c : Choice) → choice net m ≡ some c → (l : List ℕ) → (d : Choice) × (choice net l ≡ some d)
+always net m c h l = by-choice (choice net l) refl
+  where
+    by-choice : (o : Option Choice) → choice net l ≡ o → (d : Choice) × (choice net l ≡ some d)
+    by-choice none k = absurd (Option·none-ne-some c (sym (none-by-any net l m k) ∙ h))
+    by-choice (some d) k = (d, k)
+
+module _ (net : Network) (q : ℕ) (sound : Sound net q) where
+  -- The fullest arc is at the threshold where some arc is.
+  fullest-full :
+      (s : State) → ended net q s ≡ true → (b : ℕ) → Fullest (net .capacities) (s .loads) (arcs net - 1) b →
+      q * level (arcs net) q * capacity net b ≤ getD (s .loads) b 0
+  unfolding ended threshold
+  fullest-full s h b f =
+      let w = exists-true (arcs net) (λ e. leb (q * level (arcs net) q * capacity net e) (getD (s .loads) e 0)) h in
+      let e : ℕ = w .0 in
+      let l : e < arcs net = w .1 in
+      ratio-le (q * level (arcs net) q) (capacity net e) (capacity net b) (getD (s .loads) e 0) (getD (s .loads) b 0)
+      (sound .arc-capacity e l .least)
+      (leb-true (q * level (arcs net) q * capacity net e) (getD (s .loads) e 0) (w .2))
+      (f .greatest e (omega arith))
+
+  module _ (t : State) (f : Final net q t) where
+    valid : Valid net q t
+    valid = rw (f .is) (valid-step net q sound (f .prior) (f .reached .valid) (f .choosing) (f .chosen))
+
+    step : packing.Iteration (arcs net) q (capacity net) (seen (f .prior)) (seen t)
+    step = rw (f .is) (iterated net q (f .choosing) (f .prior) (fair net q sound (f .prior) (f .reached .valid) (f .choosing) (f .chosen)))
+
+    abbrev b : ℕ
+    b = fullest (net .capacities) (t .loads) (arcs net - 1)
+
+    full : Fullest (net .capacities) (t .loads) (arcs net - 1) b
+    full = is-fullest (net .capacities) (t .loads) (arcs net - 1) (λ e l. sound .arc-capacity e (omega (arith, sound .counts .of-arcs .least)) .least)
+
+    inside : b < arcs net
+    inside = omega (arith, full .among, sound .counts .of-arcs .least)
+
+    at-mark : q * level (arcs net) q * capacity net b ≤ getD (t .loads) b 0
+    at-mark = fullest-full t (f .full) b full
+
+    loaded : 0 < getD (t .loads) b 0
+    loaded =
+        let p = program net q sound in
+        let coarse : 0 < q = omega (arith, p .precision-low) in
+        omega (arith, at-mark, mul-pos (mul-pos coarse (p .level)) (p .capacity-low b inside))
+
+    alpha-pos : 0 < t .alpha
+    unfolding seen
+    alpha-pos = positive-alpha (program net q sound) (f .reached .valid .run) step
+
+    upper : (d : ℕ) (g : ℕ → ℕ → ℕ) → Flow net g → Keeps net d g → AtMost net g d (t .bound) (t .alpha)
+    upper = by-best (valid .best)
+      where
+        by-best : Best net (t .bound) (t .alpha) (t .bestLengths) → Bounds net (t .bound) (t .alpha)
+        by-best (unset e z) = absurd (omega (arith, alpha-pos))
+        by-best (kept e far) = rw e (bounded net (sound-ends net q sound) (t .bestLengths) (t .alpha) far)
+
+    near-by : (8 * q - 9) * (t .bound * getD (t .loads) b 0) ≤ (8 * q + 5) * (t .total * capacity net b * t .alpha)
+    unfolding seen
+    near-by = near (program net q sound) (f .reached .valid .run) (f .reached .below) step b inside at-mark
+
+    near-enough : (q - 2) * (t .bound * getD (t .loads) b 0) ≤ q * (t .total * capacity net b * t .alpha)
+    unfolding seen
+    near-enough = near-two (program net q sound) (f .reached .valid .run) (f .reached .below) step b inside at-mark
+
+    few : t .count ≤ arcs net * threshold (arcs net) q
+    unfolding seen threshold
+    few = count-all (program net q sound) (f .reached .valid .run) (f .reached .below) step
+
+    final-guarantee : Guarantee net q (outcomeOf net t)
+    unfolding outcomeOf
+    final-guarantee =
+        record {
+          flow = valid .table .flows;
+          total = valid .table .carries;
+          capacities = λ e l.
+              omega (
+                arith,
+                ap (λ y. y * capacity net b) (valid .table .sums e l),
+                full .greatest e (omega arith),
+              );
+          scale = loaded;
+          upper = upper;
+          fraction = alpha-pos;
+          near = near-enough;
+          nearer = near-by;
+          count = few;
+        }
+
+  -- No commodity is joined: nothing is carried, and nothing can be.
+  unjoined-guarantee : choice net (initial net .lengths) ≡ none → Guarantee net q (unjoined net)
+  unfolding unjoined
+  unjoined-guarantee h =
+      record {
+        flow = zero-flow net (commodities net * arcs net);
+        total = zero-carries net (commodities net * arcs net);
+        capacities = λ e l. omega (arith, zero-load net (commodities net * arcs net) e);
+        scale = omega arith;
+        upper =
+            unjoined-bounded net (sound-ends net q sound)
+            (λ i l j. choice-none net (sound-ends net q sound) (initial net .lengths) i l j h);
+        fraction = omega arith;
+        near = omega arith;
+        nearer = omega arith;
+        count = omega arith;
+      }
+
+  pub guarantee : Guarantee net q (outcome net q)
+  unfolding outcome
+  guarantee = by-choice (choice net (initial net .lengths)) refl
+    where
+      by-choice :
+          (o : Option Choice) → choice net (initial net .lengths) ≡ o →
+          Guarantee net q (elim o [ none ↦ unjoined net | some c ↦ outcomeOf net (run net q) ])
+      by-choice none h = unjoined-guarantee h
+      by-choice (some c) h = final-guarantee (run net q) (run-final net q sound (always net (initial net .lengths) c h))

@@ -1,0 +1,50 @@
+-- Two arcs of capacity 1, both from node 1 to node 2, with one commodity and the amount 1 on each arc: the network of the worked bounds.
+-- Assumes nothing.
+use mathlib.Core.Path.{_≡_, refl}
+use mathlib.Core.List.{List, [], _∷_}
+use Prim.Native.Nat.{ℕ, zero, suc, _+_, _≤_, _<_}
+use native.Mathlib.Omega.{arith}
+use lib.ListN.{getD}
+use Rattle.arith.specs.Sum.{sum}
+use Rattle.network.specs.Network.{Network}
+use Rattle.network.specs.Flow.{Flow, Keeps, loadOf}
+use Rattle.network.specs.Ends.{Ends}
+
+-- x for both arcs: their tails, heads, capacities or lengths
+abbrev pub both : ℕ → List ℕ
+both x = x ∷ x ∷ []
+
+-- The commodity goes from s to t.
+abbrev pub net : ℕ → ℕ → Network
+net s t = record { nodes = 2; tails = both 1; heads = both 2; capacities = both 1; sources = s ∷ []; sinks = t ∷ [] }
+
+-- 1 on each arc
+unfoldable pub ones : ℕ → ℕ → ℕ
+ones i e = 1
+
+pub arc-at : (x e : ℕ) → e < 2 → getD (both x) e 0 ≡ x
+arc-at x zero b = refl
+arc-at x (suc zero) b = refl
+arc-at x (suc (suc e)) b = omega arith
+
+commodity-at : (x i : ℕ) → i < 1 → getD (x ∷ []) i 0 ≡ x
+commodity-at x zero b = refl
+commodity-at x (suc i) b = omega arith
+
+module _ (s t : ℕ) where
+  pub ends : 1 ≤ s → 1 ≤ t → s + t ≡ 3 → Ends (net s t)
+  ends ls lt h =
+      record {
+        tails = λ e b. omega (arith, arc-at 1 e b);
+        heads = λ e b. omega (arith, arc-at 2 e b);
+        sources = λ i b. omega (arith, commodity-at s i b);
+        sinks = λ i b. omega (arith, commodity-at t i b);
+        apart = λ i b q. omega (arith, commodity-at s i b, commodity-at t i b);
+      }
+
+  pub flow : 1 ≤ s → 1 ≤ t → s + t ≡ 3 → Flow (net s t) ones
+  flow ls lt e = record { balance = λ i v b low high ns nt. omega (arith, commodity-at s i b, commodity-at t i b) }
+
+  pub keeps : Keeps (net s t) 1 ones
+  unfolding ones loadOf sum
+  keeps = record { within = λ e b. omega (arith, arc-at 1 e b) }

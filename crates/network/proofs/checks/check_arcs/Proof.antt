@@ -1,0 +1,110 @@
+-- `network::checks::check_arcs` meets its contract: the search from the present arc on finds what the whole search finds.
+-- Assumes nothing.
+use mathlib.Core.Path.{_≡_, ap, _∙_}
+use Prim.Native.Nat.{_-_}
+use native.Mathlib.Omega.{arith}
+use lib.ListN.{length}
+use borrow.Author.Needs.{needs}
+use Rattle.arith.specs.Lists.{upTo, flat}
+use Rattle.network.specs.Network.{Network, tail, head, capacity}
+use Rattle.network.specs.Parts.{ofArcs}
+use Rattle.network.specs.Verdict.{firstRow, loose, outside, arcRows}
+use Rattle.network.proofs.Bounds.{loose-of}
+use Rattle.network.proofs.FirstRow.{row-decides, row-passed, none-left}
+use Rattle.network.proofs.Search.{found, search-all, search-ends, search-stops, search-goes-on}
+use Rattle.network.proofs.checks.check_arcs.Statement.{statement}
+use Rattle.network.proofs.checks.check_arcs.Tie as tie
+
+abbrev Inv-loop : tie.InvT-loop
+Inv-loop n tails heads capacities e₀ e =
+    found (arcRows (ofArcs n tails heads capacities)) e (length tails) ≡ firstRow (flat (arcRows (ofArcs n tails heads capacities)) (upTo (length tails)))
+
+abbrev μ-loop : tie.MeasureT-loop
+μ-loop n tails heads capacities e₀ e = length tails - e
+
+-- the network, and the present arc's two tests as the definition has them
+abbrev net : tie.At-loop Inv-loop μ-loop → Network
+net c =
+    let args = c .before .before .before .before .args in
+    ofArcs (args .n) (args .tails .now) (args .heads .now) (args .capacities .now)
+
+abbrev turn : tie.After-loose Inv-loop μ-loop → tie.At-loop Inv-loop μ-loop
+turn c = c .before .before .before .before
+
+loose-tested : (c : tie.After-loose Inv-loop μ-loop) →
+    c .loose .result ≡ loose (net (turn c) .nodes) (tail (net (turn c)) (turn c .loop .e)) (head (net (turn c)) (turn c .loop .e))
+loose-tested c = loose-of _ (c .loose .ensures) (c .before .before .at .ensures) (c .before .at2 .ensures)
+
+capacity-tested : (c : tie.After-outside Inv-loop μ-loop) →
+    c .outside .result ≡ outside 1 1000 (capacity (net (turn (c .before .before .before))) (turn (c .before .before .before) .loop .e))
+capacity-tested c = c .outside .ensures ∙ ap (outside 1 1000) (c .before .at3 .ensures)
+
+loop-holds : tie.Need-loop-holds Inv-loop μ-loop
+loop-holds c = search-all _ _
+
+add-place : tie.Need-add-place Inv-loop μ-loop
+add-place c = omega arith
+
+at-requires : tie.Need-at-requires Inv-loop μ-loop
+at-requires c κs = search needs
+
+at-requires-2 : tie.Need-at-requires-2 Inv-loop μ-loop
+at-requires-2 c κs = search needs
+
+loose-requires : tie.Need-loose-requires Inv-loop μ-loop
+loose-requires c κs = search needs
+
+at-requires-3 : tie.Need-at-requires-3 Inv-loop μ-loop
+at-requires-3 c κs = search needs
+
+outside-requires : tie.Need-outside-requires Inv-loop μ-loop
+outside-requires c κs = search needs
+
+add-e : tie.Need-add-e Inv-loop μ-loop
+add-e c = omega arith
+
+loop-less : tie.Need-loop-less Inv-loop μ-loop
+loop-less c = omega arith
+
+loop-again : tie.Need-loop-again Inv-loop μ-loop
+unfolding arcRows
+loop-again c =
+    search-goes-on _ _ _ (omega arith)
+    (row-passed _ _ (loose-tested (c .before .before .before .before)) (c .before .before .before .if2 .left)
+    (row-passed _ _ (capacity-tested (c .before)) (c .if3 .left) none-left)) ∙
+    c .before .before .before .before .before .before .before .before .loop .inv
+
+returns : tie.Need-returns Inv-loop μ-loop
+returns c = search-ends _ _ _ (c .if1 .taken) ∙ c .before .loop .inv
+
+returns-2 : tie.Need-returns-2 Inv-loop μ-loop
+unfolding arcRows
+returns-2 c = search-stops _ _ _ (omega arith) (row-decides _ (loose-tested (c .before)) (c .if2 .taken)) ∙ c .before .before .before .before .before .loop .inv
+
+returns-3 : tie.Need-returns-3 Inv-loop μ-loop
+unfolding arcRows
+returns-3 c =
+    search-stops _ _ _ (omega arith)
+    (row-passed _ _ (loose-tested (c .before .before .before .before)) (c .before .before .before .if2 .left)
+    (row-decides _ (capacity-tested (c .before)) (c .if3 .taken))) ∙
+    c .before .before .before .before .before .before .before .before .loop .inv
+
+pub check-arcs-spec : {M : Type 1} → statement M
+check-arcs-spec =
+    tie.close
+    (tie.spec
+    Inv-loop
+    μ-loop
+    loop-holds
+    add-place
+    at-requires
+    at-requires-2
+    loose-requires
+    at-requires-3
+    outside-requires
+    add-e
+    loop-less
+    loop-again
+    returns
+    returns-2
+    returns-3)

@@ -1,0 +1,87 @@
+-- `network::checks::check_commodities` meets its contract: the search from the present commodity on finds what the whole search finds.
+-- Assumes nothing.
+use mathlib.Core.Path.{_≡_, _∙_}
+use Prim.Native.Nat.{_-_}
+use native.Mathlib.Omega.{arith}
+use lib.ListN.{length}
+use borrow.Author.Needs.{needs}
+use Rattle.arith.specs.Lists.{upTo, flat}
+use Rattle.network.specs.Network.{Network, source, sink}
+use Rattle.network.specs.Parts.{ofCommodities}
+use Rattle.network.specs.Verdict.{firstRow, loose, commodityRows}
+use Rattle.network.proofs.Bounds.{loose-of}
+use Rattle.network.proofs.FirstRow.{row-decides, row-passed, none-left}
+use Rattle.network.proofs.Search.{found, search-all, search-ends, search-stops, search-goes-on}
+use Rattle.network.proofs.checks.check_commodities.Statement.{statement}
+use Rattle.network.proofs.checks.check_commodities.Tie as tie
+
+abbrev Inv-loop : tie.InvT-loop
+Inv-loop n sources sinks i₀ i =
+    found (commodityRows (ofCommodities n sources sinks)) i (length sources) ≡
+    firstRow (flat (commodityRows (ofCommodities n sources sinks)) (upTo (length sources)))
+
+abbrev μ-loop : tie.MeasureT-loop
+μ-loop n sources sinks i₀ i = length sources - i
+
+-- the network, and the present commodity's test as the definition has it
+abbrev net : tie.At-loop Inv-loop μ-loop → Network
+net c =
+    let args = c .before .before .before .args in
+    ofCommodities (args .n) (args .sources .now) (args .sinks .now)
+
+abbrev turn : tie.After-loose Inv-loop μ-loop → tie.At-loop Inv-loop μ-loop
+turn c = c .before .before .before .before
+
+loose-tested : (c : tie.After-loose Inv-loop μ-loop) →
+    c .loose .result ≡ loose (net (turn c) .nodes) (source (net (turn c)) (turn c .loop .i)) (sink (net (turn c)) (turn c .loop .i))
+loose-tested c = loose-of _ (c .loose .ensures) (c .before .before .at .ensures) (c .before .at2 .ensures)
+
+loop-holds : tie.Need-loop-holds Inv-loop μ-loop
+loop-holds c = search-all _ _
+
+add-place : tie.Need-add-place Inv-loop μ-loop
+add-place c = omega arith
+
+at-requires : tie.Need-at-requires Inv-loop μ-loop
+at-requires c κs = search needs
+
+at-requires-2 : tie.Need-at-requires-2 Inv-loop μ-loop
+at-requires-2 c κs = search needs
+
+loose-requires : tie.Need-loose-requires Inv-loop μ-loop
+loose-requires c κs = search needs
+
+add-i : tie.Need-add-i Inv-loop μ-loop
+add-i c = omega arith
+
+loop-less : tie.Need-loop-less Inv-loop μ-loop
+loop-less c = omega arith
+
+loop-again : tie.Need-loop-again Inv-loop μ-loop
+unfolding commodityRows
+loop-again c =
+    search-goes-on _ _ _ (omega arith) (row-passed _ _ (loose-tested (c .before)) (c .if2 .left) none-left) ∙ turn (c .before) .loop .inv
+
+returns : tie.Need-returns Inv-loop μ-loop
+returns c = search-ends _ _ _ (c .if1 .taken) ∙ c .before .loop .inv
+
+returns-2 : tie.Need-returns-2 Inv-loop μ-loop
+unfolding commodityRows
+returns-2 c = search-stops _ _ _ (omega arith) (row-decides _ (loose-tested (c .before)) (c .if2 .taken)) ∙ turn (c .before) .loop .inv
+
+pub check-commodities-spec : {M : Type 1} → statement M
+check-commodities-spec =
+    tie.close
+    (tie.spec
+    Inv-loop
+    μ-loop
+    loop-holds
+    add-place
+    at-requires
+    at-requires-2
+    loose-requires
+    add-i
+    loop-less
+    loop-again
+    returns
+    returns-2)

@@ -1,0 +1,36 @@
+-- `network::checks::loose` meets its contract: its "or" of three tests is the definition's.
+-- Assumes nothing.
+use mathlib.Core.Path.{_≡_, sym, _∙_}
+use mathlib.Core.Bool.{_||_}
+use mathlib.Core.Logic.{⊎-elim}
+use borrow.Author.Needs.{needs}
+use Rattle.network.specs.Verdict.{outside, loose}
+use Rattle.network.proofs.Or.{or-stop, or-on}
+use Rattle.network.proofs.checks.loose.Statement.{statement}
+use Rattle.network.proofs.checks.loose.Tie as tie
+
+outside-requires : tie.Need-outside-requires
+outside-requires c κs = search needs
+
+outside-requires-2 : tie.Need-outside-requires-2
+outside-requires-2 c κs = search needs
+
+-- the first two tests, where their ways meet
+ends : (c : tie.Joined1) →
+    c .if1 .if2 ≡ outside 1 (c .before .before .args .n) (c .before .before .args .a) || outside 1 (c .before .before .args .n) (c .before .before .args .b)
+ends c =
+    ⊎-elim
+    (λ w. or-stop _ (c .before .outside .ensures) (w .0 .taken) (w .1))
+    (λ w. or-on (c .before .outside .ensures) (w .0 .left) (w .2 ∙ w .1 .ensures))
+    (c .if1 .came)
+
+returns : tie.Need-returns
+unfolding loose
+returns c = simp (sym (ends (c .before)), c .if2 .taken)
+
+returns-2 : tie.Need-returns-2
+unfolding loose
+returns-2 c = simp (sym (ends (c .before)), c .if2 .left)
+
+pub loose-spec : {M : Type 1} → statement M
+loose-spec = tie.close (tie.spec outside-requires outside-requires-2 returns returns-2)
