@@ -21,9 +21,11 @@ use Rattle.method.specs.Choice.{Choice, choice}
 use Rattle.method.specs.Ending.{Ending}
 use Rattle.method.specs.Iteration.{State, initial, advance, iteration}
 use Rattle.method.specs.Run.{ended, runs, run, nth}
+use Rattle.method.specs.Sizes.{Sizes}
 use Rattle.method.proofs.Instance.{seen, iterated}
 use Rattle.method.proofs.Joining.{none-by-any}
 use Rattle.method.proofs.Programs.{program}
+use Rattle.method.proofs.Sized.{reached-sizes, next-sizes}
 use Rattle.method.proofs.Reached.{Valid, Reached, valid-step, reached-start, not-ended, fair}
 
 -- An iteration from a state that was reached, at whose end some load is at the threshold.
@@ -116,6 +118,16 @@ module _ (net : Network) (q : ℕ) (sound : Sound net q) (joined : (l : List ℕ
           (next-open s at before e)
           (omega (arith, next-count s))
 
+  -- A state before which the run has not ended is reached.
+  reached-nth : (j : ℕ) → ((i : ℕ) → i ≤ j → ended net q (nth net q i) ≡ false) → Reached net q (nth net q j)
+  unfolding nth
+  reached-nth zero h = reached-start net q sound
+  reached-nth (suc j) h =
+      record {
+        valid = next-valid (nth net q j) (reached-nth j (λ i l. h i (omega arith)) .valid);
+        below = not-ended net q sound (iteration net q (nth net q j)) (h (suc j) (le-refl (suc j)));
+      }
+
   start-open : Open (initial net)
   unfolding initial nth
   start-open j l =
@@ -173,3 +185,13 @@ module _ (net : Network) (q : ℕ) (sound : Sound net q) (joined : (l : List ℕ
         before = λ j l. run-final .before j (omega (arith, final-count (run net q) run-final));
         few = final-few (run net q) run-final;
       }
+
+  -- Every state of the run is of the sizes that a program's words hold.
+  pub run-sizes : (j : ℕ) → j ≤ run net q .count → Sizes net (nth net q j)
+  unfolding nth
+  run-sizes zero l = reached-sizes net q sound (initial net) (reached-start net q sound)
+  run-sizes (suc j) l =
+      let s : State = nth net q j in
+      let c = joined (s .lengths) in
+      let r = reached-nth j (λ i b. run-ends .before i (omega arith)) in
+      rw (iteration-some s (c .0) (c .1)) (next-sizes net q sound s r (c .0) (c .1))

@@ -117,7 +117,7 @@ module _ (net : Network) (q : ℕ) (c : Choice) (s : State) (fair : Fair net q (
   abbrev l : ℕ → ℕ
   l e = getD (s .lengths) e 0
 
-  column : packing.Column m (capacity net) l y g (pathLength (s .lengths) (c .path))
+  pub column : packing.Column m (capacity net) l y g (pathLength (s .lengths) (c .path))
   column =
       record {
         within = λ e b. drawn-within (times e (c .path)) g (capacity net e) (fair .once e) (draw-within (net .capacities) (c .path) e);
@@ -135,7 +135,7 @@ module _ (net : Network) (q : ℕ) (c : Choice) (s : State) (fair : Fair net q (
   abbrev after : List ℕ
   after = grown net q g (c .path) (s .lengths)
 
-  after-at : (e : ℕ) → e < m → getD after e 0 ≡ packing.grown q (capacity net) l y e
+  pub after-at : (e : ℕ) → e < m → getD after e 0 ≡ packing.grown q (capacity net) l y e
   after-at e b =
       grown-at net q g (c .path) (s .lengths) e (rw (fair .lengths) b) (fair .once e)
       (mul-pos (fair .coarse) (fair .positive e b))

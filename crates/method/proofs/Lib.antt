@@ -22,6 +22,7 @@ pub mod Orders
 pub mod Programs
 pub mod Reached
 pub mod Shortest
+pub mod Sized
 pub mod Table
 pub mod Through
 pub mod Tied

@@ -6,3 +6,4 @@ pub mod Guarantee
 pub mod Iteration
 pub mod Order
 pub mod Run
+pub mod Sizes
