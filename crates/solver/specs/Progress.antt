@@ -1,0 +1,58 @@
+-- The tables and numbers of a run as the method's state, and what one step asks of them.
+use mathlib.Core.Path.{_≡_}
+use mathlib.Core.Bool.{Bool, cond}
+use mathlib.Core.List.{List, []}
+use Prim.Native.Nat.{ℕ, _+_, _*_, _^_, _≤_, _<_}
+use lib.ListN.{length, getD}
+use Rattle.length.specs.Length.{growth}
+use Rattle.network.specs.Network.{Network}
+use Rattle.network.specs.Path.{pathLength}
+use Rattle.method.specs.Iteration.{State, draw, update}
+use Rattle.solver.specs.declared.steps.Progress.{Progress}
+use Rattle.solver.specs.Calls.{Growing, Weighing, Adding}
+use Rattle.solver.specs.Tables.{Under}
+
+-- The state that the tables and the numbers hold.
+abbrev pub stateOf : List ℕ → List ℕ → List ℕ → List ℕ → Progress → State
+stateOf lengths flow loads kept p =
+    record {
+      lengths = lengths;
+      flow = flow;
+      loads = loads;
+      total = p .total;
+      count = p .count;
+      bound = p .bound;
+      alpha = p .alpha;
+      best = p .best;
+      bestLengths = kept;
+    }
+
+-- A network with these capacities, of which nothing else is said: all that a step depends on.
+abbrev pub ofCapacities : List ℕ → Network
+ofCapacities capacities = record { nodes = 0; tails = capacities; heads = []; capacities = capacities; sources = []; sinks = [] }
+
+-- The numbers after an iteration with draw g and fraction d / a, which is better than the least so far or not.
+abbrev pub counted : Progress → ℕ → Bool → ℕ → ℕ → Progress
+counted p g better d a =
+    record {
+      total = p .total + g;
+      count = p .count + 1;
+      bound = cond better d (p .bound);
+      alpha = cond better a (p .alpha);
+      best = cond better (p .count + 1) (p .best);
+    }
+
+-- What a step asks.
+pub record Stepping (capacities : List ℕ) (q commodity : ℕ) (path : List ℕ) (a : ℕ) (s : State) : Type 0 where
+  pub arcs : 1 ≤ length path
+  pub few : length path ≤ 64
+  pub alpha : a ≡ pathLength (s .lengths) path
+  pub weighing : Weighing capacities (s .lengths)
+  pub growing : Growing (s .lengths) capacities q (draw capacities path) path
+  pub grown : Under (2 ^ 41) (update (λ e x. growth q (draw capacities path) (getD capacities e 0) x) path (s .lengths))
+  pub flow : Adding (s .flow) (commodity * length capacities) path (draw capacities path)
+  pub loads : Adding (s .loads) 0 path (draw capacities path)
+  pub kept : length (s .bestLengths) ≡ length (s .lengths)
+  pub row : commodity * length capacities < 2 ^ 64
+  pub total : s .total < 2 ^ 32
+  pub count : s .count < 2 ^ 32
