@@ -1,2 +1,9 @@
 pub mod Distances
+pub mod Far
+pub mod Graph
+pub mod Nearest
+pub mod Relax
+pub mod Search
+pub mod Tight
 pub mod Walk
+pub mod Walked

@@ -5,7 +5,9 @@ pub mod Followed
 pub mod Fuller
 pub mod Instances
 pub mod Lowered
+pub mod OfCapacities
 pub mod OnPath
 pub mod Passed
+pub mod Ready
 pub mod Stepped
 pub mod Weighed

@@ -1,3 +1,4 @@
 pub mod Calls
 pub mod Progress
+pub mod Runs
 pub mod Tables

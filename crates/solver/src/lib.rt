@@ -2,4 +2,5 @@
 pub mod draws;
 pub mod lengths;
 pub mod loads;
+pub mod runs;
 pub mod steps;

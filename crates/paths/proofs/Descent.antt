@@ -1,0 +1,54 @@
+-- Below the cap a walk leads to t: each tight arc leads to a nearer node. So a distance below the cap is the length of a path. Guarantee, section 6.
+-- Assumes nothing.
+use mathlib.Core.Path.{_≡_, refl, sym, subst}
+use mathlib.Core.Bool.{Bool, true, false}
+use mathlib.Core.Logic.{_⊎_, inl, inr}
+use mathlib.Core.List.{List, [], _∷_}
+use Prim.Native.Nat.{ℕ, zero, suc, _+_, _≤_, _<_}
+use native.Mathlib.Nat.{le-refl}
+use native.Mathlib.Omega.{arith}
+use lib.Dec.{ltb, eqb}
+use lib.ListN.{getD}
+use borrow.Author.Tests.{ltb-true, ltb-false, eqb-true, eqb-false}
+use Rattle.network.specs.Ends.{Node, Ends, Positive}
+use Rattle.network.specs.Network.{Network, arcs, tail, head}
+use Rattle.paths.specs.Distances.{Way, Distances}
+use Rattle.paths.specs.Walk.{Walk, stop, step}
+use Rattle.paths.proofs.Lowest.{lowest}
+
+-- Whether arc e is such a way is decided by three tests.
+way-or-not : (net : Network) (l d : List ℕ) (v x e : ℕ) → Way net l d v x e ⊎ (Way net l d v x e → ⊥)
+way-or-not net l d v x e =
+    by-tests (ltb e (arcs net)) (eqb (tail net e) v) (eqb (getD l e 0 + getD d (head net e) 0) x) refl refl refl
+  where
+    by-tests :
+        (a b c : Bool) → ltb e (arcs net) ≡ a → eqb (tail net e) v ≡ b → eqb (getD l e 0 + getD d (head net e) 0) x ≡ c →
+        Way net l d v x e ⊎ (Way net l d v x e → ⊥)
+    by-tests true true true p q r = inl (record { arc = ltb-true e _ p; from = eqb-true _ v q; long = eqb-true _ x r })
+    by-tests true true false p q r = inr (λ w. eqb-false _ x r (w .long))
+    by-tests true false c p q r = inr (λ w. eqb-false _ v q (w .from))
+    by-tests false b c p q r = inr (λ w. omega (arith, ltb-false e _ p, w .arc))
+
+module _ {net : Network} {l d : List ℕ} {t far : ℕ} (ends : Ends net) (D : Distances net l d t far) (pos : Positive net l) where
+  -- one step, where there is a walk from each nearer node
+  onward :
+      (v : ℕ) → Node net v → getD d v 0 < far → ((w : ℕ) → Node net w → getD d w 0 < getD d v 0 → (p : List ℕ) × Walk net l d t w p) →
+      (p : List ℕ) × Walk net l d t v p
+  onward v node near walks = by-test (eqb v t) refl
+    where
+      by-test : (b : Bool) → eqb v t ≡ b → (p : List ℕ) × Walk net l d t v p
+      by-test true q = ([], subst (λ (u : ℕ). Walk net l d t u []) (sym (eqb-true v t q)) stop)
+      by-test false q =
+          let tight = D .tight v node (eqb-false v t q) near in
+          let low = lowest (Way net l d v (getD d v 0)) (way-or-not net l d v (getD d v 0)) (tight .0) (tight .1) in
+          let way = low .1 .has in
+          let rest = walks (head net (low .0)) (ends .heads (low .0) (way .arc)) (omega (arith, way .long, pos (low .0) (way .arc))) in
+          (low .0 ∷ rest .0, step (eqb-false v t q) way (low .1 .none-lower) (rest .1))
+
+  -- from a node at a distance of at most n
+  within : (n v : ℕ) → Node net v → getD d v 0 < far → getD d v 0 ≤ n → (p : List ℕ) × Walk net l d t v p
+  within zero v node near b = onward v node near (λ w n c. absurd (omega arith))
+  within (suc n) v node near b = onward v node near (λ w at-w c. within n w at-w (omega arith) (omega arith))
+
+  pub distance-path : (v : ℕ) → Node net v → getD d v 0 < far → (p : List ℕ) × Walk net l d t v p
+  distance-path v node near = within (getD d v 0) v node near (le-refl (getD d v 0))

@@ -1,0 +1,92 @@
+-- What holds of the distances while a search goes on: they start at far, relaxation keeps them ways over arcs, and at rest they are the distances.
+-- Assumes nothing.
+use mathlib.Core.Path.{_≡_, refl, sym, ap, _∙_}
+use mathlib.Core.Logic.{_⊎_, inl, inr, ⊎-elim}
+use mathlib.Core.List.{List, _++_}
+use Prim.Native.Nat.{ℕ, _+_, _≤_, _<_}
+use native.Mathlib.Nat.{le-antisymm}
+use native.Mathlib.Omega.{arith}
+use lib.ListN.{length, getD, set, replicate, length-append, length-replicate, getD-replicate, List·getD-append}
+use lib.Seq.{getD-set-same, getD-set-other}
+use Rattle.network.specs.Ends.{Node}
+use Rattle.network.specs.Network.{Network, arcs, tail, head}
+use Rattle.paths.specs.Distances.{Distances}
+use Rattle.paths.specs.Graph.{Capped}
+use Rattle.paths.specs.Relax.{over, relaxed}
+use Rattle.paths.proofs.Relaxing.{set-entry, Shortened, relaxed-entry, relaxed-le}
+
+-- Arc e leads from v, and the way over it is no longer than v's entry.
+pub record Over (net : Network) (l d : List ℕ) (v e : ℕ) : Type 0 where
+  pub arc : e < arcs net
+  pub from : tail net e ≡ v
+  pub long : over net l d e ≤ getD d v 0
+
+-- The entry of t is 0, none is above the cap, and each other node's below the cap is no less than the way over some arc.
+pub record Labels (net : Network) (l d : List ℕ) (t far : ℕ) : Type 0 where
+  pub sink : getD d t 0 ≡ 0
+  pub capped : Capped net d far
+  pub way : (v : ℕ) → Node net v → (v ≡ t → ⊥) → getD d v 0 < far → (e : ℕ) × Over net l d v e
+
+module _ {net : Network} {l d : List ℕ} {t far : ℕ} where
+  -- At rest, where no arc shortens, they are the distances.
+  pub labels-rest :
+      Labels net l d t far → ((e : ℕ) → e < arcs net → getD d (tail net e) 0 ≤ over net l d e) → Distances net l d t far
+  labels-rest L rest =
+      record {
+        sink = L .sink;
+        feasible = rest;
+        tight = λ v node apart near.
+            let (e, o) = L .way v node apart near in
+            (e, record { arc = o .arc; from = o .from; long = le-antisymm (o .long) (rw (o .from) at (rest e (o .arc))) });
+      }
+
+module _ (net : Network) (l d : List ℕ) (e : ℕ) (b : e < arcs net) where
+  -- The way over any arc is no longer than before.
+  over-le : (f : ℕ) → over net l (relaxed net l d e) f ≤ over net l d f
+  over-le f = omega (arith, relaxed-le net l d e (head net f))
+
+  -- An entry that has changed is the way over e; any other has the arc that it had.
+  way-relaxed :
+      (v far : ℕ) → (getD d v 0 < far → (f : ℕ) × Over net l d v f) → getD (relaxed net l d e) v 0 < far →
+      (f : ℕ) × Over net l (relaxed net l d e) v f
+  way-relaxed v far had near =
+      ⊎-elim
+      (λ (q : getD (relaxed net l d e) v 0 ≡ getD d v 0).
+          let (f, o) = had (omega arith) in
+          (f, record { arc = o .arc; from = o .from; long = omega (arith, o .long, over-le f) }))
+      (λ (s : Shortened net l d e (relaxed net l d e) v).
+          (e, record { arc = b; from = sym (s .at); long = omega (arith, s .now, over-le e) }))
+      (relaxed-entry net l d e v)
+
+  pub labels-relaxed : {t far : ℕ} → Labels net l d t far → Labels net l (relaxed net l d e) t far
+  labels-relaxed {t} {far} L =
+      record {
+        sink = omega (arith, L .sink, relaxed-le net l d e t);
+        capped = λ v c. omega (arith, L .capped v c, relaxed-le net l d e v);
+        way = λ v node apart. way-relaxed v far (L .way v node apart);
+      }
+
+-- Nothing is known but the sink.
+module _ (net : Network) (l rest : List ℕ) (t far : ℕ) (b : t ≤ net .nodes) where
+  abbrev fars : List ℕ
+  fars = replicate (net .nodes + 1) far ++ rest
+
+  fars-at : (v : ℕ) → v ≤ net .nodes → getD fars v 0 ≡ far
+  fars-at v c =
+      List·getD-append (replicate (net .nodes + 1) far) rest 0 v (omega (arith, length-replicate (net .nodes + 1) far)) ∙
+      getD-replicate (net .nodes + 1) v far 0 (omega arith)
+
+  fars-room : t < length fars
+  fars-room = omega (arith, length-append (replicate (net .nodes + 1) far) rest, length-replicate (net .nodes + 1) far)
+
+  pub labels-start : Labels net l (set fars t 0) t far
+  labels-start =
+      record {
+        sink = getD-set-same fars t 0 0 fars-room;
+        capped = λ v c.
+            ⊎-elim
+            (λ (h : getD (set fars t 0) v 0 ≡ getD fars v 0). omega (arith, fars-at v c))
+            (λ (h : (v ≡ t) × (getD (set fars t 0) v 0 ≡ 0)). omega arith)
+            (set-entry fars t 0 v);
+        way = λ v node apart near. absurd (omega (arith, near, getD-set-other fars t v 0 0 apart, fars-at v (node .1)));
+      }

@@ -1,0 +1,34 @@
+-- A node with a path to t is at a distance below the cap, where the cap is past as many of the greatest lengths as there are nodes.
+-- Assumes nothing.
+use mathlib.Core.Path.{refl}
+use mathlib.Core.List.{List, [], _∷_}
+use Prim.Native.Nat.{ℕ, _*_, _^_, _≤_, _<_}
+use native.Mathlib.Nat.{mul-le-mul-right}
+use native.Mathlib.Omega.{arith}
+use lib.ListN.{length, getD}
+use Rattle.arith.specs.Member.{Member, first, later}
+use Rattle.network.specs.Ends.{Node, Ends}
+use Rattle.network.specs.Network.{Network, arcs}
+use Rattle.network.specs.Path.{Path, pathLength}
+use Rattle.network.proofs.Paths.{path-arcs}
+use Rattle.network.proofs.Shortcuts.{shortcut, shortcut-few}
+use Rattle.paths.specs.Distances.{Distances}
+use Rattle.paths.proofs.Lower.{distance-lower}
+
+-- Arcs of a length of at most x each are together at most so many times x long.
+pathLength-le : (l : List ℕ) (x : ℕ) (p : List ℕ) → ((e : ℕ) → Member e p → getD l e 0 ≤ x) → pathLength l p ≤ length p * x
+unfolding pathLength
+pathLength-le l x [] h = omega arith
+pathLength-le l x (e ∷ p) h = omega (arith, h e (first refl), pathLength-le l x p (λ j m. h j (later m)))
+
+pub distance-near :
+    {net : Network} {l d : List ℕ} {t far : ℕ} → Ends net → ((e : ℕ) → e < arcs net → getD l e 0 < 2 ^ 40) → net .nodes * 2 ^ 40 ≤ far →
+    Distances net l d t far → (v : ℕ) → Node net v → (p : List ℕ) → Path net v t p → getD d v 0 < far
+distance-near {net} {l} {t} ends small cap D v node p h =
+    let s = shortcut net v t p h in
+    omega (
+      arith,
+      distance-lower D v (s .path) (s .leads),
+      pathLength-le l (2 ^ 40) (s .path) (λ e m. omega (arith, small e (path-arcs net v t (s .path) (s .leads) e m))),
+      mul-le-mul-right (2 ^ 40) (shortcut-few net v t ends node p s),
+    )

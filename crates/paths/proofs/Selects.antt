@@ -1,0 +1,58 @@
+-- The choice from what the search found: nothing where no commodity is near, else the walk of the nearest.
+-- Assumes nothing.
+use mathlib.Core.Path.{_≡_, sym, subst}
+use mathlib.Core.List.{List}
+use Prim.Native.Nat.{ℕ, _≤_, _<_}
+use native.Mathlib.Omega.{arith}
+use lib.ListN.{length, getD, take, length-take}
+use Rattle.network.specs.Network.{Network, commodities, source, sink}
+use Rattle.network.proofs.Paths.{path-some}
+use Rattle.paths.specs.Far.{far}
+use Rattle.paths.specs.Graph.{Table}
+use Rattle.paths.specs.Nearest.{Nearest}
+use Rattle.paths.specs.Search.{Search, Chose, nothing, something}
+use Rattle.paths.specs.Walked.{Walkable, Walked}
+use Rattle.paths.specs.declared.Selected.{Selected}
+use Rattle.paths.proofs.Found.{nobody-none, somebody-choice}
+use Rattle.paths.proofs.Graphs.{graphOf, fit-graph, distances-net, walk-net}
+use Rattle.paths.proofs.Nearest.{nearest-cap, nearest-listed, nearest-reached}
+use Rattle.paths.proofs.Walks.{walk-path}
+
+abbrev pub selected : ℕ → ℕ → ℕ → Selected
+selected i r x = record { commodity = i; arcs = r; distance = x }
+
+module _ {net : Network} {l : List ℕ} {size room i x : ℕ} (H : Search net l size room) (N : Nearest net l (commodities net) i x) where
+  pub selects-nothing : (r : ℕ) (path : List ℕ) → far ≤ x → Chose net l (selected i r x) path
+  selects-nothing r path b =
+      let q : x ≡ far = omega (arith, nearest-cap N) in
+      nothing q (nobody-none (H .survey .fit .ends) (subst (Nearest net l (commodities net) i) q N))
+
+  module _ (b : x < far) {d : List ℕ} (T : Table (graphOf net) l d (sink net i) far) where
+    -- The walk of the nearest commodity can be taken.
+    pub selects-walkable : length d ≡ size → Walkable (graphOf net) l d (source net i) (sink net i) room
+    selects-walkable q =
+        record {
+          fit = rw q (fit-graph (H .survey .fit));
+          positive = H .survey .positive;
+          table = T;
+          source = H .survey .fit .ends .sources i (nearest-listed N b);
+          near = omega (arith, nearest-reached N b (distances-net (T .distances)));
+          places = H .places;
+        }
+
+    -- And it is the choice.
+    pub selects-walk : (r : ℕ) (path : List ℕ) → Walked (graphOf net) l d (source net i) (sink net i) r path → Chose net l (selected i r x) path
+    selects-walk r path w =
+        let ends = H .survey .fit .ends in
+        let walk = walk-net (w .walk) in
+        let found = somebody-choice ends (H .survey .positive) N b (distances-net (T .distances)) walk in
+        something
+        b
+        (omega (
+          arith,
+          path-some net (source net i) (sink net i) (take r path) (ends .apart i (nearest-listed N b)) (walk-path walk),
+          length-take r path,
+        ))
+        (omega (arith, w .few, H .survey .few))
+        (found .0)
+        (found .1)

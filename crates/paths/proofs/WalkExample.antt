@@ -1,0 +1,82 @@
+-- Two tables of distances and a walk in which the rule for ties decides: so these exist. The arcs and lengths are those of the tied choice in the crate
+-- method.
+-- Assumes nothing.
+use mathlib.Core.Path.{_≡_, refl}
+use mathlib.Core.List.{List, [], _∷_}
+use Prim.Native.Nat.{ℕ, zero, suc, _+_, _^_, _≤_, _<_}
+use native.Mathlib.Omega.{arith}
+use lib.ListN.{getD}
+use borrow.Author.Count.{below-none, below-more}
+use Rattle.network.specs.Ends.{Node}
+use Rattle.network.specs.Network.{Network, tail, head}
+use Rattle.paths.specs.Distances.{Way, Distances}
+use Rattle.paths.specs.Far.{far, Bounded}
+use Rattle.paths.specs.Walk.{Walk, stop, step}
+
+-- What holds of 0, 1 and 2 holds below 3.
+three : (P : ℕ → Type 0) → P 0 → P 1 → P 2 → (e : ℕ) → e < 3 → P e
+three P a b c = below-more P 2 (below-more P 1 (below-more P 0 (below-none P) a) b) c
+
+-- Arcs 1 to 2, 2 to 3 and 1 to 3, and commodities from ss to ts.
+abbrev pub floor : List ℕ → List ℕ → Network
+floor ss ts = record { nodes = 3; tails = 1 ∷ 2 ∷ 1 ∷ []; heads = 2 ∷ 3 ∷ 3 ∷ []; capacities = 1 ∷ 1 ∷ 1 ∷ []; sources = ss; sinks = ts }
+
+-- By these the path over node 2 and the straight arc are equally long.
+abbrev pub lengths : List ℕ
+lengths = 1 ∷ 1 ∷ 2 ∷ []
+
+-- From node 1 it is 2 to node 3, and from node 2 it is 1. No node is numbered 0, so the first place holds anything.
+abbrev pub near : List ℕ
+near = 0 ∷ 2 ∷ 1 ∷ 0 ∷ []
+
+-- To node 1 no path leads from nodes 2 and 3.
+abbrev pub away : List ℕ
+away = 0 ∷ 0 ∷ far ∷ far ∷ []
+
+-- The lengths are those of a run, whatever the commodities.
+pub bounded : Bounded (floor [] []) lengths
+bounded = three (λ e. (1 ≤ getD lengths e 0) × (getD lengths e 0 < 2 ^ 40)) (omega arith) (omega arith) (omega arith)
+
+module _ (ss ts : List ℕ) where
+  -- The way over some arc is as long as the distance of v, unless v is t or far.
+  abbrev Tight : List ℕ → ℕ → ℕ → Type 0
+  Tight d t v = (v ≡ t → ⊥) → getD d v 0 < far → (e : ℕ) × Way (floor ss ts) lengths d v (getD d v 0) e
+
+  -- A table of distances, by a look at each arc and each node.
+  table :
+      (d : List ℕ) (t : ℕ) → getD d t 0 ≡ 0 → getD d 1 0 ≤ 1 + getD d 2 0 → getD d 2 0 ≤ 1 + getD d 3 0 → getD d 1 0 ≤ 2 + getD d 3 0 →
+      Tight d t 1 → Tight d t 2 → Tight d t 3 → Distances (floor ss ts) lengths d t far
+  table d t z a b c at-1 at-2 at-3 =
+      record {
+        sink = z;
+        feasible = three (λ e. getD d (tail (floor ss ts) e) 0 ≤ getD lengths e 0 + getD d (head (floor ss ts) e) 0) a b c;
+        tight = tight;
+      }
+    where
+      tight : (v : ℕ) → Node (floor ss ts) v → Tight d t v
+      tight zero n = absurd (omega arith)
+      tight (suc v) n = three (λ v. Tight d t (suc v)) at-1 at-2 at-3 v (omega arith)
+
+  way-1 : Way (floor ss ts) lengths near 1 2 0
+  way-1 = record { arc = omega arith; from = refl; long = refl }
+
+  way-2 : Way (floor ss ts) lengths near 2 1 1
+  way-2 = record { arc = omega arith; from = refl; long = refl }
+
+  pub to-3 : Distances (floor ss ts) lengths near 3 far
+  to-3 =
+      table near 3 refl (omega arith) (omega arith) (omega arith) (λ n b. (0, way-1)) (λ n b. (1, way-2)) (λ n b. absurd (n refl))
+
+  pub to-1 : Distances (floor ss ts) lengths away 1 far
+  to-1 =
+      table away 1 refl (omega arith) (omega arith) (omega arith)
+      (λ n b. absurd (n refl))
+      (λ n b. absurd (omega arith))
+      (λ n b. absurd (omega arith))
+
+  -- The walk from node 1 goes over arc 0, not over arc 2, by which it is as near.
+  pub walk : Walk (floor ss ts) lengths near 3 1 (0 ∷ 1 ∷ [])
+  walk = step {v = 1} {e = 0} (λ q. omega arith) way-1 (λ j b w. omega arith) (step {v = 2} {e = 1} (λ q. omega arith) way-2 arc-0-elsewhere stop)
+    where
+      arc-0-elsewhere : (j : ℕ) → j < 1 → Way (floor ss ts) lengths near 2 1 j → ⊥
+      arc-0-elsewhere = below-more (λ j. Way (floor ss ts) lengths near 2 1 j → ⊥) 0 (λ j b w. omega arith) (λ w. omega (arith, w .from))

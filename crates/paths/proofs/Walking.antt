@@ -1,0 +1,81 @@
+-- A walk on its way: k arcs are written, and whatever walk goes on from v completes them to a walk from s.
+-- Assumes nothing.
+use mathlib.Core.Path.{_≡_, refl, sym, ap, subst, _∙_}
+use mathlib.Core.List.{List, [], _∷_, _++_, append-assoc, append-nil}
+use mathlib.Core.Logic.{⊎-elim}
+use Prim.Native.Nat.{ℕ, suc, _+_, _≤_, _<_}
+use native.Mathlib.Numerals.{add-one}
+use native.Mathlib.Omega.{arith}
+use lib.ListN.{length, getD, take, set, length-append, length-set}
+use lib.Seq.{length-take-le, take-suc-set}
+use Rattle.arith.proofs.Order.{le-or-lt}
+use Rattle.network.specs.Ends.{Node}
+use Rattle.network.specs.Network.{Network, arcs, head}
+use Rattle.paths.specs.Distances.{Way}
+use Rattle.paths.specs.Far.{far}
+use Rattle.paths.specs.Tight.{Tight}
+use Rattle.paths.specs.Walk.{Walk, stop, step}
+use Rattle.paths.specs.Walked.{Walkable, Walked}
+use Rattle.paths.proofs.Descent.{distance-path}
+use Rattle.paths.proofs.Simple.{walk-few}
+
+pub record Walking (net : Network) (l d : List ℕ) (s t size : ℕ) (path : List ℕ) (v k : ℕ) : Type 0 where
+  pub whole : length path ≡ size
+  pub within : k ≤ size
+  pub node : Node net v
+  pub near : getD d v 0 < far
+  pub completes : (p : List ℕ) → Walk net l d t v p → Walk net l d t s (take k path ++ p)
+
+module _ {net : Network} {l d : List ℕ} {s t size : ℕ} (W : Walkable net l d s t size) where
+  pub walking-start : (path : List ℕ) → length path ≡ size → Walking net l d s t size path s 0
+  walking-start path q =
+      record { whole = q; within = omega arith; node = W .source; near = W .near; completes = λ p w. w }
+
+  module _ {path : List ℕ} {v k : ℕ} (S : Walking net l d s t size path v k) where
+    -- Some walk goes on from v, and completed so it has fewer arcs than there are nodes.
+    pub walking-few : k < net .nodes
+    walking-few =
+        let D = W .table .distances in
+        let on = distance-path (W .fit .ends) D (W .positive) v (S .node) (S .near) in
+        omega (
+          arith,
+          walk-few (W .fit .ends) (W .positive) D (W .source) (S .completes (on .0) (on .1)),
+          length-append (take k path) (on .0),
+          length-take-le k path (omega (arith, S .whole, S .within)),
+        )
+
+    pub walking-end : v ≡ t → Walked net l d s t k path
+    walking-end q =
+        record {
+          walk = subst (Walk net l d t s) (append-nil (take k path)) (S .completes [] (subst (λ (u : ℕ). Walk net l d t u []) (sym q) stop));
+          few = walking-few;
+        }
+
+    module _ (apart : v ≡ t → ⊥) {e : ℕ} (T : Tight net l d v e) where
+      -- Some arc from v is tight, so the lowest is one.
+      pub next-arc : e < arcs net
+      next-arc =
+          let (j, way) = W .table .distances .tight v (S .node) apart (S .near) in
+          ⊎-elim
+          (λ (b : arcs net ≤ e). absurd (T .none-lower j (omega (arith, way .arc)) way))
+          (λ (b : e < arcs net). b)
+          (le-or-lt (arcs net) e)
+
+      pub next-nearer : getD d (head net e) 0 < getD d v 0
+      next-nearer = omega (arith, T .way next-arc .long, W .positive e next-arc)
+
+      room : k < length path
+      room = omega (arith, walking-few, S .whole, W .places)
+
+      written : (p : List ℕ) → take (k + 1) (set path k e) ++ p ≡ take k path ++ (e ∷ p)
+      written p = rw (add-one, take-suc-set path k e room, append-assoc)
+
+      pub walking-step : Walking net l d s t size (set path k e) (head net e) (k + 1)
+      walking-step =
+          record {
+            whole = length-set path k e ∙ S .whole;
+            within = omega (arith, room, S .whole);
+            node = W .fit .ends .heads e next-arc;
+            near = omega (arith, next-nearer, S .near);
+            completes = λ p w. rw (written p) (S .completes (e ∷ p) (step apart (T .way next-arc) (T .none-lower) w));
+          }

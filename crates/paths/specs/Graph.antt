@@ -1,0 +1,30 @@
+-- What a search asks of the tables that it is lent, and what it leaves in one.
+use mathlib.Core.Path.{_≡_}
+use mathlib.Core.List.{List, []}
+use Prim.Native.Nat.{ℕ, _^_, _≤_, _<_}
+use lib.ListN.{length, getD}
+use Rattle.network.specs.Ends.{Ends}
+use Rattle.network.specs.Network.{Network, arcs}
+use Rattle.network.specs.Parts.{ofArcs}
+use Rattle.paths.specs.Distances.{Distances}
+
+-- n nodes and these arcs: all that distances depend on.
+abbrev pub graph : ℕ → List ℕ → List ℕ → Network
+graph n tails heads = ofArcs n tails heads []
+
+-- Every arc has a head and a length, the ends are nodes, lengths are small, and a table of the given size has room for each node.
+pub record Fit (net : Network) (l : List ℕ) (size : ℕ) : Type 0 where
+  pub heads : length (net .heads) ≡ arcs net
+  pub lengths : length l ≡ arcs net
+  pub ends : Ends net
+  pub small : (e : ℕ) → e < arcs net → getD l e 0 < 2 ^ 40
+  pub room : net .nodes < size
+
+-- No node's entry of d is above the cap.
+abbrev pub Capped : Network → List ℕ → ℕ → Type 0
+Capped net d far = (v : ℕ) → v ≤ net .nodes → getD d v 0 ≤ far
+
+-- d has the distances to t, none above the cap.
+pub record Table (net : Network) (l d : List ℕ) (t far : ℕ) : Type 0 where
+  pub distances : Distances net l d t far
+  pub capped : Capped net d far

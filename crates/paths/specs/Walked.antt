@@ -1,0 +1,23 @@
+-- A walk written into a table of arcs: what it asks, and what it leaves.
+use mathlib.Core.List.{List}
+use Prim.Native.Nat.{ℕ, _≤_, _<_}
+use lib.ListN.{length, getD, take}
+use Rattle.network.specs.Ends.{Node, Positive}
+use Rattle.network.specs.Network.{Network}
+use Rattle.paths.specs.Far.{far}
+use Rattle.paths.specs.Graph.{Fit, Table}
+use Rattle.paths.specs.Walk.{Walk}
+
+-- d has the distances to t, by lengths of at least 1; s is a node with a path to t; and the table of arcs has a place for each node.
+pub record Walkable (net : Network) (l d : List ℕ) (s t size : ℕ) : Type 0 where
+  pub fit : Fit net l (length d)
+  pub positive : Positive net l
+  pub table : Table net l d t far
+  pub source : Node net s
+  pub near : getD d s 0 < far
+  pub places : net .nodes ≤ size
+
+-- The first r entries are the greedy walk from s to t, and fewer than there are nodes.
+pub record Walked (net : Network) (l d : List ℕ) (s t r : ℕ) (path : List ℕ) : Type 0 where
+  pub walk : Walk net l d t s (take r path)
+  pub few : r < net .nodes

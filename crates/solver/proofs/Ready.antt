@@ -1,0 +1,131 @@
+-- At every state that the run reaches, a step along the chosen path is within its tables and its numbers.
+-- Assumes nothing.
+use mathlib.Core.Path.{_≡_, refl, sym, ap, _∙_}
+use mathlib.Core.Option.{some}
+use mathlib.Core.List.{List}
+use Prim.Native.Nat.{ℕ, suc, _+_, _*_, _/_, _%_, _^_, _≤_, _<_}
+use native.Mathlib.Nat.{mul-le-mul-right, div-lt-iff-lt-mul, mod-lt, div-add-mod', mul-le-mul}
+use native.Mathlib.Omega.{arith}
+use lib.ListN.{length, getD}
+use Rattle.arith.specs.Sum.{sum}
+use Rattle.arith.proofs.Sums.{term-le-sum}
+use Rattle.length.specs.Length.{growth}
+use Rattle.network.specs.Network.{Network, arcs, commodities, capacity, source, sink}
+use Rattle.network.specs.Flow.{loadOf}
+use Rattle.network.specs.Path.{pathLength}
+use Rattle.network.proofs.Sounds.{sound-ends}
+use Rattle.method.specs.Answer.{amounts}
+use Rattle.method.specs.Choice.{Choice, choiceOf, choice}
+use Rattle.method.specs.Iteration.{State, draw, update, grown}
+use Rattle.method.specs.Sizes.{Sizes}
+use Rattle.method.proofs.Arcs.{chosen-some}
+use Rattle.method.proofs.Reached.{Reached, Valid, chosen-at, fair}
+use Rattle.method.proofs.Sized.{reached-sizes, grown-sizes}
+use Rattle.method.proofs.Table.{Table}
+use Rattle.method.proofs.Times.{update-length}
+use Rattle.solver.specs.Calls.{Growing, Weighing, Adding}
+use Rattle.solver.specs.Progress.{Stepping}
+use Rattle.solver.specs.Runs.{Lent}
+use Rattle.solver.specs.Tables.{Under, Within, Capacities}
+use Rattle.solver.proofs.OnPath.{draw-at, draw-most, below-under}
+
+module _ (net : Network) (q : ℕ) (lent : Lent net q) (s : State) (r : Reached net q s) (i : ℕ) (p : List ℕ)
+  (h : choice net (s .lengths) ≡ some (choiceOf i p)) where
+  abbrev caps : List ℕ
+  caps = net .capacities
+
+  abbrev v : Valid net q s
+  v = r .valid
+
+  z : Sizes net s
+  z = reached-sizes net q (lent .sound) s r
+
+  inside : (e : ℕ) → e < length caps → e < arcs net
+  inside e l = omega (arith, lent .capacities)
+
+  capacities : Capacities caps
+  capacities =
+    record {
+      least = λ e l. lent .sound .arc-capacity e (inside e l) .least;
+      most = λ e l. lent .sound .arc-capacity e (inside e l) .most
+    }
+
+  same : length (s .lengths) ≡ length caps
+  same = v .lengths ∙ sym (lent .capacities)
+
+  short : Under (2 ^ 40) (s .lengths)
+  short e l = z .length-high e (omega (arith, v .lengths))
+
+  places : Under (length caps) p
+  places j l = omega (arith, below-under (fair net q (lent .sound) s v (choiceOf i p) h .below) j l, lent .capacities)
+
+  arc : 1 ≤ length p
+  arc = chosen-some net (s .lengths) (choiceOf i p) (chosen-at net q (lent .sound) s v (choiceOf i p) h) (sound-ends net q (lent .sound))
+
+  few : length p ≤ 64
+  few =
+    omega
+    (arith, chosen-at net q (lent .sound) s v (choiceOf i p) h .few, lent .sound .counts .of-nodes .most)
+
+  small : draw caps p ≤ 1000
+  small = draw-most caps p arc places (capacities .most)
+
+  listed : i < commodities net
+  listed = chosen-at net q (lent .sound) s v (choiceOf i p) h .commodity
+
+  -- An amount is part of its arc's load.
+  amount : (x : ℕ) → x < length (s .flow) → getD (s .flow) x 0 < 2 ^ 32
+  unfolding amounts loadOf
+  amount x l =
+    let m : ℕ = arcs net in
+    let some : 0 < m = lent .sound .counts .of-arcs .least in
+    let j : x / m < commodities net = div-lt-iff-lt-mul some .1 (omega (arith, v .table .rows)) in
+    let e : x % m < m = mod-lt x some in
+    omega
+    (arith,
+    ap (λ t. getD (s .flow) t 0) (div-add-mod' x m),
+    term-le-sum (commodities net) (λ i. getD (s .flow) (i * m + x % m) 0) (x / m) j,
+    v .table .sums (x % m) e,
+    z .load-high (x % m) e)
+
+  row-place : (j : ℕ) → j < length p → i * length caps + getD p j 0 < length (s .flow)
+  row-place j l = omega (arith, places j l, mul-le-mul-right (length caps) listed, v .table .rows, ap (λ t. commodities net * t) (lent .capacities))
+
+  grown-under : Under (2 ^ 41) (update (λ e x. growth q (draw caps p) (getD caps e 0) x) p (s .lengths))
+  unfolding grown
+  grown-under e l =
+    grown-sizes net q (lent .sound) s v (choiceOf i p) h e
+    (omega (arith, update-length (λ e x. growth q (draw caps p) (getD caps e 0) x) p (s .lengths), v .lengths))
+
+  pub ready : Stepping caps q i p (pathLength (s .lengths) p) s
+  ready =
+    record {
+      arcs = arc;
+      few = few;
+      alpha = refl;
+      weighing = record { same = same; few = omega (arith, lent .capacities, lent .sound .counts .of-arcs .most); sizes = capacities .most; short = short };
+      growing =
+        record {
+          same = same;
+          coarsest = lent .sound .counts .precision .least;
+          finest = lent .sound .counts .precision .most;
+          places = places;
+          once = fair net q (lent .sound) s v (choiceOf i p) h .once;
+          drawn = draw-at caps p;
+          sizes = capacities;
+          short = short
+        };
+      grown = grown-under;
+      flow = record { places = row-place; amounts = amount; small = small; few = few };
+      loads =
+        record {
+          places = λ j l. omega (arith, places j l, v .table .places, lent .capacities);
+          amounts = λ e l. omega (arith, z .load-high e (omega (arith, v .table .places)));
+          small = small;
+          few = few
+        };
+      kept = v .bests ∙ sym (v .lengths);
+      row = omega (arith, listed, mul-le-mul (lent .sound .counts .of-commodities .most) (lent .sound .counts .of-arcs .most), mul-le-mul-right (length caps) listed, ap (λ t. commodities net * t) (lent .capacities));
+      total = omega (arith, z .total-high);
+      count = omega (arith, z .count-high)
+    }
