@@ -1,3 +1,4 @@
+pub mod Bare
 pub mod Descent
 pub mod Falls
 pub mod Found

@@ -7,10 +7,11 @@ use native.Mathlib.Omega.{arith}
 use lib.ListN.{length, getD, take, length-take}
 use Rattle.network.specs.Network.{Network, commodities, source, sink}
 use Rattle.network.proofs.Paths.{path-some}
+use Rattle.paths.specs.Chose.{Chose}
 use Rattle.paths.specs.Far.{far}
 use Rattle.paths.specs.Graph.{Table}
 use Rattle.paths.specs.Nearest.{Nearest}
-use Rattle.paths.specs.Search.{Search, Chose, nothing, something}
+use Rattle.paths.specs.Search.{Search}
 use Rattle.paths.specs.Walked.{Walkable, Walked}
 use Rattle.paths.specs.declared.Selected.{Selected}
 use Rattle.paths.proofs.Found.{nobody-none, somebody-choice}
@@ -22,13 +23,17 @@ abbrev pub selected : ℕ → ℕ → ℕ → Selected
 selected i r x = record { commodity = i; arcs = r; distance = x }
 
 module _ {net : Network} {l : List ℕ} {size room i x : ℕ} (H : Search net l size room) (N : Nearest net l (commodities net) i x) where
+  -- Where the nearest is far, nothing is chosen.
   pub selects-nothing : (r : ℕ) (path : List ℕ) → far ≤ x → Chose net l (selected i r x) path
   selects-nothing r path b =
-      let q : x ≡ far = omega (arith, nearest-cap N) in
-      nothing q (nobody-none (H .survey .fit .ends) (subst (Nearest net l (commodities net) i) q N))
+      record {
+        capped = nearest-cap N;
+        nothing = λ q. nobody-none (H .survey .fit .ends) (subst (Nearest net l (commodities net) i) q N);
+        something = λ c. absurd (omega arith);
+      }
 
   module _ (b : x < far) {d : List ℕ} (T : Table (graphOf net) l d (sink net i) far) where
-    -- The walk of the nearest commodity can be taken.
+    -- Else the walk of the nearest can be taken,
     pub selects-walkable : length d ≡ size → Walkable (graphOf net) l d (source net i) (sink net i) room
     selects-walkable q =
         record {
@@ -40,19 +45,21 @@ module _ {net : Network} {l : List ℕ} {size room i x : ℕ} (H : Search net l 
           places = H .places;
         }
 
-    -- And it is the choice.
-    pub selects-walk : (r : ℕ) (path : List ℕ) → Walked (graphOf net) l d (source net i) (sink net i) r path → Chose net l (selected i r x) path
+    -- and it is the choice.
+    pub selects-walk :
+        (r : ℕ) (path : List ℕ) → Walked (graphOf net) l d (source net i) (sink net i) r path → Chose net l (selected i r x) path
     selects-walk r path w =
         let ends = H .survey .fit .ends in
         let walk = walk-net (w .walk) in
         let found = somebody-choice ends (H .survey .positive) N b (distances-net (T .distances)) walk in
-        something
-        b
-        (omega (
-          arith,
-          path-some net (source net i) (sink net i) (take r path) (ends .apart i (nearest-listed N b)) (walk-path walk),
-          length-take r path,
-        ))
-        (omega (arith, w .few, H .survey .few))
-        (found .0)
-        (found .1)
+        let arc = path-some net (source net i) (sink net i) (take r path) (ends .apart i (nearest-listed N b)) (walk-path walk) in
+        record {
+          capped = nearest-cap N;
+          nothing = λ q. absurd (omega arith);
+          something = λ c. record {
+            chosen = found .0;
+            alpha = found .1;
+            some-arc = omega (arith, arc, length-take r path);
+            few-arcs = omega (arith, w .few, H .survey .few);
+          };
+        }

@@ -1,3 +1,4 @@
+pub mod Chose
 pub mod Distances
 pub mod Far
 pub mod Graph

@@ -1,4 +1,5 @@
 pub mod Amounts
+pub mod Chosen
 pub mod Counted
 pub mod Filled
 pub mod Followed

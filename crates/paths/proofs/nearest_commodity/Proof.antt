@@ -16,9 +16,6 @@ use Rattle.paths.proofs.Found.{nearest-start, nearest-step}
 use Rattle.paths.proofs.Graphs.{graphOf, fit-graph, distances-net}
 use Rattle.paths.proofs.nearest_commodity.Statement.{statement}
 use Rattle.paths.proofs.nearest_commodity.Tie as tie
-use Rattle.paths.proofs.nearest_commodity.Reads as reads
-use Rattle.paths.proofs.nearest_commodity.Lts as lts
-use Rattle.paths.proofs.distances.Reads as distances-reads
 
 -- i commodities are looked at, c is the nearest of them, x far
 record Looked (net : Network) (l : List ℕ) (size : ℕ) (d : List ℕ) (c x i : ℕ) : Type 0 where

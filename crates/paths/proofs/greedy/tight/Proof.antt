@@ -1,4 +1,4 @@
--- `paths::tight` meets its contract: no arc passed is tight, and the one returned is.
+-- `paths::greedy::tight` meets its contract: no arc passed is tight, and the one returned is.
 -- Assumes nothing.
 use mathlib.Core.Path.{_≡_, refl}
 use mathlib.Core.Logic.{⊎-elim}
@@ -13,8 +13,8 @@ use Rattle.paths.specs.Distances.{Way}
 use Rattle.paths.specs.Graph.{graph}
 use Rattle.paths.specs.Tight.{Tight}
 use Rattle.paths.proofs.Rooms.{head-room, over-fits}
-use Rattle.paths.proofs.tight.Statement.{statement}
-use Rattle.paths.proofs.tight.Tie as tie
+use Rattle.paths.proofs.greedy.tight.Statement.{statement}
+use Rattle.paths.proofs.greedy.tight.Tie as tie
 
 -- none of the first e arcs is tight
 record Passed (net : Network) (l d : List ℕ) (v e : ℕ) : Type 0 where

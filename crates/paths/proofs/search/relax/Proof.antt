@@ -1,4 +1,4 @@
--- `paths::relax` meets its contract: its test is the definition's, and so is its store.
+-- `paths::search::relax` meets its contract: its test is the definition's, and so is its store.
 -- Assumes nothing.
 use mathlib.Core.Path.{sym}
 use native.Mathlib.Omega.{arith}
@@ -6,8 +6,8 @@ use borrow.Author.Needs.{needs}
 use borrow.Author.Tests.{lt-ltb, le-ltb}
 use Rattle.paths.specs.Relax.{shortens, relaxed}
 use Rattle.paths.proofs.Rooms.{tail-room, head-room, over-fits}
-use Rattle.paths.proofs.relax.Statement.{statement}
-use Rattle.paths.proofs.relax.Tie as tie
+use Rattle.paths.proofs.search.relax.Statement.{statement}
+use Rattle.paths.proofs.search.relax.Tie as tie
 
 mul-v : tie.Need-mul-v
 mul-v c = search needs

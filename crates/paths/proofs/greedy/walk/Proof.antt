@@ -1,4 +1,4 @@
--- `paths::walk` meets its contract: the arcs written are the walk so far, and each arc leads to a nearer node.
+-- `paths::greedy::walk` meets its contract: the arcs written are the walk so far, and each arc leads to a nearer node.
 -- Assumes nothing.
 use mathlib.Core.Path.{refl}
 use Prim.Native.Nat.{_<_}
@@ -6,8 +6,8 @@ use native.Mathlib.Omega.{arith}
 use lib.ListN.{length, getD}
 use Rattle.paths.specs.Graph.{graph}
 use Rattle.paths.proofs.Walking.{Walking, walking-start, walking-few, walking-end, walking-step, next-arc, next-nearer}
-use Rattle.paths.proofs.walk.Statement.{statement}
-use Rattle.paths.proofs.walk.Tie as tie
+use Rattle.paths.proofs.greedy.walk.Statement.{statement}
+use Rattle.paths.proofs.greedy.walk.Tie as tie
 
 abbrev Inv-loop : tie.InvT-loop
 Inv-loop n tails heads lengths dist source sink path₀ v₀ k₀ path v k =

@@ -1,4 +1,4 @@
--- `paths::distances` meets its contract: the entries stay labels, their sum falls with each sweep that changes one, and at rest they are the distances.
+-- `paths::search::distances` meets its contract: the entries stay labels, their sum falls with each sweep that changes one, and at rest they are the distances.
 -- Assumes nothing.
 use mathlib.Core.Path.{_≡_, refl, sym, _∙_}
 use mathlib.Core.Bool.{Bool, true, false}
@@ -13,8 +13,8 @@ use Rattle.paths.specs.Graph.{graph, Fit, Table}
 use Rattle.paths.specs.Relax.{swept, changed}
 use Rattle.paths.proofs.Labels.{Labels, labels-start, labels-relaxed, labels-rest}
 use Rattle.paths.proofs.Sweeps.{total, swept-keeps, swept-size, swept-falls, swept-same, swept-rest}
-use Rattle.paths.proofs.distances.Statement.{statement}
-use Rattle.paths.proofs.distances.Tie as tie
+use Rattle.paths.proofs.search.distances.Statement.{statement}
+use Rattle.paths.proofs.search.distances.Tie as tie
 
 -- the entries are labels, in a table as large as at first, which the slices fit
 record Searching (net : Network) (l old new : List ℕ) (t : ℕ) : Type 0 where

@@ -1,4 +1,4 @@
--- `paths::sweep` meets its contract: behind each arc the distances and the flag are the definition's so far.
+-- `paths::search::sweep` meets its contract: behind each arc the distances and the flag are the definition's so far.
 -- Assumes nothing.
 use mathlib.Core.Path.{_≡_, refl, sym, ap, _∙_}
 use mathlib.Core.Bool.{Bool, true, false, _||_, or-true, or-false}
@@ -14,11 +14,8 @@ use Rattle.paths.specs.Far.{far}
 use Rattle.paths.specs.Graph.{graph, Capped}
 use Rattle.paths.specs.Relax.{shortens, relaxed, swept, changed}
 use Rattle.paths.proofs.Sweeps.{swept-size, swept-capped}
-use Rattle.paths.proofs.sweep.Statement.{statement}
-use Rattle.paths.proofs.sweep.Tie as tie
-use Rattle.paths.proofs.sweep.Reads as reads
-use Rattle.paths.proofs.sweep.Lts as lts
-use Rattle.paths.proofs.relax.Reads as relax-reads
+use Rattle.paths.proofs.search.sweep.Statement.{statement}
+use Rattle.paths.proofs.search.sweep.Tie as tie
 
 -- e arcs are behind: the distances and the flag
 record Behind (net : Network) (l old new : List ℕ) (flag : Bool) (e : ℕ) : Type 0 where

@@ -1,4 +1,4 @@
--- `paths::reset` meets its contract: the entries passed are far, the others as they were.
+-- `paths::search::reset` meets its contract: the entries passed are far, the others as they were.
 -- Assumes nothing.
 use mathlib.Core.Path.{_≡_, refl, ap, _∙_}
 use mathlib.Core.List.{List, _++_}
@@ -7,8 +7,8 @@ use native.Mathlib.Omega.{arith}
 use lib.ListN.{length, drop, set, replicate, length-set}
 use borrow.Author.Fill.{fill-none, fill-more}
 use Rattle.paths.specs.Far.{far}
-use Rattle.paths.proofs.reset.Statement.{statement}
-use Rattle.paths.proofs.reset.Tie as tie
+use Rattle.paths.proofs.search.reset.Statement.{statement}
+use Rattle.paths.proofs.search.reset.Tie as tie
 
 -- the first v entries are far, and there are still as many as before
 record Filled (n : ℕ) (old new : List ℕ) (v : ℕ) : Type 0 where
