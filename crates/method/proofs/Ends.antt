@@ -25,7 +25,7 @@ use Rattle.method.specs.Sizes.{Sizes}
 use Rattle.method.proofs.Instance.{seen, iterated}
 use Rattle.method.proofs.Joining.{none-by-any}
 use Rattle.method.proofs.Programs.{program}
-use Rattle.method.proofs.Sized.{reached-sizes, next-sizes}
+use Rattle.method.proofs.Sized.{enough, reached-sizes, next-sizes}
 use Rattle.method.proofs.Reached.{Valid, Reached, valid-step, reached-start, not-ended, fair}
 
 -- An iteration from a state that was reached, at whose end some load is at the threshold.
@@ -61,7 +61,7 @@ module _ (net : Network) (q : ℕ) (sound : Sound net q) (joined : (l : List ℕ
           ))
 
   -- The next state's count, and its place among the states.
-  next-count : (s : State) → iteration net q s .count ≡ suc (s .count)
+  pub next-count : (s : State) → iteration net q s .count ≡ suc (s .count)
   unfolding advance
   next-count s = let c = joined (s .lengths) in ap (λ t. t .count) (iteration-some s (c .0) (c .1))
 
@@ -69,7 +69,7 @@ module _ (net : Network) (q : ℕ) (sound : Sound net q) (joined : (l : List ℕ
   unfolding nth
   next-at s at = ap (iteration net q) at ∙ ap (nth net q) (sym (next-count s))
 
-  next-valid : (s : State) → Valid net q s → Valid net q (iteration net q s)
+  pub next-valid : (s : State) → Valid net q s → Valid net q (iteration net q s)
   next-valid s v =
       let c = joined (s .lengths) in
       rw (iteration-some s (c .0) (c .1)) (valid-step net q sound s v (c .0) (c .1))
@@ -134,23 +134,13 @@ module _ (net : Network) (q : ℕ) (sound : Sound net q) (joined : (l : List ℕ
       let z : j ≡ 0 = omega arith in
       rw z (open-ended (initial net) (reached-start net q sound))
 
-  -- m * T iterations are more than enough.
-  enough : arcs net * (q * level (arcs net) q - 1) < 0 + arcs net * (q * level (arcs net) q)
-  enough =
-      let p = program net q sound in
-      let coarse : 0 < q = omega (arith, p .precision-low) in
-      omega (arith, ap (λ x. arcs net * x) (less-one (q * level (arcs net) q) (mul-pos coarse (p .level))), p .resources-low)
-    where
-      less-one : (n : ℕ) → 0 < n → n ≡ n - 1 + 1
-      less-one n h = omega arith
-
   start-at : initial net ≡ nth net q (initial net .count)
   unfolding initial nth
   start-at = refl
 
   start-enough : arcs net * (q * level (arcs net) q - 1) < initial net .count + arcs net * (q * level (arcs net) q)
   unfolding initial
-  start-enough = enough
+  start-enough = enough net q sound
 
   -- The whole run ends so.
   pub run-final : Final net q (run net q)

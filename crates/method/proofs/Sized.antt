@@ -3,7 +3,7 @@
 use mathlib.Core.Path.{_≡_, ap, sym}
 use mathlib.Core.Option.{some}
 use Prim.Native.Nat.{ℕ, suc, _+_, _*_, _-_, _^_, _≤_, _<_}
-use native.Mathlib.Nat.{mul-le-mul, mul-le-mul-right}
+use native.Mathlib.Nat.{mul-le-mul, mul-pos}
 use native.Mathlib.Omega.{arith}
 use lib.ListN.{getD}
 use Rattle.length.specs.Level.{level, threshold}
@@ -28,6 +28,20 @@ module _ (net : Network) (q : ℕ) (sound : Sound net q) where
       let m = sound .counts .of-arcs in
       let p = sound .counts .precision in
       threshold-most (arcs net) q (m .least) (m .most) (p .least) (p .most)
+
+  -- m * T iterations are more than enough.
+  pub enough : arcs net * (q * level (arcs net) q - 1) < 0 + arcs net * (q * level (arcs net) q)
+  enough =
+      let p = program net q sound in
+      let coarse : 0 < q = omega (arith, p .precision-low) in
+      omega (arith, ap (λ x. arcs net * x) (less-one (q * level (arcs net) q) (mul-pos coarse (p .level))), p .resources-low)
+    where
+      less-one : (n : ℕ) → 0 < n → n ≡ n - 1 + 1
+      less-one n h = omega arith
+
+  pub reached-count : (s : State) → Reached net q s → s .count < arcs net * threshold (arcs net) q
+  unfolding seen threshold
+  reached-count s r = omega (arith, enough, count-below (program net q sound) (r .valid .run) (r .below))
 
   -- From what is known of the loads and the count.
   sizes :

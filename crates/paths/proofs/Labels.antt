@@ -52,10 +52,10 @@ module _ (net : Network) (l d : List ℕ) (e : ℕ) (b : e < arcs net) where
   way-relaxed v far had near =
       ⊎-elim
       (λ (q : getD (relaxed net l d e) v 0 ≡ getD d v 0).
-          let (f, o) = had (omega arith) in
-          (f, record { arc = o .arc; from = o .from; long = omega (arith, o .long, over-le f) }))
+      let (f, o) = had (omega arith) in
+      (f, record { arc = o .arc; from = o .from; long = omega (arith, o .long, over-le f) }))
       (λ (s : Shortened net l d e (relaxed net l d e) v).
-          (e, record { arc = b; from = sym (s .at); long = omega (arith, s .now, over-le e) }))
+      (e, record { arc = b; from = sym (s .at); long = omega (arith, s .now, over-le e) }))
       (relaxed-entry net l d e v)
 
   pub labels-relaxed : {t far : ℕ} → Labels net l d t far → Labels net l (relaxed net l d e) t far

@@ -54,7 +54,7 @@ module _ (net : Network) (l d : List ℕ) (e : ℕ) where
           ⊎-elim
           inl
           (λ (q : (v ≡ tail net e) × (getD (set d (tail net e) (over net l d e)) v 0 ≡ over net l d e)).
-              inr (record { at = q .0; shorter = rw (q .0) h; now = q .1 }))
+          inr (record { at = q .0; shorter = rw (q .0) h; now = q .1 }))
           (set-entry d (tail net e) (over net l d e) v)
 
   pub relaxed-le : (v : ℕ) → getD (relaxed net l d e) v 0 ≤ getD d v 0

@@ -28,7 +28,16 @@ fn tight(n: u64, tails: &[u64], heads: &[u64], lengths: &[u64], dist: &[u64], v:
 }
 
 // The first of the shortest paths from the source to the sink is written into path; how many arcs it has.
-pub fn walk(n: u64, tails: &[u64], heads: &[u64], lengths: &[u64], dist: &[u64], source: u64, sink: u64, path: &mut [u64]) -> usize
+pub fn walk(
+    n: u64,
+    tails: &[u64],
+    heads: &[u64],
+    lengths: &[u64],
+    dist: &[u64],
+    source: u64,
+    sink: u64,
+    path: &mut [u64],
+) -> usize
     requires { ⌜ Walkable (graph n (now tails) (now heads)) (now lengths) (now dist) source sink (length (now path)) ⌝ }
     ensures { λ r. ⌜ Walked (graph n (now (tails .entry)) (now (heads .entry))) (now (lengths .entry)) (now (dist .entry)) source sink r (now (path .exit)) ⌝ }
 {

@@ -1,9 +1,10 @@
 // The path of an iteration: of all commodities the one whose sink is nearest to its source, and the first of its shortest paths.
 pub mod greedy;
 pub mod search;
+
 use crate::greedy::walk;
-use crate::search::distances;
 use crate::search::FAR;
+use crate::search::distances;
 ghost use lib.ListN.{length};
 ghost use Rattle.paths.specs.Chose.{Chose};
 ghost use Rattle.paths.specs.Nearest.{Nearest};
@@ -16,18 +17,32 @@ struct Closest {
 }
 
 // The lowest-numbered commodity whose sink is nearest to its source.
-fn nearest_commodity(n: u64, tails: &[u64], heads: &[u64], lengths: &[u64], sources: &[u64], sinks: &[u64], dist: &mut [u64]) -> Closest
+fn nearest_commodity(
+    n: u64,
+    tails: &[u64],
+    heads: &[u64],
+    lengths: &[u64],
+    sources: &[u64],
+    sinks: &[u64],
+    dist: &mut [u64],
+) -> Closest
     requires { ⌜ Survey (bare n (now tails) (now heads) (now sources) (now sinks)) (now lengths) (length (now dist)) ⌝ }
     ensures { λ r. ⌜ Nearest (bare n (now (tails .entry)) (now (heads .entry)) (now (sources .entry)) (now (sinks .entry))) (now (lengths .entry)) (length (now (sources .entry))) (r .commodity) (r .distance) ⌝ }
 {
-    let mut best = Closest { commodity: 0, distance: FAR };
+    let mut best = Closest {
+        commodity: 0,
+        distance: FAR,
+    };
     let mut i = 0;
     while i < sources.len() {
         distances(n, tails, heads, lengths, sinks[i], dist);
         let s = sources[i] as usize;
         let d = dist[s];
         if d < best.distance {
-            best = Closest { commodity: i, distance: d };
+            best = Closest {
+                commodity: i,
+                distance: d,
+            };
         }
         i += 1;
     }
@@ -59,11 +74,19 @@ pub fn choose(
     let i = best.commodity;
     let distance = best.distance;
     if distance >= FAR {
-        return Selected { commodity: i, arcs: 0, distance };
+        return Selected {
+            commodity: i,
+            arcs: 0,
+            distance,
+        };
     }
     let source = sources[i];
     let sink = sinks[i];
     distances(n, tails, heads, lengths, sink, dist);
     let arcs = walk(n, tails, heads, lengths, dist, source, sink, path);
-    Selected { commodity: i, arcs, distance }
+    Selected {
+        commodity: i,
+        arcs,
+        distance,
+    }
 }

@@ -21,28 +21,28 @@ use Rattle.paths.proofs.Bare.{bareOf, chose-net}
 use Rattle.solver.specs.Runs.{Lent, Space, Chooses}
 
 pub surveyed :
-  (net : Network) (q : ℕ) → Lent net q → (s : State) → Reached net q s → (nodes places : ℕ) → Space nodes places →
-  Search (bareOf net) (s .lengths) nodes places
+    (net : Network) (q : ℕ) → Lent net q → (s : State) → Reached net q s → (nodes places : ℕ) → Space nodes places →
+    Search (bareOf net) (s .lengths) nodes places
 surveyed net q lent s r nodes places space =
     let z = reached-sizes net q (lent .sound) s r in
     let e = sound-ends net q (lent .sound) in
     let few : net .nodes ≤ 64 = lent .sound .counts .of-nodes .most in
     record {
       survey =
-        record {
-          fit =
-            record {
-              heads = lent .heads;
-              lengths = r .valid .lengths;
-              ends = record { tails = e .tails; heads = e .heads; sources = e .sources; sinks = e .sinks; apart = e .apart };
-              small = z .length-high;
-              room = omega (arith, space .dist)
-            };
-          sinks = lent .sinks;
-          positive = z .length-low;
-          few = few
-        };
-      places = omega (arith, space .path)
+          record {
+            fit =
+                record {
+                  heads = lent .heads;
+                  lengths = r .valid .lengths;
+                  ends = record { tails = e .tails; heads = e .heads; sources = e .sources; sinks = e .sinks; apart = e .apart };
+                  small = z .length-high;
+                  room = omega (arith, space .dist);
+                };
+            sinks = lent .sinks;
+            positive = z .length-low;
+            few = few;
+          };
+      places = omega (arith, space .path);
     }
 
 -- Where something is chosen whatever the lengths, the search picks it.

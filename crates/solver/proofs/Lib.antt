@@ -10,5 +10,7 @@ pub mod OfCapacities
 pub mod OnPath
 pub mod Passed
 pub mod Ready
+pub mod Running
+pub mod Same
 pub mod Stepped
 pub mod Weighed

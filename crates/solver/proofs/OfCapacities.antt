@@ -9,6 +9,6 @@ use Rattle.method.specs.Iteration.{State, weight, grown, settled, advance}
 use Rattle.solver.specs.Progress.{ofCapacities}
 
 pub advance-same : (net : Network) (q : ℕ) (c : Choice) (s : State) → length (net .capacities) ≡ arcs net →
-  advance (ofCapacities (net .capacities)) q c s ≡ advance net q c s
+    advance (ofCapacities (net .capacities)) q c s ≡ advance net q c s
 unfolding advance weight grown settled
 advance-same net q c s h = rw h refl

@@ -30,7 +30,7 @@ use Rattle.solver.specs.Tables.{Under, Within, Capacities}
 use Rattle.solver.proofs.OnPath.{draw-at, draw-most, below-under}
 
 module _ (net : Network) (q : ℕ) (lent : Lent net q) (s : State) (r : Reached net q s) (i : ℕ) (p : List ℕ)
-  (h : choice net (s .lengths) ≡ some (choiceOf i p)) where
+    (h : choice net (s .lengths) ≡ some (choiceOf i p)) where
   abbrev caps : List ℕ
   caps = net .capacities
 
@@ -45,10 +45,10 @@ module _ (net : Network) (q : ℕ) (lent : Lent net q) (s : State) (r : Reached 
 
   capacities : Capacities caps
   capacities =
-    record {
-      least = λ e l. lent .sound .arc-capacity e (inside e l) .least;
-      most = λ e l. lent .sound .arc-capacity e (inside e l) .most
-    }
+      record {
+        least = λ e l. lent .sound .arc-capacity e (inside e l) .least;
+        most = λ e l. lent .sound .arc-capacity e (inside e l) .most;
+      }
 
   same : length (s .lengths) ≡ length caps
   same = v .lengths ∙ sym (lent .capacities)
@@ -64,8 +64,8 @@ module _ (net : Network) (q : ℕ) (lent : Lent net q) (s : State) (r : Reached 
 
   few : length p ≤ 64
   few =
-    omega
-    (arith, chosen-at net q (lent .sound) s v (choiceOf i p) h .few, lent .sound .counts .of-nodes .most)
+      omega
+      (arith, chosen-at net q (lent .sound) s v (choiceOf i p) h .few, lent .sound .counts .of-nodes .most)
 
   small : draw caps p ≤ 1000
   small = draw-most caps p arc places (capacities .most)
@@ -77,16 +77,17 @@ module _ (net : Network) (q : ℕ) (lent : Lent net q) (s : State) (r : Reached 
   amount : (x : ℕ) → x < length (s .flow) → getD (s .flow) x 0 < 2 ^ 32
   unfolding amounts loadOf
   amount x l =
-    let m : ℕ = arcs net in
-    let some : 0 < m = lent .sound .counts .of-arcs .least in
-    let j : x / m < commodities net = div-lt-iff-lt-mul some .1 (omega (arith, v .table .rows)) in
-    let e : x % m < m = mod-lt x some in
-    omega
-    (arith,
-    ap (λ t. getD (s .flow) t 0) (div-add-mod' x m),
-    term-le-sum (commodities net) (λ i. getD (s .flow) (i * m + x % m) 0) (x / m) j,
-    v .table .sums (x % m) e,
-    z .load-high (x % m) e)
+      let m : ℕ = arcs net in
+      let some : 0 < m = lent .sound .counts .of-arcs .least in
+      let j : x / m < commodities net = div-lt-iff-lt-mul some .1 (omega (arith, v .table .rows)) in
+      let e : x % m < m = mod-lt x some in
+      omega (
+        arith,
+        ap (λ t. getD (s .flow) t 0) (div-add-mod' x m),
+        term-le-sum (commodities net) (λ i. getD (s .flow) (i * m + x % m) 0) (x / m) j,
+        v .table .sums (x % m) e,
+        z .load-high (x % m) e,
+      )
 
   row-place : (j : ℕ) → j < length p → i * length caps + getD p j 0 < length (s .flow)
   row-place j l = omega (arith, places j l, mul-le-mul-right (length caps) listed, v .table .rows, ap (λ t. commodities net * t) (lent .capacities))
@@ -94,38 +95,38 @@ module _ (net : Network) (q : ℕ) (lent : Lent net q) (s : State) (r : Reached 
   grown-under : Under (2 ^ 41) (update (λ e x. growth q (draw caps p) (getD caps e 0) x) p (s .lengths))
   unfolding grown
   grown-under e l =
-    grown-sizes net q (lent .sound) s v (choiceOf i p) h e
-    (omega (arith, update-length (λ e x. growth q (draw caps p) (getD caps e 0) x) p (s .lengths), v .lengths))
+      grown-sizes net q (lent .sound) s v (choiceOf i p) h e
+      (omega (arith, update-length (λ e x. growth q (draw caps p) (getD caps e 0) x) p (s .lengths), v .lengths))
 
   pub ready : Stepping caps q i p (pathLength (s .lengths) p) s
   ready =
-    record {
-      arcs = arc;
-      few = few;
-      alpha = refl;
-      weighing = record { same = same; few = omega (arith, lent .capacities, lent .sound .counts .of-arcs .most); sizes = capacities .most; short = short };
-      growing =
-        record {
-          same = same;
-          coarsest = lent .sound .counts .precision .least;
-          finest = lent .sound .counts .precision .most;
-          places = places;
-          once = fair net q (lent .sound) s v (choiceOf i p) h .once;
-          drawn = draw-at caps p;
-          sizes = capacities;
-          short = short
-        };
-      grown = grown-under;
-      flow = record { places = row-place; amounts = amount; small = small; few = few };
-      loads =
-        record {
-          places = λ j l. omega (arith, places j l, v .table .places, lent .capacities);
-          amounts = λ e l. omega (arith, z .load-high e (omega (arith, v .table .places)));
-          small = small;
-          few = few
-        };
-      kept = v .bests ∙ sym (v .lengths);
-      row = omega (arith, listed, mul-le-mul (lent .sound .counts .of-commodities .most) (lent .sound .counts .of-arcs .most), mul-le-mul-right (length caps) listed, ap (λ t. commodities net * t) (lent .capacities));
-      total = omega (arith, z .total-high);
-      count = omega (arith, z .count-high)
-    }
+      record {
+        arcs = arc;
+        few = few;
+        alpha = refl;
+        weighing = record { same = same; few = omega (arith, lent .capacities, lent .sound .counts .of-arcs .most); sizes = capacities .most; short = short };
+        growing =
+            record {
+              same = same;
+              coarsest = lent .sound .counts .precision .least;
+              finest = lent .sound .counts .precision .most;
+              places = places;
+              once = fair net q (lent .sound) s v (choiceOf i p) h .once;
+              drawn = draw-at caps p;
+              sizes = capacities;
+              short = short;
+            };
+        grown = grown-under;
+        flow = record { places = row-place; amounts = amount; small = small; few = few };
+        loads =
+            record {
+              places = λ j l. omega (arith, places j l, v .table .places, lent .capacities);
+              amounts = λ e l. omega (arith, z .load-high e (omega (arith, v .table .places)));
+              small = small;
+              few = few;
+            };
+        kept = v .bests ∙ sym (v .lengths);
+        row = omega (arith, listed, mul-le-mul (lent .sound .counts .of-commodities .most) (lent .sound .counts .of-arcs .most), mul-le-mul-right (length caps) listed, ap (λ t. commodities net * t) (lent .capacities));
+        total = omega (arith, z .total-high);
+        count = omega (arith, z .count-high);
+      }

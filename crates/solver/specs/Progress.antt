@@ -27,6 +27,10 @@ stateOf lengths flow loads kept p =
       bestLengths = kept;
     }
 
+-- Before the first iteration.
+abbrev pub begun : Progress
+begun = record { total = 0; count = 0; bound = 1; alpha = 0; best = 0 }
+
 -- A network with these capacities, of which nothing else is said: all that a step depends on.
 abbrev pub ofCapacities : List ℕ → Network
 ofCapacities capacities = record { nodes = 0; tails = capacities; heads = []; capacities = capacities; sources = []; sinks = [] }

@@ -32,7 +32,7 @@ abbrev μ-loop : tie.MeasureT-loop
 
 -- one commodity more, whose distances are in the table
 module _ {net : Network} {l : List ℕ} {size i c x : ℕ} {d e : List ℕ} (lent : Survey net l size) (S : Looked net l size d c x i)
-  (b : i < commodities net) (s : length e ≡ length d) (T : Table (graphOf net) l e (sink net i) far) where
+    (b : i < commodities net) (s : length e ≡ length d) (T : Table (graphOf net) l e (sink net i) far) where
   looked : {c y : ℕ} → Nearest net l (suc i) c y → Looked net l size e c y (i + 1)
   looked N = record { within = omega arith; whole = s ∙ S .whole; nearest = rw add-one N }
 

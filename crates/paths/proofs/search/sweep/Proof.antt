@@ -37,7 +37,7 @@ behind-more :
     {net : Network} {l old new x : List ℕ} {flag r also : Bool} {e : ℕ} → Behind net l old new flag e → e < arcs net →
     r ≡ shortens net l new e → x ≡ relaxed net l new e → also ≡ flag || r → Behind net l old x also (e + 1)
 unfolding swept changed exists
-behind-more b c s q f = 
+behind-more b c s q f =
     record {
       within = omega arith;
       now-swept = rw add-one (q ∙ rw (b .now-swept) refl);
