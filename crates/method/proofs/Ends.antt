@@ -185,3 +185,7 @@ module _ (net : Network) (q : ℕ) (sound : Sound net q) (joined : (l : List ℕ
       let c = joined (s .lengths) in
       let r = reached-nth j (λ i b. run-ends .before i (omega arith)) in
       rw (iteration-some s (c .0) (c .1)) (next-sizes net q sound s r (c .0) (c .1))
+
+  -- ... the last one too.
+  pub final-sizes : Sizes net (run net q)
+  final-sizes = rw (run-ends .steps) (run-sizes (run net q .count) (le-refl (run net q .count)))

@@ -12,5 +12,6 @@ pub mod Passed
 pub mod Ready
 pub mod Running
 pub mod Same
+pub mod Solving
 pub mod Stepped
 pub mod Weighed

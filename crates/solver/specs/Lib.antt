@@ -1,4 +1,5 @@
 pub mod Calls
 pub mod Progress
 pub mod Runs
+pub mod Solved
 pub mod Tables

@@ -3,4 +3,5 @@ pub mod draws;
 pub mod lengths;
 pub mod loads;
 pub mod runs;
+pub mod solves;
 pub mod steps;

@@ -65,7 +65,7 @@ fn begin() -> Progress
 }
 
 // Iterations until some load is at the threshold. There are at most m * T of them: the count falls short of that by one less each time.
-fn run(
+pub fn run(
     n: u64,
     q: u64,
     tails: &[u64],

@@ -1,0 +1,86 @@
+-- The cleared tables are the definition's start, and the two outcomes. Assumes nothing.
+use mathlib.Core.Path.{_≡_, refl, sym, ap, _∙_}
+use mathlib.Core.Option.{none, some}
+use mathlib.Core.List.{List, map}
+use Prim.Native.Nat.{ℕ, _*_, _-_}
+use native.Mathlib.Omega.{arith}
+use lib.ListN.{length, getD, replicate}
+use Rattle.arith.specs.Lists.{upTo}
+use Rattle.length.specs.Length.{start}
+use Rattle.network.specs.Network.{Network, arcs, commodities}
+use Rattle.method.specs.Answer.{fullest, outcome, outcomeOf, unjoined}
+use Rattle.method.specs.Choice.{Choice, choice}
+use Rattle.method.specs.Iteration.{initial}
+use Rattle.method.specs.Run.{run}
+use Rattle.method.proofs.Ends.{final-sizes}
+use Rattle.method.proofs.Guaranteed.{guarantee}
+use Rattle.solver.specs.Calls.{Ranking}
+use Rattle.solver.specs.declared.steps.Progress.{Progress}
+use Rattle.solver.specs.Progress.{stateOf, begun}
+use Rattle.solver.specs.Runs.{Lent, Chooses}
+use Rattle.solver.specs.Solved.{Sized, Solved, answerOf, noAnswer}
+
+-- The lengths that the start leaves.
+abbrev pub firstLengths : List ℕ → List ℕ
+firstLengths capacities = map (λ e. start (getD capacities e 0)) (upTo (length capacities))
+
+pub initial-is :
+  (net : Network) (q : ℕ) → Lent net q → (flow kept loads lengths : List ℕ) → Sized net flow kept loads lengths →
+  stateOf (firstLengths (net .capacities)) (replicate (length flow) 0) (replicate (length loads) 0) (replicate (length kept) 0) begun ≡ initial net
+unfolding initial
+initial-is net q lent flow kept loads lengths z = rw (lent .capacities, z .flows, z .loadings, z .keeps) refl
+
+pub outcome-some : (net : Network) (q : ℕ) (c : Choice) → choice net (initial net .lengths) ≡ some c → outcome net q ≡ outcomeOf net (run net q)
+unfolding outcome
+outcome-some net q c h = rw (h, outcome) refl
+
+pub outcome-none : (net : Network) (q : ℕ) → choice net (initial net .lengths) ≡ none → outcome net q ≡ unjoined net
+unfolding outcome
+outcome-none net q h = rw (h, outcome) refl
+
+pub lengths-is : (net : Network) (q : ℕ) → Lent net q → firstLengths (net .capacities) ≡ initial net .lengths
+unfolding initial
+lengths-is net q lent = rw (lent .capacities) refl
+
+-- No commodity is joined: the cleared tables are the outcome's.
+pub solved-none :
+  (net : Network) (q : ℕ) → Lent net q → (flow kept loads lengths : List ℕ) → Sized net flow kept loads lengths →
+  choice net (initial net .lengths) ≡ none → Solved net q noAnswer (replicate (length flow) 0) (replicate (length kept) 0)
+unfolding unjoined
+solved-none net q lent flow kept loads lengths z h =
+    let e = outcome-none net q h in
+    record {
+      answers = sym (ap (λ o. o .answer) e);
+      flows = ap (λ n. replicate n 0) (z .flows) ∙ sym (ap (λ o. o .flow) e);
+      lengths = ap (λ n. replicate n 0) (z .keeps) ∙ sym (ap (λ o. o .lengths) e);
+      guarantee = guarantee net q (lent .sound)
+    }
+
+-- The run's tables are the outcome's.
+pub solved-some :
+  (net : Network) (q : ℕ) → Lent net q → (c : Choice) → choice net (initial net .lengths) ≡ some c → (flow kept loads lengths : List ℕ) (p : Progress) →
+  stateOf lengths flow loads kept p ≡ run net q → length loads ≡ arcs net →
+  Solved net q (answerOf (net .capacities) loads (fullest (net .capacities) loads (length loads - 1)) p) flow kept
+unfolding outcomeOf
+solved-some net q lent c h flow kept loads lengths p r size =
+    let e : outcome net q ≡ outcomeOf net (stateOf lengths flow loads kept p) = outcome-some net q c h ∙ ap (outcomeOf net) (sym r) in
+    record {
+      answers =
+        ap (λ n. answerOf (net .capacities) loads (fullest (net .capacities) loads (n - 1)) p) size ∙ sym (ap (λ o. o .answer) e);
+      flows = sym (ap (λ o. o .flow) e);
+      lengths = sym (ap (λ o. o .lengths) e);
+      guarantee = guarantee net q (lent .sound)
+    }
+
+-- Loads and capacities of the end, as the answer compares them.
+pub ranking :
+  (net : Network) (q : ℕ) → Lent net q → Chooses net → (loads : List ℕ) → loads ≡ run net q .loads → length loads ≡ arcs net →
+  Ranking loads (net .capacities)
+ranking net q lent chooses loads r size =
+    let z = final-sizes net q (lent .sound) chooses in
+    record {
+      some = omega (arith, lent .sound .counts .of-arcs .least);
+      same = size ∙ sym (lent .capacities);
+      amounts = λ e l. omega (arith, ap (λ t. getD t e 0) r, z .load-high e (omega arith));
+      sizes = λ e l. lent .sound .arc-capacity e (omega (arith, lent .capacities)) .most
+    }

@@ -1,0 +1,41 @@
+-- What the solver leaves: the outcome of the method, with all that holds of it.
+use mathlib.Core.Path.{_≡_}
+use mathlib.Core.List.{List}
+use Prim.Native.Nat.{ℕ, _*_}
+use lib.ListN.{length, getD}
+use Rattle.network.specs.Network.{Network, arcs, commodities}
+use Rattle.method.specs.Answer.{outcome, fullest}
+use Rattle.method.specs.Guarantee.{Guarantee}
+use Rattle.method.specs.declared.Answer.{Answer}
+use Rattle.solver.specs.declared.steps.Progress.{Progress}
+
+-- Tables of just the size that the outcome has.
+pub record Sized (net : Network) (flow kept loads lengths : List ℕ) : Type 0 where
+  pub flows : length flow ≡ commodities net * arcs net
+  pub keeps : length kept ≡ arcs net
+  pub loadings : length loads ≡ arcs net
+  pub lengthens : length lengths ≡ arcs net
+
+-- The answer of a run that left these loads and numbers.
+abbrev pub answerOf : List ℕ → List ℕ → ℕ → Progress → Answer
+answerOf capacities loads b p =
+    record {
+      total = p .total;
+      capacity = getD capacities b 0;
+      load = getD loads b 0;
+      bound = p .bound;
+      alpha = p .alpha;
+      count = p .count;
+      best = p .best
+    }
+
+-- "unjoined"
+abbrev pub noAnswer : Answer
+noAnswer = record { total = 0; capacity = 1; load = 1; bound = 0; alpha = 1; count = 0; best = 0 }
+
+-- The answer and the two tables are the outcome's, and the outcome meets the guarantee.
+pub record Solved (net : Network) (q : ℕ) (answer : Answer) (flow kept : List ℕ) : Type 0 where
+  pub answers : answer ≡ outcome net q .answer
+  pub flows : flow ≡ outcome net q .flow
+  pub lengths : kept ≡ outcome net q .lengths
+  pub guarantee : Guarantee net q (outcome net q)
