@@ -78,3 +78,42 @@ fn solve_in(
     let p = runs::run(n, q, tails, heads, capacities, sources, sinks, flow, loads, lengths, kept, dist, path);
     answer(capacities, loads, p)
 }
+
+// The outcome of an accepted network, in tables of just its size.
+pub fn solve(
+    n: u64,
+    q: u64,
+    tails: &[u64],
+    heads: &[u64],
+    capacities: &[u64],
+    sources: &[u64],
+    sinks: &[u64],
+    flow: &mut [u64],
+    kept: &mut [u64],
+) -> Answer
+    requires lent { ⌜ Lent (networkOf n (now tails) (now heads) (now capacities) (now sources) (now sinks)) q ⌝ }
+    requires flows { ⌜ length (now flow) ≡ commodities (networkOf n (now tails) (now heads) (now capacities) (now sources) (now sinks)) * arcs (networkOf n (now tails) (now heads) (now capacities) (now sources) (now sinks)) ⌝ }
+    requires keeps { ⌜ length (now kept) ≡ arcs (networkOf n (now tails) (now heads) (now capacities) (now sources) (now sinks)) ⌝ }
+    ensures { λ r. ⌜ Solved (networkOf n (now (tails .entry)) (now (heads .entry)) (now (capacities .entry)) (now (sources .entry)) (now (sinks .entry))) q r (now (flow .exit)) (now (kept .exit)) ⌝ }
+{
+    let m = tails.len();
+    let mut loads = [0u64; 256];
+    let mut lengths = [0u64; 256];
+    let mut dist = [0u64; 65];
+    let mut path = [0u64; 64];
+    solve_in(
+        n,
+        q,
+        tails,
+        heads,
+        capacities,
+        sources,
+        sinks,
+        flow,
+        kept,
+        &mut loads[..m],
+        &mut lengths[..m],
+        &mut dist,
+        &mut path,
+    )
+}
