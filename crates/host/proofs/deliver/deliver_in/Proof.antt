@@ -1,0 +1,101 @@
+-- `host::deliver::deliver_in` meets its contract: each table takes its part of the outcome. Assumes nothing.
+use borrow.Author.Needs.{needs}
+use denote.Ref.{now}
+use mathlib.Core.Path.{ap, _∙_}
+use mathlib.Core.List.{[], _∷_}
+use Prim.Native.Nat.{_+_}
+use native.Mathlib.Nat.{le-refl}
+use native.Mathlib.Omega.{arith}
+use lib.Seq.{take-length}
+use Rattle.numbers.specs.Numbers.{written}
+use Rattle.method.specs.Answer.{numbersOf}
+use Rattle.host.proofs.Counting.{count-small}
+use Rattle.host.proofs.deliver.deliver_in.Statement.{statement}
+use Rattle.host.proofs.deliver.deliver_in.Tie as tie
+use Rattle.host.proofs.deliver.deliver_in.Reads as reads
+use Rattle.host.proofs.deliver.deliver_in.Lts as lts
+use Rattle.host.proofs.deliver.put_answer.Reads as put-answer-reads
+use Rattle.host.proofs.deliver.put_count.Reads as put-count-reads
+use Rattle.numbers.proofs.write_all.Reads as write-all-reads
+use Rattle.solver.proofs.solves.solve.Reads as solve-reads
+
+-- src/deliver.rt:53:9
+solve-requires : tie.Need-solve-requires
+solve-requires c κs = search needs
+
+-- src/deliver.rt:54:5
+write-all-requires : tie.Need-write-all-requires
+write-all-requires c κs =
+    let s = c .before .before .before .before .before .before .before .before .before .before .before .before .before .before .before .before .before .before .before .before in
+    (le-refl _, omega (arith, c .before .before .before .before .before .before .solve .kept .1 .1 .1 .1 .1 .1 .1 .0, s .pre .1 .1 .0, s .pre .1 .0 .room .for-flow))
+
+-- src/deliver.rt:55:5
+write-all-requires-2 : tie.Need-write-all-requires-2
+write-all-requires-2 c κs =
+    let s = c .before .before .before .before .before .before .before .before .before .before .before .before .before .before .before .before .before .before .before .before .before .before .before .before .before in
+    (le-refl _, omega (arith, c .before .before .before .before .before .before .before .before .before .before .before .solve .kept .1 .1 .1 .1 .1 .1 .1 .1 .0, s .pre .1 .1 .1, s .pre .1 .0 .room .for-length))
+
+-- src/deliver.rt:56:5
+put-answer-requires : tie.Need-put-answer-requires
+put-answer-requires c κs = c .before .before .before .before .before .before .before .before .before .before .before .before .before .before .before .before .before .before .before .before .before .before .before .before .before .before .before .before .before .pre .1 .0 .room .for-answer
+
+-- src/deliver.rt:57:5
+put-count-requires : tie.Need-put-count-requires
+put-count-requires c κs =
+    let s = c .before .before .before .before .before .before .before .before .before .before .before .before .before .before .before .before .before .before .before .before .before .before .before .before .before .before .before .before .before .before .before .before .before in
+    (s .pre .1 .0 .room .for-count,
+    omega (arith, s .pre .1 .0 .full, count-small _ (s .args .q) (s .pre .0) (c .before .before .before .before .before .before .before .before .before .before .before .before .before .before .before .before .before .before .before .solve .result) _ _ (c .before .before .before .before .before .before .before .before .before .before .before .before .before .before .before .before .before .before .before .solve .ensures)))
+
+-- src/deliver.rt:31:1
+same-length : tie.Need-same-length
+same-length c = search needs
+
+-- src/deliver.rt:31:1
+same-length-2 : tie.Need-same-length-2
+same-length-2 c = search needs
+
+-- src/deliver.rt:31:1
+same-length-3 : tie.Need-same-length-3
+same-length-3 c = search needs
+
+-- src/deliver.rt:31:1
+same-length-4 : tie.Need-same-length-4
+same-length-4 c = search needs
+
+-- src/deliver.rt:31:1
+same-length-5 : tie.Need-same-length-5
+same-length-5 c = search needs
+
+-- src/deliver.rt:31:1
+same-length-6 : tie.Need-same-length-6
+same-length-6 c = search needs
+
+-- src/deliver.rt:31:1
+returns : tie.Need-returns
+returns c =
+    let s = c .before .before .before .before .before .before .before .before .before .before .before .before .before .before .before .before .before .before .before .before .before .before .before .before .before .before .before .before .before .before .before .before .before .before .before .before in
+    let r = c .before .before .before .before .before .before .before .before .before .before .before .before .before .before .before .before .before .before .before .before .before .before .solve in
+    record {
+      flows = c .before .before .before .before .before .before .before .before .before .before .before .before .before .before .before .write-all .ensures ∙ ap (written (now (s .args .flow))) (take-length (r .last .1 .1 .1 .1 .1 .1 .1 .0) ∙ r .ensures .flows);
+      keeps = c .before .before .before .before .before .before .before .before .before .before .write-all2 .ensures ∙ ap (written (now (s .args .lengths))) (take-length (r .last .1 .1 .1 .1 .1 .1 .1 .1 .0) ∙ r .ensures .lengths);
+      answers = c .before .before .before .before .before .before .put-answer .ensures ∙ ap (λ a. written (now (s .args .answer)) (numbersOf a)) (r .ensures .answers);
+      counts = c .before .before .put-count .ensures ∙ ap (λ a. written (now (s .args .table)) ((s .args .running + a .count) ∷ [])) (r .ensures .answers);
+      guarantee = r .ensures .guarantee
+    }
+
+pub deliver-in-spec : {M : Type 1} → statement M
+deliver-in-spec =
+    tie.close
+    (tie.spec
+    solve-requires
+    write-all-requires
+    write-all-requires-2
+    put-answer-requires
+    put-count-requires
+    same-length
+    same-length-2
+    same-length-3
+    same-length-4
+    same-length-5
+    same-length-6
+    returns)

@@ -1,0 +1,2 @@
+pub mod Deliver
+pub mod Host
