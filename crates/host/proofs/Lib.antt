@@ -1,2 +1,3 @@
 pub mod Counting
 pub mod First
+pub mod Judged

@@ -1,5 +1,6 @@
 // Calls for a host written in C, on numbers and byte slices.
 mod deliver;
+mod judge;
 ghost use Rattle.host.specs.Host.{runningIn};
 ghost use mathlib.Core.Path.{_≡_};
 

@@ -1,0 +1,145 @@
+-- `host::judge::judge` meets its contract: the first refusal decides and changes nothing; else the outcome is delivered. Assumes nothing.
+use borrow.Author.Needs.{needs}
+use denote.Ref.{now}
+use mathlib.Core.Path.{_≡_, refl, sym, ap, _∙_}
+use Prim.Native.Nat.{_<_, _^_}
+use Rattle.network.specs.Network.{Network}
+use Rattle.network.specs.Refusal.{hostNumber}
+use Rattle.network.specs.Verdict.{firstRow, itemRows, arcRows, commodityRows}
+use Rattle.network.specs.declared.Verdict.the-variants.{Accepted}
+use Rattle.network.proofs.FirstRow.{refused-first, accepted-first}
+use Rattle.solver.specs.Runs.{networkOf}
+use Rattle.host.proofs.Judged.{fits, lends, served-refused, served-accepted}
+use Rattle.host.proofs.judge.judge.Statement.{statement}
+use Rattle.host.proofs.judge.judge.Tie as tie
+use Rattle.host.proofs.judge.judge.Reads as reads
+use Rattle.host.proofs.judge.judge.Lts as lts
+use Rattle.host.proofs.deliver.deliver.Reads as deliver-reads
+use Rattle.network.proofs.checks.check_arcs.Reads as check-arcs-reads
+use Rattle.network.proofs.checks.check_commodities.Reads as check-commodities-reads
+use Rattle.network.proofs.numbers.host_number.Reads as host-number-reads
+
+-- src/judge.rt:29:9
+check-arcs-requires : tie.Need-check-arcs-requires
+check-arcs-requires c κs = search needs
+
+-- src/judge.rt:31:9
+enum-told : tie.Need-enum-told
+enum-told c = search needs
+
+-- src/judge.rt:31:9
+-- the network at entry
+abbrev net : (s : tie.Start) → Network
+net s =
+    networkOf (s .args .n) (now (s .args .tails)) (now (s .args .heads)) (now (s .args .capacities)) (now (s .args .sources))
+    (now (s .args .sinks))
+
+-- the bounds of the result, whatever the verdict
+number-fits : (s : tie.Start) → hostNumber (firstRow (itemRows (net s))) < 2 ^ 64
+number-fits s =
+    fits (net s) (s .args .q) (now (s .args .flow)) (now (s .args .lengths)) (now (s .args .answer)) (now (s .args .table)) (s .args .running) (s .pre)
+
+-- the arcs are refused, so the call is
+of-arcs : (c : tie.After-enum-told) → c .before .before .check-arcs .result ≡ firstRow (itemRows (net (c .before .before .before .before .before .before .before .before .before .before .before .before)))
+unfolding itemRows arcRows
+of-arcs c = refused-first _ _ (c .before .before .check-arcs .ensures) (c .enum-told .given .1)
+
+host-number-requires : tie.Need-host-number-requires
+host-number-requires c κs = rw (of-arcs c) (number-fits (c .before .before .before .before .before .before .before .before .before .before .before .before))
+
+-- src/judge.rt:31:9
+returns : tie.Need-returns
+returns c =
+    let s = c .before .before .before .before .before .before .before .before .before .before .before .before .before in
+    let e = of-arcs (c .before) in
+    served-refused (net s) (s .args .q) (firstRow (itemRows (net s))) (s .args .running) (now (s .args .flow)) (now (s .args .lengths)) (now (s .args .answer))
+    (now (s .args .table)) (c .host-number .result) _ (sym e ∙ c .before .enum-told .given .1) (c .host-number .ensures ∙ ap hostNumber e)
+
+enum-told-2 : tie.Need-enum-told-2
+enum-told-2 c = search needs
+
+-- src/judge.rt:33:9
+check-commodities-requires : tie.Need-check-commodities-requires
+check-commodities-requires c κs = search needs
+
+-- src/judge.rt:35:9
+enum-told-3 : tie.Need-enum-told-3
+enum-told-3 c = search needs
+
+-- src/judge.rt:35:9
+-- the arcs pass, so the commodities decide
+of-commodities : (c : tie.After-check-commodities) → c .check-commodities .result ≡ firstRow (itemRows (net (c .before .before .before .before .before .before .before .before .before .before .before .before .before)))
+unfolding itemRows arcRows commodityRows
+of-commodities c =
+    accepted-first _ _ (c .before .before .before .check-arcs .ensures) (c .before .enum-told2 .given .1) (c .check-commodities .ensures)
+
+host-number-requires-2 : tie.Need-host-number-requires-2
+host-number-requires-2 c κs = rw (of-commodities (c .before .before)) (number-fits (c .before .before .before .before .before .before .before .before .before .before .before .before .before .before .before))
+
+-- src/judge.rt:35:9
+returns-2 : tie.Need-returns-2
+returns-2 c =
+    let s = c .before .before .before .before .before .before .before .before .before .before .before .before .before .before .before .before in
+    let e = of-commodities (c .before .before .before) in
+    served-refused (net s) (s .args .q) (firstRow (itemRows (net s))) (s .args .running) (now (s .args .flow)) (now (s .args .lengths)) (now (s .args .answer))
+    (now (s .args .table)) (c .host-number2 .result) _ (sym e ∙ c .before .enum-told3 .given .1) (c .host-number2 .ensures ∙ ap hostNumber e)
+
+enum-told-4 : tie.Need-enum-told-4
+enum-told-4 c = search needs
+
+-- src/judge.rt:37:5
+-- nothing is refused
+accepted : (c : tie.After-enum-told4) → firstRow (itemRows (net (c .before .before .before .before .before .before .before .before .before .before .before .before .before .before .before))) ≡ Accepted
+accepted c = sym (of-commodities (c .before .before)) ∙ c .enum-told4 .given .1
+
+deliver-requires : tie.Need-deliver-requires
+deliver-requires c κs =
+    let s = c .before .before .before .before .before .before .before .before .before .before .before .before .before .before .before .before .before .before .before in
+    (lends (net s) (s .args .q) (now (s .args .flow)) (now (s .args .lengths)) (now (s .args .answer)) (now (s .args .table)) (s .args .running) (s .pre)
+    (accepted (c .before .before .before .before)),
+    s .pre .open-for)
+
+-- src/judge.rt:12:1
+same-length : tie.Need-same-length
+same-length c = search needs
+
+-- src/judge.rt:12:1
+same-length-2 : tie.Need-same-length-2
+same-length-2 c = search needs
+
+-- src/judge.rt:12:1
+same-length-3 : tie.Need-same-length-3
+same-length-3 c = search needs
+
+-- src/judge.rt:12:1
+same-length-4 : tie.Need-same-length-4
+same-length-4 c = search needs
+
+-- src/judge.rt:12:1
+returns-3 : tie.Need-returns-3
+returns-3 c =
+    let s = c .before .before .before .before .before .before .before .before .before .before .before .before .before .before .before .before .before .before .before .before .before .before .before .before .before .before .before .before in
+    let l = c .before .before .before .before .before .before .before .before .deliver .last .1 .1 .1 .1 .1 .1 .1 .1 in
+    served-accepted (net s) (s .args .q) (firstRow (itemRows (net s))) (s .args .running) (now (s .args .flow)) (now (s .args .lengths)) (now (s .args .answer))
+    (now (s .args .table)) 0 (l .0) (l .1 .0) (l .1 .1 .0) (l .1 .1 .1 .0) (accepted (c .before .before .before .before .before .before .before .before .before .before .before .before .before)) refl (c .before .before .before .before .before .before .before .before .deliver .ensures)
+
+pub judge-spec : {M : Type 1} → statement M
+judge-spec =
+    tie.close
+    (tie.spec
+    check-arcs-requires
+    enum-told
+    host-number-requires
+    returns
+    enum-told-2
+    check-commodities-requires
+    enum-told-3
+    host-number-requires-2
+    returns-2
+    enum-told-4
+    deliver-requires
+    same-length
+    same-length-2
+    same-length-3
+    same-length-4
+    returns-3)
