@@ -1,3 +1,4 @@
 pub mod Counting
+pub mod Decoded
 pub mod First
 pub mod Judged

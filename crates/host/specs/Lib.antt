@@ -1,3 +1,4 @@
+pub mod Decode
 pub mod Deliver
 pub mod Host
 pub mod Judge

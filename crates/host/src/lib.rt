@@ -1,4 +1,5 @@
 // Calls for a host written in C, on numbers and byte slices.
+mod decode;
 mod deliver;
 mod judge;
 ghost use Rattle.host.specs.Host.{runningIn};

@@ -1,0 +1,134 @@
+-- `host::decode::decode_in` meets its contract: the columns of the bytes are the network's lists. Assumes nothing.
+use borrow.Author.Needs.{needs}
+use denote.Ref.{now}
+use mathlib.Core.Path.{_≡_, _∙_}
+use native.Mathlib.Omega.{arith}
+use lib.Dec.{lit<}
+use Rattle.numbers.specs.Numbers.{items, column}
+use Rattle.host.specs.Host.{networkIn}
+use Rattle.host.proofs.Decoded.{column-of, judging}
+use Rattle.host.proofs.decode.decode_in.Statement.{statement}
+use Rattle.host.proofs.decode.decode_in.Tie as tie
+use Rattle.host.proofs.decode.decode_in.Reads as reads
+use Rattle.host.proofs.decode.decode_in.Lts as lts
+use Rattle.host.proofs.judge.judge.Reads as judge-reads
+use Rattle.numbers.proofs.read_column.Reads as read-column-reads
+
+-- src/decode.rt:30:5
+read-column-requires : tie.Need-read-column-requires
+read-column-requires c κs = search needs
+
+-- src/decode.rt:31:5
+read-column-requires-2 : tie.Need-read-column-requires-2
+read-column-requires-2 c κs = search needs
+
+-- src/decode.rt:32:5
+read-column-requires-3 : tie.Need-read-column-requires-3
+read-column-requires-3 c κs = search needs
+
+-- src/decode.rt:33:5
+read-column-requires-4 : tie.Need-read-column-requires-4
+read-column-requires-4 c κs = search needs
+
+-- src/decode.rt:34:5
+read-column-requires-5 : tie.Need-read-column-requires-5
+read-column-requires-5 c κs =
+    let p = c .before .before .before .before .before .before .before .before .before .before .before .before .before .before .before .before .before .before .before .before .before .before .before .before .before .before .before .before .pre .1 in
+    (lit< tt, omega (arith, p .for-sources), omega (arith, p .for-sources, p .for-sinks))
+
+-- src/decode.rt:35:5
+-- each table has its column
+tails : (c : tie.After-read-column5) → c .before .before .before .before .before .before .before .before .before .before .before .before .before .before .before .before .read-column .last .1 .1 .1 .1 .0 ≡ column (now (c .before .before .before .before .before .before .before .before .before .before .before .before .before .before .before .before .before .before .before .before .before .before .before .before .before .before .before .before .before .args .belts)) 3 0 (items 3 (now (c .before .before .before .before .before .before .before .before .before .before .before .before .before .before .before .before .before .before .before .before .before .before .before .before .before .before .before .before .before .args .belts)))
+tails c =
+    let s = c .before .before .before .before .before .before .before .before .before .before .before .before .before .before .before .before .before .before .before .before .before .before .before .before .before .before .before .before .before in
+    c .before .before .before .before .before .before .before .before .before .before .before .before .before .before .before .before .read-column .ensures ∙ column-of _ (now (s .args .tails)) 3 0 _ (s .pre .1 .for-tails) (s .pre .1 .for-tails)
+
+heads : (c : tie.After-read-column5) → c .before .before .before .before .before .before .before .before .before .before .before .before .read-column2 .last .1 .1 .1 .1 .0 ≡ column (now (c .before .before .before .before .before .before .before .before .before .before .before .before .before .before .before .before .before .before .before .before .before .before .before .before .before .before .before .before .before .args .belts)) 3 1 (items 3 (now (c .before .before .before .before .before .before .before .before .before .before .before .before .before .before .before .before .before .before .before .before .before .before .before .before .before .before .before .before .before .args .belts)))
+heads c =
+    let s = c .before .before .before .before .before .before .before .before .before .before .before .before .before .before .before .before .before .before .before .before .before .before .before .before .before .before .before .before .before in
+    c .before .before .before .before .before .before .before .before .before .before .before .before .read-column2 .ensures ∙ column-of _ (now (s .args .heads)) 3 1 _ (s .pre .1 .for-heads) (s .pre .1 .for-tails)
+
+capacities : (c : tie.After-read-column5) → c .before .before .before .before .before .before .before .before .read-column3 .last .1 .1 .1 .1 .0 ≡ column (now (c .before .before .before .before .before .before .before .before .before .before .before .before .before .before .before .before .before .before .before .before .before .before .before .before .before .before .before .before .before .args .belts)) 3 2 (items 3 (now (c .before .before .before .before .before .before .before .before .before .before .before .before .before .before .before .before .before .before .before .before .before .before .before .before .before .before .before .before .before .args .belts)))
+capacities c =
+    let s = c .before .before .before .before .before .before .before .before .before .before .before .before .before .before .before .before .before .before .before .before .before .before .before .before .before .before .before .before .before in
+    c .before .before .before .before .before .before .before .before .read-column3 .ensures ∙ column-of _ (now (s .args .capacities)) 3 2 _ (s .pre .1 .for-capacities) (s .pre .1 .for-tails)
+
+sources : (c : tie.After-read-column5) → c .before .before .before .before .read-column4 .last .1 .1 .1 .1 .0 ≡ column (now (c .before .before .before .before .before .before .before .before .before .before .before .before .before .before .before .before .before .before .before .before .before .before .before .before .before .before .before .before .before .args .pairs)) 2 0 (items 2 (now (c .before .before .before .before .before .before .before .before .before .before .before .before .before .before .before .before .before .before .before .before .before .before .before .before .before .before .before .before .before .args .pairs)))
+sources c =
+    let s = c .before .before .before .before .before .before .before .before .before .before .before .before .before .before .before .before .before .before .before .before .before .before .before .before .before .before .before .before .before in
+    c .before .before .before .before .read-column4 .ensures ∙ column-of _ (now (s .args .sources)) 2 0 _ (s .pre .1 .for-sources) (s .pre .1 .for-sources)
+
+sinks : (c : tie.After-read-column5) → c .read-column5 .last .1 .1 .1 .1 .0 ≡ column (now (c .before .before .before .before .before .before .before .before .before .before .before .before .before .before .before .before .before .before .before .before .before .before .before .before .before .before .before .before .before .args .pairs)) 2 1 (items 2 (now (c .before .before .before .before .before .before .before .before .before .before .before .before .before .before .before .before .before .before .before .before .before .before .before .before .before .before .before .before .before .args .pairs)))
+sinks c =
+    let s = c .before .before .before .before .before .before .before .before .before .before .before .before .before .before .before .before .before .before .before .before .before .before .before .before .before .before .before .before .before in
+    c .read-column5 .ensures ∙ column-of _ (now (s .args .sinks)) 2 1 _ (s .pre .1 .for-sinks) (s .pre .1 .for-sources)
+
+judge-requires : tie.Need-judge-requires
+unfolding networkIn
+judge-requires c κs =
+    let s = c .before .before .before .before .before .before .before .before .before .before .before .before .before .before .before .before .before .before .before .before .before .before .before .before .before .before .before .before .before .before .before .before .before .before .before .before .before .before .before .before in
+    rw (tails (c .before .before .before .before .before .before .before .before .before .before .before), heads (c .before .before .before .before .before .before .before .before .before .before .before), capacities (c .before .before .before .before .before .before .before .before .before .before .before), sources (c .before .before .before .before .before .before .before .before .before .before .before), sinks (c .before .before .before .before .before .before .before .before .before .before .before))
+    (judging (s .args .n) (s .args .q) (now (s .args .belts)) (now (s .args .pairs)) (now (s .args .flow)) (now (s .args .lengths)) (now (s .args .answer))
+    (now (s .args .table)) (s .args .running) (s .pre .0))
+
+-- src/decode.rt:8:1
+same-length : tie.Need-same-length
+same-length c = c .before .before .before .before .before .before .before .before .before .before .before .before .before .before .before .before .before .before .before .before .before .before .before .before .before .before .before .before .before .before .before .before .before .before .before .before .read-column .kept .1 .1 .1 .1 .0
+
+-- src/decode.rt:8:1
+same-length-2 : tie.Need-same-length-2
+same-length-2 c = c .before .before .before .before .before .before .before .before .before .before .before .before .before .before .before .before .before .before .before .before .before .before .before .before .before .before .before .before .before .before .before .before .read-column2 .kept .1 .1 .1 .1 .0
+
+-- src/decode.rt:8:1
+same-length-3 : tie.Need-same-length-3
+same-length-3 c = search needs
+
+-- src/decode.rt:8:1
+same-length-4 : tie.Need-same-length-4
+same-length-4 c = search needs
+
+-- src/decode.rt:8:1
+same-length-5 : tie.Need-same-length-5
+same-length-5 c = search needs
+
+-- src/decode.rt:8:1
+same-length-6 : tie.Need-same-length-6
+same-length-6 c = search needs
+
+-- src/decode.rt:8:1
+same-length-7 : tie.Need-same-length-7
+same-length-7 c = search needs
+
+-- src/decode.rt:8:1
+same-length-8 : tie.Need-same-length-8
+same-length-8 c = search needs
+
+-- src/decode.rt:8:1
+same-length-9 : tie.Need-same-length-9
+same-length-9 c = search needs
+
+-- src/decode.rt:8:1
+returns : tie.Need-returns
+unfolding networkIn
+returns c = rw (tails (c .before .before .before .before .before .before .before .before .before .before .before .before .before .before .before .before .before .before .before .before), heads (c .before .before .before .before .before .before .before .before .before .before .before .before .before .before .before .before .before .before .before .before), capacities (c .before .before .before .before .before .before .before .before .before .before .before .before .before .before .before .before .before .before .before .before), sources (c .before .before .before .before .before .before .before .before .before .before .before .before .before .before .before .before .before .before .before .before), sinks (c .before .before .before .before .before .before .before .before .before .before .before .before .before .before .before .before .before .before .before .before)) at (c .before .before .before .before .before .before .before .before .judge .ensures)
+
+pub decode-in-spec : {M : Type 1} → statement M
+decode-in-spec =
+    tie.close
+    (tie.spec
+    read-column-requires
+    read-column-requires-2
+    read-column-requires-3
+    read-column-requires-4
+    read-column-requires-5
+    judge-requires
+    same-length
+    same-length-2
+    same-length-3
+    same-length-4
+    same-length-5
+    same-length-6
+    same-length-7
+    same-length-8
+    same-length-9
+    returns)
