@@ -14,9 +14,10 @@ use Rattle.solver.specs.Solved.{Solved}
 pub count-small : (net : Network) (q : ℕ) → Lent net q → (a : Answer) (flow kept : List ℕ) → Solved net q a flow kept → a .count ≤ 376832
 count-small net q lent a flow kept s =
     let k = lent .sound .counts in
-    omega
-    (arith,
-    ap (λ a. a .count) (s .answers),
-    s .guarantee .count,
-    mul-le-mul (k .of-arcs .most)
-    (threshold-most (arcs net) q (k .of-arcs .least) (k .of-arcs .most) (k .precision .least) (k .precision .most)))
+    omega (
+      arith,
+      ap (λ a. a .count) (s .answers),
+      s .guarantee .count,
+      mul-le-mul (k .of-arcs .most)
+          (threshold-most (arcs net) q (k .of-arcs .least) (k .of-arcs .most) (k .precision .least) (k .precision .most)),
+    )

@@ -19,8 +19,8 @@ pub column-of : (s out : List ℕ) (k j n : ℕ) → length out ≡ items k s �
 column-of s out k j n h e = rw e (filled (column s k j (items k s)) out (items k s) h)
 
 pub judging :
-  (n q : ℕ) (belts pairs flow lengths answer running : List ℕ) (total : ℕ) → Sizable n q belts pairs flow lengths answer running total →
-  Judging (networkIn n belts pairs) q flow lengths answer running total
+    (n q : ℕ) (belts pairs flow lengths answer running : List ℕ) (total : ℕ) → Sizable n q belts pairs flow lengths answer running total →
+    Judging (networkIn n belts pairs) q flow lengths answer running total
 unfolding networkIn
 judging n q belts pairs flow lengths answer running total z =
     let m = items 3 belts in
@@ -32,5 +32,5 @@ judging n q belts pairs flow lengths answer running total z =
       capacities = rw (length-column belts 3 2 m, t) refl;
       sinks = rw (length-column pairs 2 1 k, s) refl;
       counts = rw (t, s) (z .counts);
-      open-for = record { room = rw (t, s) (z .room); full = z .full }
+      open-for = record { room = rw (t, s) (z .room); full = z .full };
     }

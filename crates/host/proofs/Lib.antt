@@ -1,4 +1,5 @@
 pub mod Counting
 pub mod Decoded
 pub mod First
+pub mod Hosts
 pub mod Judged

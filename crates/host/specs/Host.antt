@@ -23,7 +23,7 @@ networkIn n belts pairs =
       heads = column belts 3 1 (items 3 belts);
       capacities = column belts 3 2 (items 3 belts);
       sources = column pairs 2 0 (items 2 pairs);
-      sinks = column pairs 2 1 (items 2 pairs)
+      sinks = column pairs 2 1 (items 2 pairs);
     }
 
 -- How many complete numbers each lent table has.
@@ -48,7 +48,7 @@ afterwards (Refused r) new old = old
 -- What a call with the verdict v leaves: its result; in each table the outcome's numbers first, and later bytes as they were; the running
 -- count raised by the iterations; and where it is accepted, all that holds of the outcome.
 pub record Served (net : Network) (q : ℕ) (v : Verdict) (total : ℕ) (flow lengths answer running flow' lengths' answer' running' : List ℕ)
-  (result : ℕ) : Type 0 where
+    (result : ℕ) : Type 0 where
   pub returned : result ≡ hostNumber v
   pub flows : flow' ≡ afterwards v (written flow (outcome net q .flow)) flow
   pub keeps : lengths' ≡ afterwards v (written lengths (outcome net q .lengths)) lengths
@@ -58,7 +58,7 @@ pub record Served (net : Network) (q : ℕ) (v : Verdict) (total : ℕ) (flow le
 
 -- The contract of the call.
 abbrev pub Hosted :
-  ℕ → ℕ → List ℕ → List ℕ → List ℕ → List ℕ → List ℕ → List ℕ → List ℕ → List ℕ → List ℕ → List ℕ → ℕ → Type 0
+    ℕ → ℕ → List ℕ → List ℕ → List ℕ → List ℕ → List ℕ → List ℕ → List ℕ → List ℕ → List ℕ → List ℕ → ℕ → Type 0
 Hosted n q belts pairs flow lengths answer running flow' lengths' answer' running' result =
     Served (networkIn n belts pairs) q (verdictIn n q belts pairs flow lengths answer running) (runningIn running) flow lengths answer running
     flow' lengths' answer' running' result

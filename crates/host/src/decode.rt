@@ -32,7 +32,20 @@ fn decode_in(
     numbers::read_column(belts, 3, 2, m, capacities);
     numbers::read_column(pairs, 2, 0, k, sources);
     numbers::read_column(pairs, 2, 1, k, sinks);
-    judge(n, q, tails, heads, capacities, sources, sinks, running, flow, lengths, answer, table)
+    judge(
+        n,
+        q,
+        tails,
+        heads,
+        capacities,
+        sources,
+        sinks,
+        running,
+        flow,
+        lengths,
+        answer,
+        table,
+    )
 }
 
 // The network read, judged and solved.

@@ -15,7 +15,15 @@ fn put_answer(a: Answer, answer: &mut [u8])
     requires { ⌜ 7 ≤ count (now answer) ⌝ }
     ensures { λ r. ⌜ now (answer .exit) ≡ written (now (answer .entry)) (numbersOf a) ⌝ }
 {
-    let seven = [a.total, a.capacity, a.load, a.bound, a.alpha, a.count, a.best];
+    let seven = [
+        a.total,
+        a.capacity,
+        a.load,
+        a.bound,
+        a.alpha,
+        a.count,
+        a.best,
+    ];
     numbers::write_all(answer, &seven, 7);
 }
 

@@ -34,6 +34,19 @@ pub fn judge(
     if let Verdict::Refused(_) = commodities {
         return host_number(commodities);
     }
-    deliver(n, q, tails, heads, capacities, sources, sinks, running, flow, lengths, answer, table);
+    deliver(
+        n,
+        q,
+        tails,
+        heads,
+        capacities,
+        sources,
+        sinks,
+        running,
+        flow,
+        lengths,
+        answer,
+        table,
+    );
     0
 }

@@ -25,8 +25,8 @@ abbrev pub firstLengths : List ℕ → List ℕ
 firstLengths capacities = map (λ e. start (getD capacities e 0)) (upTo (length capacities))
 
 pub initial-is :
-  (net : Network) (q : ℕ) → Lent net q → (flow kept loads lengths : List ℕ) → Sized net flow kept loads lengths →
-  stateOf (firstLengths (net .capacities)) (replicate (length flow) 0) (replicate (length loads) 0) (replicate (length kept) 0) begun ≡ initial net
+    (net : Network) (q : ℕ) → Lent net q → (flow kept loads lengths : List ℕ) → Sized net flow kept loads lengths →
+    stateOf (firstLengths (net .capacities)) (replicate (length flow) 0) (replicate (length loads) 0) (replicate (length kept) 0) begun ≡ initial net
 unfolding initial
 initial-is net q lent flow kept loads lengths z = rw (lent .capacities, z .flows, z .loadings, z .keeps) refl
 
@@ -44,8 +44,8 @@ lengths-is net q lent = rw (lent .capacities) refl
 
 -- No commodity is joined: the cleared tables are the outcome's.
 pub solved-none :
-  (net : Network) (q : ℕ) → Lent net q → (flow kept loads lengths : List ℕ) → Sized net flow kept loads lengths →
-  choice net (initial net .lengths) ≡ none → Solved net q noAnswer (replicate (length flow) 0) (replicate (length kept) 0)
+    (net : Network) (q : ℕ) → Lent net q → (flow kept loads lengths : List ℕ) → Sized net flow kept loads lengths →
+    choice net (initial net .lengths) ≡ none → Solved net q noAnswer (replicate (length flow) 0) (replicate (length kept) 0)
 unfolding unjoined
 solved-none net q lent flow kept loads lengths z h =
     let e = outcome-none net q h in
@@ -53,34 +53,34 @@ solved-none net q lent flow kept loads lengths z h =
       answers = sym (ap (λ o. o .answer) e);
       flows = ap (λ n. replicate n 0) (z .flows) ∙ sym (ap (λ o. o .flow) e);
       lengths = ap (λ n. replicate n 0) (z .keeps) ∙ sym (ap (λ o. o .lengths) e);
-      guarantee = guarantee net q (lent .sound)
+      guarantee = guarantee net q (lent .sound);
     }
 
 -- The run's tables are the outcome's.
 pub solved-some :
-  (net : Network) (q : ℕ) → Lent net q → (c : Choice) → choice net (initial net .lengths) ≡ some c → (flow kept loads lengths : List ℕ) (p : Progress) →
-  stateOf lengths flow loads kept p ≡ run net q → length loads ≡ arcs net →
-  Solved net q (answerOf (net .capacities) loads (fullest (net .capacities) loads (length loads - 1)) p) flow kept
+    (net : Network) (q : ℕ) → Lent net q → (c : Choice) → choice net (initial net .lengths) ≡ some c → (flow kept loads lengths : List ℕ) (p : Progress) →
+    stateOf lengths flow loads kept p ≡ run net q → length loads ≡ arcs net →
+    Solved net q (answerOf (net .capacities) loads (fullest (net .capacities) loads (length loads - 1)) p) flow kept
 unfolding outcomeOf
 solved-some net q lent c h flow kept loads lengths p r size =
     let e : outcome net q ≡ outcomeOf net (stateOf lengths flow loads kept p) = outcome-some net q c h ∙ ap (outcomeOf net) (sym r) in
     record {
       answers =
-        ap (λ n. answerOf (net .capacities) loads (fullest (net .capacities) loads (n - 1)) p) size ∙ sym (ap (λ o. o .answer) e);
+          ap (λ n. answerOf (net .capacities) loads (fullest (net .capacities) loads (n - 1)) p) size ∙ sym (ap (λ o. o .answer) e);
       flows = sym (ap (λ o. o .flow) e);
       lengths = sym (ap (λ o. o .lengths) e);
-      guarantee = guarantee net q (lent .sound)
+      guarantee = guarantee net q (lent .sound);
     }
 
 -- Loads and capacities of the end, as the answer compares them.
 pub ranking :
-  (net : Network) (q : ℕ) → Lent net q → Chooses net → (loads : List ℕ) → loads ≡ run net q .loads → length loads ≡ arcs net →
-  Ranking loads (net .capacities)
+    (net : Network) (q : ℕ) → Lent net q → Chooses net → (loads : List ℕ) → loads ≡ run net q .loads → length loads ≡ arcs net →
+    Ranking loads (net .capacities)
 ranking net q lent chooses loads r size =
     let z = final-sizes net q (lent .sound) chooses in
     record {
       some = omega (arith, lent .sound .counts .of-arcs .least);
       same = size ∙ sym (lent .capacities);
       amounts = λ e l. omega (arith, ap (λ t. getD t e 0) r, z .load-high e (omega arith));
-      sizes = λ e l. lent .sound .arc-capacity e (omega (arith, lent .capacities)) .most
+      sizes = λ e l. lent .sound .arc-capacity e (omega (arith, lent .capacities)) .most;
     }

@@ -26,7 +26,7 @@ answerOf capacities loads b p =
       bound = p .bound;
       alpha = p .alpha;
       count = p .count;
-      best = p .best
+      best = p .best;
     }
 
 -- "unjoined"

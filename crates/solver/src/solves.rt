@@ -75,7 +75,21 @@ fn solve_in(
     if distance >= paths::search::FAR {
         return unjoined();
     }
-    let p = runs::run(n, q, tails, heads, capacities, sources, sinks, flow, loads, lengths, kept, dist, path);
+    let p = runs::run(
+        n,
+        q,
+        tails,
+        heads,
+        capacities,
+        sources,
+        sinks,
+        flow,
+        loads,
+        lengths,
+        kept,
+        dist,
+        path,
+    );
     answer(capacities, loads, p)
 }
 

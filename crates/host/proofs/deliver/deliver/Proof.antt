@@ -39,11 +39,16 @@ slice-aggregate-deliver-in-2 c = sym (length-take-le _ (replicate {A = ℕ} 256 
 -- src/deliver.rt:83:5
 deliver-in-requires : tie.Need-deliver-in-requires
 deliver-in-requires c κs =
-    let s = c .before .before .before .before .before .before .before .before .before .before .before .before .before .before .before in
-    (s .pre .0,
-    (s .pre .1,
-    (length-take-le _ (replicate {A = ℕ} 8192 0) (few s),
-    length-take-le _ (replicate {A = ℕ} 256 0) (s .pre .0 .sound .counts .of-arcs .most))))
+    let s = c .before .before .before .before .before .before .before .before .before .before .before .before .before .before .before in (
+      s .pre .0,
+      (
+        s .pre .1,
+        (
+          length-take-le _ (replicate {A = ℕ} 8192 0) (few s),
+          length-take-le _ (replicate {A = ℕ} 256 0) (s .pre .0 .sound .counts .of-arcs .most),
+        ),
+      ),
+    )
 
 -- src/deliver.rt:61:1
 same-length : tie.Need-same-length

@@ -42,9 +42,10 @@ put-answer-requires c κs = c .before .before .before .before .before .before .b
 -- src/deliver.rt:57:5
 put-count-requires : tie.Need-put-count-requires
 put-count-requires c κs =
-    let s = c .before .before .before .before .before .before .before .before .before .before .before .before .before .before .before .before .before .before .before .before .before .before .before .before .before .before .before .before .before .before .before .before .before in
-    (s .pre .1 .0 .room .for-count,
-    omega (arith, s .pre .1 .0 .full, count-small _ (s .args .q) (s .pre .0) (c .before .before .before .before .before .before .before .before .before .before .before .before .before .before .before .before .before .before .before .solve .result) _ _ (c .before .before .before .before .before .before .before .before .before .before .before .before .before .before .before .before .before .before .before .solve .ensures)))
+    let s = c .before .before .before .before .before .before .before .before .before .before .before .before .before .before .before .before .before .before .before .before .before .before .before .before .before .before .before .before .before .before .before .before .before in (
+      s .pre .1 .0 .room .for-count,
+      omega (arith, s .pre .1 .0 .full, count-small _ (s .args .q) (s .pre .0) (c .before .before .before .before .before .before .before .before .before .before .before .before .before .before .before .before .before .before .before .solve .result) _ _ (c .before .before .before .before .before .before .before .before .before .before .before .before .before .before .before .before .before .before .before .solve .ensures)),
+    )
 
 -- src/deliver.rt:31:1
 same-length : tie.Need-same-length
@@ -80,7 +81,7 @@ returns c =
       keeps = c .before .before .before .before .before .before .before .before .before .before .write-all2 .ensures ∙ ap (written (now (s .args .lengths))) (take-length (r .last .1 .1 .1 .1 .1 .1 .1 .1 .0) ∙ r .ensures .lengths);
       answers = c .before .before .before .before .before .before .put-answer .ensures ∙ ap (λ a. written (now (s .args .answer)) (numbersOf a)) (r .ensures .answers);
       counts = c .before .before .put-count .ensures ∙ ap (λ a. written (now (s .args .table)) ((s .args .running + a .count) ∷ [])) (r .ensures .answers);
-      guarantee = r .ensures .guarantee
+      guarantee = r .ensures .guarantee;
     }
 
 pub deliver-in-spec : {M : Type 1} → statement M

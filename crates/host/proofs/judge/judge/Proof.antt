@@ -94,10 +94,11 @@ accepted c = sym (of-commodities (c .before .before)) ∙ c .enum-told4 .given .
 
 deliver-requires : tie.Need-deliver-requires
 deliver-requires c κs =
-    let s = c .before .before .before .before .before .before .before .before .before .before .before .before .before .before .before .before .before .before .before in
-    (lends (net s) (s .args .q) (now (s .args .flow)) (now (s .args .lengths)) (now (s .args .answer)) (now (s .args .table)) (s .args .running) (s .pre)
-    (accepted (c .before .before .before .before)),
-    s .pre .open-for)
+    let s = c .before .before .before .before .before .before .before .before .before .before .before .before .before .before .before .before .before .before .before in (
+      lends (net s) (s .args .q) (now (s .args .flow)) (now (s .args .lengths)) (now (s .args .answer)) (now (s .args .table)) (s .args .running) (s .pre)
+          (accepted (c .before .before .before .before)),
+      s .pre .open-for,
+    )
 
 -- src/judge.rt:12:1
 same-length : tie.Need-same-length

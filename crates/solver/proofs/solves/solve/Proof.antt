@@ -44,15 +44,18 @@ slice-aggregate-solve-in-4 c = search needs
 -- src/solves.rt:104:5
 solve-in-requires : tie.Need-solve-in-requires
 solve-in-requires c κs =
-    let s = c .before .before .before .before .before .before .before .before .before .before .before .before .before in
-    (s .pre .0,
-    (record {
-      flows = s .pre .1 .0;
-      keeps = s .pre .1 .1;
-      loadings = length-take-le _ _ (room s);
-      lengthens = length-take-le _ _ (room s)
-    },
-    record { dist = lit≤ tt; path = lit≤ tt }))
+    let s = c .before .before .before .before .before .before .before .before .before .before .before .before .before in (
+      s .pre .0,
+      (
+        record {
+          flows = s .pre .1 .0;
+          keeps = s .pre .1 .1;
+          loadings = length-take-le _ _ (room s);
+          lengthens = length-take-le _ _ (room s);
+        },
+        record { dist = lit≤ tt; path = lit≤ tt },
+      ),
+    )
 
 -- src/solves.rt:83:1
 same-length : tie.Need-same-length

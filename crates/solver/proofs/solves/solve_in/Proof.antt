@@ -36,12 +36,13 @@ net s =
 start-requires : tie.Need-start-requires
 start-requires c κs =
     let s = c .before .before .before .before .before .before .before .before .before .before .before .before in
-    let a = s .pre .0 in
-    (s .pre .1 .0 .lengthens ∙ sym (a .capacities),
-    record {
-      least = λ e l. a .sound .arc-capacity e (omega (arith, a .capacities)) .least;
-      most = λ e l. a .sound .arc-capacity e (omega (arith, a .capacities)) .most
-    })
+    let a = s .pre .0 in (
+      s .pre .1 .0 .lengthens ∙ sym (a .capacities),
+      record {
+        least = λ e l. a .sound .arc-capacity e (omega (arith, a .capacities)) .least;
+        most = λ e l. a .sound .arc-capacity e (omega (arith, a .capacities)) .most;
+      },
+    )
 
 -- src/solves.rt:70:5
 clear-requires : tie.Need-clear-requires
@@ -118,12 +119,17 @@ chooses c = always (net (c .before .before .before .before .before .before .befo
 run-requires : tie.Need-run-requires
 run-requires c κs =
     let s = c .before .before .before .before .before .before .before .before .before .before .before .before .before .before .before .before .before .before .before .before .before .before .before .before .before .before .before .before .before .before .before .before .before .before .before .before .before .before .before .before .before .before in
-    let k = c .before .before .before .before .before .before .before .before .before .before .before .choose .kept in
-    (s .pre .0,
-    (record { dist = omega (arith, k .1 .1 .1 .1 .1 .1 .0, s .pre .1 .1 .dist); path = omega (arith, k .1 .1 .1 .1 .1 .1 .1 .0, s .pre .1 .1 .path) },
-    (chooses (c .before .before .before .before .before .before),
-    rw (c .before .before .before .before .before .before .before .before .before .before .before .before .before .before .before .before .before .before .before .before .before .before .before .before .before .before .before .before .before .start .ensures, c .before .before .before .before .before .before .before .before .before .before .before .before .before .before .before .before .before .before .before .before .before .before .before .before .before .clear .ensures, c .before .before .before .before .before .before .before .before .before .before .before .before .before .before .before .before .before .before .before .before .before .clear2 .ensures, c .before .before .before .before .before .before .before .before .before .before .before .before .before .before .before .before .before .clear3 .ensures)
-    (initial-is (net s) (s .args .q) (s .pre .0) (now (s .args .flow)) (now (s .args .kept)) (now (s .args .loads)) (now (s .args .lengths)) (s .pre .1 .0)))))
+    let k = c .before .before .before .before .before .before .before .before .before .before .before .choose .kept in (
+      s .pre .0,
+      (
+        record { dist = omega (arith, k .1 .1 .1 .1 .1 .1 .0, s .pre .1 .1 .dist); path = omega (arith, k .1 .1 .1 .1 .1 .1 .1 .0, s .pre .1 .1 .path) },
+        (
+          chooses (c .before .before .before .before .before .before),
+          rw (c .before .before .before .before .before .before .before .before .before .before .before .before .before .before .before .before .before .before .before .before .before .before .before .before .before .before .before .before .before .start .ensures, c .before .before .before .before .before .before .before .before .before .before .before .before .before .before .before .before .before .before .before .before .before .before .before .before .before .clear .ensures, c .before .before .before .before .before .before .before .before .before .before .before .before .before .before .before .before .before .before .before .before .before .clear2 .ensures, c .before .before .before .before .before .before .before .before .before .before .before .before .before .before .before .before .before .clear3 .ensures)
+              (initial-is (net s) (s .args .q) (s .pre .0) (now (s .args .flow)) (now (s .args .kept)) (now (s .args .loads)) (now (s .args .lengths)) (s .pre .1 .0)),
+        ),
+      ),
+    )
 
 -- src/solves.rt:79:5
 -- the loads keep their size

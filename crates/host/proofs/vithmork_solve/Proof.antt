@@ -1,0 +1,179 @@
+-- `host::vithmork_solve` meets its contract, for every input. Assumes nothing.
+use borrow.Author.Needs.{needs}
+use denote.Ref.{now}
+use mathlib.Core.Path.{_≡_, sym, ap, _∙_}
+use mathlib.Core.List.{List}
+use Rattle.network.specs.Refusal.{hostNumber}
+use Rattle.network.specs.Verdict.{Row, firstRow}
+use Rattle.network.specs.declared.Verdict.{Verdict}
+use Rattle.network.specs.declared.Verdict.the-variants.{Accepted, Refused}
+use Rattle.network.proofs.HostNumber.{verdict-fits}
+use Rattle.host.specs.Host.{networkIn, tablesIn, runningIn, verdictIn}
+use Rattle.host.proofs.Hosts.{sizesIn, refused-in, accepted-in, sizable-in}
+use Rattle.host.proofs.Judged.{served-refused}
+use Rattle.host.proofs.vithmork_solve.Statement.{statement}
+use Rattle.host.proofs.vithmork_solve.Tie as tie
+use Rattle.host.proofs.vithmork_solve.Reads as reads
+use Rattle.host.proofs.vithmork_solve.Lts as lts
+use Rattle.host.proofs.decode.decode.Reads as decode-reads
+use Rattle.host.proofs.running_in.Reads as running-in-reads
+use Rattle.network.proofs.checks.check_sizes.Reads as check-sizes-reads
+use Rattle.network.proofs.numbers.host_number.Reads as host-number-reads
+use Rattle.numbers.proofs.count.Reads as count-reads
+use Rattle.numbers.proofs.items.Reads as items-reads
+
+-- src/lib.rt:34:9
+items-requires : tie.Need-items-requires
+items-requires c κs = search needs
+
+-- src/lib.rt:35:9
+items-requires-2 : tie.Need-items-requires-2
+items-requires-2 c κs = search needs
+
+-- src/lib.rt:36:9
+count-requires : tie.Need-count-requires
+count-requires c κs = search needs
+
+-- src/lib.rt:37:9
+count-requires-2 : tie.Need-count-requires-2
+count-requires-2 c κs = search needs
+
+-- src/lib.rt:38:9
+count-requires-3 : tie.Need-count-requires-3
+count-requires-3 c κs = search needs
+
+-- src/lib.rt:39:9
+count-requires-4 : tie.Need-count-requires-4
+count-requires-4 c κs = search needs
+
+-- src/lib.rt:46:9
+running-in-requires : tie.Need-running-in-requires
+running-in-requires c κs = search needs
+
+-- src/lib.rt:47:9
+check-sizes-requires : tie.Need-check-sizes-requires
+check-sizes-requires c κs = search needs
+
+-- src/lib.rt:49:9
+enum-told : tie.Need-enum-told
+enum-told c = search needs
+
+-- src/lib.rt:49:9
+-- the rows that were looked at are those of the definition
+abbrev looked : (s : tie.Start) → List Row
+looked s = sizesIn (s .args .n) (s .args .q) (now (s .args .belts)) (now (s .args .pairs)) (tablesIn (now (s .args .flow)) (now (s .args .length)) (now (s .args .answer)) (now (s .args .count))) (runningIn (now (s .args .count)))
+
+abbrev judged : (s : tie.Start) → Verdict
+judged s = verdictIn (s .args .n) (s .args .q) (now (s .args .belts)) (now (s .args .pairs)) (now (s .args .flow)) (now (s .args .length)) (now (s .args .answer)) (now (s .args .count))
+
+sizes : (c : tie.After-check-sizes) → c .check-sizes .result ≡ firstRow (looked (c .before .before .before .before .before .before .before .before .before .before .before .before .before .before .before .before .before .before .before))
+sizes c =
+    rw (
+      c .before .before .before .before .before .before .before .before .before .before .before .before .items .ensures,
+      c .before .before .before .before .before .before .before .before .before .before .before .items2 .ensures,
+      c .before .before .before .before .before .before .before .before .before .count .ensures,
+      c .before .before .before .before .before .before .before .count2 .ensures,
+      c .before .before .before .before .before .count3 .ensures,
+      c .before .before .before .count4 .ensures,
+      c .before .running-in .ensures,
+    )
+    at (c .check-sizes .ensures)
+
+refused : (c : tie.After-enum-told) → judged (c .before .before .before .before .before .before .before .before .before .before .before .before .before .before .before .before .before .before .before .before .before) ≡ Refused (c .enum-told .given .0 .0)
+refused c =
+    let s = c .before .before .before .before .before .before .before .before .before .before .before .before .before .before .before .before .before .before .before .before .before in
+    refused-in (s .args .n) (s .args .q) (now (s .args .belts)) (now (s .args .pairs)) (tablesIn (now (s .args .flow)) (now (s .args .length)) (now (s .args .answer)) (now (s .args .count))) (runningIn (now (s .args .count))) _ (sym (sizes (c .before .before)) ∙ c .enum-told .given .1)
+
+number : (c : tie.After-enum-told) → c .before .before .check-sizes .result ≡ judged (c .before .before .before .before .before .before .before .before .before .before .before .before .before .before .before .before .before .before .before .before .before)
+number c = c .enum-told .given .1 ∙ sym (refused c)
+
+host-number-requires : tie.Need-host-number-requires
+host-number-requires c κs =
+    let s = c .before .before .before .before .before .before .before .before .before .before .before .before .before .before .before .before .before .before .before .before .before in
+    rw (number c) (verdict-fits (networkIn (s .args .n) (now (s .args .belts)) (now (s .args .pairs))) (s .args .q) (tablesIn (now (s .args .flow)) (now (s .args .length)) (now (s .args .answer)) (now (s .args .count))) (runningIn (now (s .args .count))))
+
+-- src/lib.rt:49:9
+same-length : tie.Need-same-length
+same-length c = search needs
+
+-- src/lib.rt:49:9
+same-length-2 : tie.Need-same-length-2
+same-length-2 c = search needs
+
+-- src/lib.rt:49:9
+same-length-3 : tie.Need-same-length-3
+same-length-3 c = search needs
+
+-- src/lib.rt:49:9
+same-length-4 : tie.Need-same-length-4
+same-length-4 c = search needs
+
+-- src/lib.rt:49:9
+returns : tie.Need-returns
+returns c =
+    let s = c .before .before .before .before .before .before .before .before .before .before .before .before .before .before .before .before .before .before .before .before .before .before in
+    served-refused (networkIn (s .args .n) (now (s .args .belts)) (now (s .args .pairs))) (s .args .q) (judged s) (runningIn (now (s .args .count))) (now (s .args .flow)) (now (s .args .length)) (now (s .args .answer)) (now (s .args .count)) (c .host-number .result)
+    (c .before .enum-told .given .0 .0) (refused (c .before)) (c .host-number .ensures ∙ ap hostNumber (number (c .before)))
+
+enum-told-2 : tie.Need-enum-told-2
+enum-told-2 c = search needs
+
+-- src/lib.rt:51:5
+passed : (c : tie.After-enum-told2) → firstRow (looked (c .before .before .before .before .before .before .before .before .before .before .before .before .before .before .before .before .before .before .before .before .before)) ≡ Accepted
+passed c = sym (sizes (c .before .before)) ∙ c .enum-told2 .given .1
+
+decode-requires : tie.Need-decode-requires
+decode-requires c κs =
+    let s = c .before .before .before .before .before .before .before .before .before .before .before .before .before .before .before .before .before .before .before .before .before .before .before .before .before in
+    rw (c .before .before .before .before .before .before .before .running-in .ensures)
+    (sizable-in (s .args .n) (s .args .q) (now (s .args .belts)) (now (s .args .pairs)) (now (s .args .flow)) (now (s .args .length)) (now (s .args .answer)) (now (s .args .count)) (runningIn (now (s .args .count))) (passed (c .before .before .before .before)))
+
+-- src/lib.rt:21:1
+same-length-5 : tie.Need-same-length-5
+same-length-5 c = search needs
+
+-- src/lib.rt:21:1
+same-length-6 : tie.Need-same-length-6
+same-length-6 c = search needs
+
+-- src/lib.rt:21:1
+same-length-7 : tie.Need-same-length-7
+same-length-7 c = search needs
+
+-- src/lib.rt:21:1
+same-length-8 : tie.Need-same-length-8
+same-length-8 c = search needs
+
+-- src/lib.rt:21:1
+returns-2 : tie.Need-returns-2
+returns-2 c =
+    let s = c .before .before .before .before .before .before .before .before .before .before .before .before .before .before .before .before .before .before .before .before .before .before .before .before .before .before .before .before .before .before .before .before .before .before in
+    rw (accepted-in (s .args .n) (s .args .q) (now (s .args .belts)) (now (s .args .pairs)) (tablesIn (now (s .args .flow)) (now (s .args .length)) (now (s .args .answer)) (now (s .args .count))) (runningIn (now (s .args .count))) (passed (c .before .before .before .before .before .before .before .before .before .before .before .before .before)), ← (c .before .before .before .before .before .before .before .before .before .before .before .before .before .before .before .before .running-in .ensures))
+    (c .before .before .before .before .before .before .before .before .decode .ensures)
+
+pub vithmork-solve-spec : {M : Type 1} → statement M
+vithmork-solve-spec =
+    tie.close
+    (tie.spec
+    items-requires
+    items-requires-2
+    count-requires
+    count-requires-2
+    count-requires-3
+    count-requires-4
+    running-in-requires
+    check-sizes-requires
+    enum-told
+    host-number-requires
+    same-length
+    same-length-2
+    same-length-3
+    same-length-4
+    returns
+    enum-told-2
+    decode-requires
+    same-length-5
+    same-length-6
+    same-length-7
+    same-length-8
+    returns-2)
