@@ -1,17 +1,7 @@
-pub mod Amounts
 pub mod Chosen
-pub mod Counted
-pub mod Filled
-pub mod Followed
-pub mod Fuller
-pub mod Instances
-pub mod Lowered
 pub mod OfCapacities
-pub mod OnPath
-pub mod Passed
 pub mod Ready
 pub mod Running
 pub mod Same
 pub mod Solving
 pub mod Stepped
-pub mod Weighed

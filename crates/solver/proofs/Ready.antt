@@ -23,11 +23,11 @@ use Rattle.method.proofs.Reached.{Reached, Valid, chosen-at, fair}
 use Rattle.method.proofs.Sized.{reached-sizes, grown-sizes}
 use Rattle.method.proofs.Table.{Table}
 use Rattle.method.proofs.Times.{update-length}
-use Rattle.solver.specs.Calls.{Growing, Weighing, Adding}
+use Rattle.tables.specs.Calls.{Growing, Weighing, Adding}
 use Rattle.solver.specs.Progress.{Stepping}
 use Rattle.solver.specs.Runs.{Lent}
-use Rattle.solver.specs.Tables.{Under, Within, Capacities}
-use Rattle.solver.proofs.OnPath.{draw-at, draw-most, below-under}
+use Rattle.tables.specs.Tables.{Under, Within, Capacities}
+use Rattle.tables.proofs.OnPath.{draw-at, draw-most, below-under}
 
 module _ (net : Network) (q : ℕ) (lent : Lent net q) (s : State) (r : Reached net q s) (i : ℕ) (p : List ℕ)
     (h : choice net (s .lengths) ≡ some (choiceOf i p)) where

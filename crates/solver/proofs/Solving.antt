@@ -14,7 +14,7 @@ use Rattle.method.specs.Iteration.{initial}
 use Rattle.method.specs.Run.{run}
 use Rattle.method.proofs.Ends.{final-sizes}
 use Rattle.method.proofs.Guaranteed.{guarantee}
-use Rattle.solver.specs.Calls.{Ranking}
+use Rattle.tables.specs.Calls.{Ranking}
 use Rattle.solver.specs.declared.steps.Progress.{Progress}
 use Rattle.solver.specs.Progress.{stateOf, begun}
 use Rattle.solver.specs.Runs.{Lent, Chooses}

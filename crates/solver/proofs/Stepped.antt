@@ -15,7 +15,7 @@ use Rattle.method.specs.Iteration.{weight, draw, update, grown, settled, advanc
 use Rattle.method.proofs.Times.{update-length}
 use Rattle.solver.specs.declared.steps.Progress.{Progress}
 use Rattle.solver.specs.Progress.{stateOf, ofCapacities, counted}
-use Rattle.solver.proofs.OnPath.{update-from-zero}
+use Rattle.tables.proofs.OnPath.{update-from-zero}
 
 -- Every length halved where one is at the mark.
 abbrev pub halved : List ℕ → List ℕ

@@ -1,5 +1,3 @@
-pub mod Calls
 pub mod Progress
 pub mod Runs
 pub mod Solved
-pub mod Tables

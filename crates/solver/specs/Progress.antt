@@ -9,8 +9,8 @@ use Rattle.network.specs.Network.{Network}
 use Rattle.network.specs.Path.{pathLength}
 use Rattle.method.specs.Iteration.{State, draw, update}
 use Rattle.solver.specs.declared.steps.Progress.{Progress}
-use Rattle.solver.specs.Calls.{Growing, Weighing, Adding}
-use Rattle.solver.specs.Tables.{Under}
+use Rattle.tables.specs.Calls.{Growing, Weighing, Adding}
+use Rattle.tables.specs.Tables.{Under}
 
 -- The state that the tables and the numbers hold.
 abbrev pub stateOf : List ℕ → List ℕ → List ℕ → List ℕ → Progress → State

@@ -1,7 +1,4 @@
-// The run of the method on lent tables of numbers: the steps of an iteration, each a loop over one table or one path.
-pub mod draws;
-pub mod lengths;
-pub mod loads;
+// The solver: the run of the method on lent tables of numbers.
 pub mod runs;
 pub mod solves;
 pub mod steps;

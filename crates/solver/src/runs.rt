@@ -1,7 +1,7 @@
 // The run: iterations until some load is at the threshold, on lent tables of numbers.
-use crate::loads;
 use crate::steps;
 use crate::steps::Progress;
+use tables::loads;
 ghost use mathlib.Core.Path.{_≡_};
 ghost use lib.ListN.{length};
 ghost use Rattle.method.specs.Iteration.{initial, iteration};

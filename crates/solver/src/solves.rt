@@ -1,15 +1,15 @@
 // The solver: tables cleared, the run, and its answer.
-use crate::lengths;
-use crate::loads;
 use crate::runs;
 use crate::steps::Progress;
 use method::Answer;
+use tables::lengths;
+use tables::loads;
 ghost use mathlib.Core.Path.{_≡_};
 ghost use Prim.Native.Nat.{_-_, _*_};
 ghost use lib.ListN.{length};
 ghost use Rattle.network.specs.Network.{arcs, commodities};
 ghost use Rattle.method.specs.Answer.{fullest};
-ghost use Rattle.solver.specs.Calls.{Ranking};
+ghost use Rattle.tables.specs.Calls.{Ranking};
 ghost use Rattle.solver.specs.Runs.{networkOf, Lent, Space};
 ghost use Rattle.solver.specs.Solved.{Sized, Solved, answerOf, noAnswer};
 

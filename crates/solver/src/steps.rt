@@ -1,7 +1,7 @@
 // One step of the run on the lent tables: what an iteration does once its path is chosen.
-use crate::draws;
-use crate::lengths;
-use crate::loads;
+use tables::draws;
+use tables::lengths;
+use tables::loads;
 ghost use mathlib.Core.Bool.{cond};
 ghost use mathlib.Core.Path.{_≡_};
 ghost use Prim.Native.Nat.{_+_, _<_, _^_};

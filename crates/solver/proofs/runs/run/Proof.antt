@@ -19,7 +19,7 @@ use Rattle.solver.proofs.runs.run.Tie as tie
 use Rattle.solver.proofs.runs.run.Reads as reads
 use Rattle.solver.proofs.runs.run.Lts as lts
 use Rattle.length.proofs.threshold.Reads as threshold-reads
-use Rattle.solver.proofs.loads.ended.Reads as ended-reads
+use Rattle.tables.proofs.loads.ended.Reads as ended-reads
 use Rattle.solver.proofs.runs.begin.Reads as begin-reads
 use Rattle.solver.proofs.runs.iterate.Reads as iterate-reads
 

@@ -4,7 +4,7 @@ use Rattle.solver.proofs.solves.answer.Statement.{statement}
 use Rattle.solver.proofs.solves.answer.Tie as tie
 use Rattle.solver.proofs.solves.answer.Reads as reads
 use Rattle.solver.proofs.solves.answer.Lts as lts
-use Rattle.solver.proofs.loads.fullest.Reads as fullest-reads
+use Rattle.tables.proofs.loads.fullest.Reads as fullest-reads
 
 -- src/solves.rt:21:9
 fullest-requires : tie.Need-fullest-requires

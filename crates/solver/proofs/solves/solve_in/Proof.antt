@@ -20,8 +20,8 @@ use Rattle.solver.proofs.solves.solve_in.Tie as tie
 use Rattle.solver.proofs.solves.solve_in.Reads as reads
 use Rattle.solver.proofs.solves.solve_in.Lts as lts
 use Rattle.paths.proofs.choose.Reads as choose-reads
-use Rattle.solver.proofs.lengths.start.Reads as start-reads
-use Rattle.solver.proofs.loads.clear.Reads as clear-reads
+use Rattle.tables.proofs.lengths.start.Reads as start-reads
+use Rattle.tables.proofs.loads.clear.Reads as clear-reads
 use Rattle.solver.proofs.runs.run.Reads as run-reads
 use Rattle.solver.proofs.solves.answer.Reads as answer-reads
 use Rattle.solver.proofs.solves.unjoined.Reads as unjoined-reads

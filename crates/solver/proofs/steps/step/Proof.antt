@@ -7,11 +7,11 @@ use Rattle.solver.proofs.steps.step.Tie as tie
 use Rattle.solver.proofs.steps.step.Reads as reads
 use Rattle.solver.proofs.steps.step.Lts as lts
 use Rattle.arith.proofs.less_product.Reads as less-product-reads
-use Rattle.solver.proofs.draws.add.Reads as add-reads
-use Rattle.solver.proofs.draws.draw.Reads as draw-reads
-use Rattle.solver.proofs.lengths.grow.Reads as grow-reads
-use Rattle.solver.proofs.lengths.settle.Reads as settle-reads
-use Rattle.solver.proofs.lengths.weight.Reads as weight-reads
+use Rattle.tables.proofs.draws.add.Reads as add-reads
+use Rattle.tables.proofs.draws.draw.Reads as draw-reads
+use Rattle.tables.proofs.lengths.grow.Reads as grow-reads
+use Rattle.tables.proofs.lengths.settle.Reads as settle-reads
+use Rattle.tables.proofs.lengths.weight.Reads as weight-reads
 use Rattle.solver.proofs.steps.count.Reads as count-reads
 use Rattle.solver.proofs.steps.keep.Reads as keep-reads
 

@@ -1,0 +1,213 @@
+//! Times the static library against both forms of the second solver on
+//! full-size floors, in one run: each is handed the same bytes and writes the
+//! same tables. Exits with 1 if the tables differ or the stack grows too deep.
+//! `--q N` keeps to that precision (4, 8 and 16 otherwise), `--fast` leaves the
+//! plain form out, `--seed N` takes other floors.
+
+// The comparison's modules are shared, and not all of them is needed here.
+#![allow(dead_code)]
+
+#[path = "../tests/second/call.rs"]
+mod call;
+#[path = "../tests/second/fast.rs"]
+mod fast;
+#[path = "../tests/second/floors.rs"]
+mod floors;
+#[path = "../tests/second/library.rs"]
+mod library;
+#[path = "../tests/second/method.rs"]
+mod method;
+#[path = "../tests/second/network.rs"]
+mod network;
+#[path = "../tests/second/random.rs"]
+mod random;
+#[path = "../tests/second/search.rs"]
+mod search;
+#[path = "../tests/second/shapes.rs"]
+mod shapes;
+#[path = "../tests/second/solver.rs"]
+mod solver;
+mod stack;
+
+use call::{get, Call};
+use floors::Capacities;
+use random::Random;
+use shapes::{FULL_SIZE, SHAPES};
+use std::process::ExitCode;
+use std::time::{Duration, Instant};
+
+/// Short runs are repeated for this long, and the quickest counts: the others
+/// were held up by something else.
+const REPEATED: Duration = Duration::from_millis(300);
+
+const MOST_STACK: usize = 256 * 1024;
+
+struct Options {
+    precisions: Vec<u64>,
+    plain: bool,
+    seed: u64,
+}
+
+struct Times {
+    library: f64,
+    fast: f64,
+    plain: Option<f64>,
+}
+
+fn main() -> ExitCode {
+    let Some(options) = options(std::env::args().skip(1)) else {
+        eprintln!("bench: the options are --q NUMBER, --fast and --seed NUMBER");
+        return ExitCode::from(2);
+    };
+    println!(
+        "n 64, m 256, k 32, capacities 1 to 1,000, seed {}; tables not cleared first",
+        options.seed
+    );
+    let shallow = report_stack(options.seed);
+    let mut alike = true;
+    for q in &options.precisions {
+        alike &= bench(*q, &options);
+    }
+    ExitCode::from(u8::from(!(alike && shallow)))
+}
+
+fn options(mut words: impl Iterator<Item = String>) -> Option<Options> {
+    let mut options = Options { precisions: Vec::new(), plain: true, seed: 1 };
+    while let Some(word) = words.next() {
+        match word.as_str() {
+            "--q" => options.precisions.push(words.next()?.parse().ok()?),
+            "--seed" => options.seed = words.next()?.parse().ok()?,
+            "--fast" => options.plain = false,
+            _ => return None,
+        }
+    }
+    if options.precisions.is_empty() {
+        options.precisions = vec![4, 8, 16];
+    }
+    Some(options)
+}
+
+fn floors_at(q: u64, seed: u64) -> Vec<(String, Call)> {
+    let mut random = Random::new(seed);
+    let mut call = |shape| {
+        let net = floors::floor(shape, FULL_SIZE, Capacities::Mixed, &mut random);
+        Call::new(&net, q)
+    };
+    SHAPES.into_iter().map(|shape| (format!("{shape:?}"), call(shape))).collect()
+}
+
+fn bench(q: u64, options: &Options) -> bool {
+    println!();
+    let times = ["library ms", "fast ms", "plain ms", "fast/library", "plain/library"];
+    let [library, fast, plain, level, gain] = times;
+    show_row(["floor", "q", "choices", library, fast, plain, level, gain].map(String::from));
+    let mut rows = Vec::new();
+    let mut alike = true;
+    for (name, call) in floors_at(q, options.seed) {
+        let (times, same, choices) = measure(&call, options.plain);
+        show(&name, q, choices, &times);
+        if !same {
+            println!("DIFFERENT {name}: the library's tables are not the second solver's");
+            alike = false;
+        }
+        rows.push(times);
+    }
+    show_means(q, &rows);
+    alike
+}
+
+fn measure(call: &Call, plain: bool) -> (Times, bool, u64) {
+    let (library, found) = quickest(|| solve(call.clone()));
+    let (fast, wanted) = quickest(|| call.answered(fast::solve).1);
+    let (plain, same_plain) = match plain {
+        true => {
+            let (time, tables) = quickest(|| call.answered(solver::solve).1);
+            (Some(time), tables == wanted)
+        }
+        false => (None, true),
+    };
+    let choices = get(&wanted.answer, 5);
+    (Times { library, fast, plain }, found == wanted && same_plain, choices)
+}
+
+fn solve(mut call: Call) -> Call {
+    let lent = library::Lent {
+        belts: &mut call.belts,
+        pairs: &mut call.pairs,
+        flow: &mut call.flow,
+        length: &mut call.length,
+        answer: &mut call.answer,
+        count: &mut call.count,
+    };
+    library::solve(call.n, call.q, lent);
+    call
+}
+
+/// Milliseconds of the quickest run, and what it gave.
+fn quickest(run: impl Fn() -> Call) -> (f64, Call) {
+    let started = Instant::now();
+    let mut best = f64::INFINITY;
+    loop {
+        let this = Instant::now();
+        let result = run();
+        best = best.min(this.elapsed().as_secs_f64() * 1000.0);
+        if started.elapsed() >= REPEATED {
+            return (best, result);
+        }
+    }
+}
+
+fn show(name: &str, q: u64, choices: u64, times: &Times) {
+    let Times { library, fast, plain } = times;
+    let ms = |time: Option<f64>| time.map_or("-".into(), |time| format!("{time:.1}"));
+    let ratio =
+        |time: Option<f64>| time.map_or("-".into(), |time| format!("{:.2}", time / library));
+    show_row([
+        name.into(),
+        q.to_string(),
+        choices.to_string(),
+        ms(Some(*library)),
+        ms(Some(*fast)),
+        ms(*plain),
+        ratio(Some(*fast)),
+        ratio(*plain),
+    ]);
+}
+
+fn show_row([floor, q, choices, library, fast, plain, level, gain]: [String; 8]) {
+    print!("{floor:<12} {q:>2} {choices:>8} {library:>11} {fast:>9} {plain:>10}");
+    println!(" {level:>13} {gain:>14}");
+}
+
+fn show_means(q: u64, rows: &[Times]) {
+    let fast = mean(rows.iter().map(|times| times.fast / times.library));
+    print!("geometric mean at q {q}: fast/library {fast:.2}");
+    if rows.iter().all(|times| times.plain.is_some()) {
+        let plain = rows.iter().filter_map(|times| Some(times.plain? / times.library));
+        print!(", plain/library {:.2}", mean(plain));
+    }
+    println!();
+}
+
+fn mean(ratios: impl Iterator<Item = f64>) -> f64 {
+    let logs: Vec<f64> = ratios.map(f64::ln).collect();
+    (logs.iter().sum::<f64>() / logs.len() as f64).exp()
+}
+
+/// The deepest of one call on each floor: what is on the stack does not depend
+/// on the precision.
+fn report_stack(seed: u64) -> bool {
+    let calls = floors_at(4, seed).into_iter();
+    let depths = calls.map(|(_, call)| stack::depth_of(move || drop(solve(call))));
+    match depths.collect::<std::io::Result<Vec<usize>>>() {
+        Ok(depths) => {
+            let deepest = depths.into_iter().max().unwrap_or(0);
+            println!("peak stack of a call: at most {} KiB", deepest / 1024);
+            deepest < MOST_STACK
+        }
+        Err(error) => {
+            println!("peak stack of a call: not measured, {error}");
+            false
+        }
+    }
+}

@@ -1,0 +1,60 @@
+-- What the steps ask can be met: one arc of capacity 5 and length 7, a path of that arc, a draw of 5 at precision 4.
+-- Assumes nothing.
+use mathlib.Core.Path.{refl}
+use mathlib.Core.Bool.{Bool, true, false, cond}
+use mathlib.Core.List.{List, [], _∷_}
+use Prim.Native.Nat.{ℕ, zero, suc, _+_, _^_, _≤_, _<_}
+use native.Mathlib.Nat.{le-of-suc-le-suc, not-suc-le-zero}
+use native.Mathlib.Omega.{arith}
+use lib.Dec.{eqb}
+use lib.ListN.{length, getD}
+use Rattle.method.proofs.Times.{times}
+use Rattle.tables.specs.Tables.{Capacities}
+use Rattle.tables.specs.Calls.{Growing, Weighing, Adding, Ending, Ranking}
+
+-- What holds of x holds at every place of the list of x alone.
+alone : (P : ℕ → Type 0) (x : ℕ) → P x → (j : ℕ) → j < length (x ∷ []) → P (getD (x ∷ []) j 0)
+alone P x p zero l = p
+alone P x p (suc j) l = absurd (not-suc-le-zero (le-of-suc-le-suc l))
+
+at-most-one : (b : Bool) → cond b 1 0 + 0 ≤ 1
+at-most-one true = omega arith
+at-most-one false = omega arith
+
+one-arc : (e : ℕ) → times e (0 ∷ []) ≤ 1
+unfolding times
+one-arc e = at-most-one (eqb 0 e)
+
+capacities : Capacities (5 ∷ [])
+capacities = record { least = λ e l. omega (arith, alone (λ x. 1 ≤ x) 5 (omega arith) e l); most = alone (λ x. x ≤ 1000) 5 (omega arith) }
+
+pub growing : Growing (7 ∷ []) (5 ∷ []) 4 5 (0 ∷ [])
+growing =
+    record {
+      same = refl;
+      coarsest = omega arith;
+      finest = omega arith;
+      places = alone (λ x. x < 1) 0 (omega arith);
+      once = λ e. omega (arith, one-arc e);
+      drawn = alone (λ x. 5 ≤ getD (5 ∷ []) x 0) 0 (omega arith);
+      sizes = capacities;
+      short = alone (λ x. x < 2 ^ 40) 7 (omega arith);
+    }
+
+pub weighing : Weighing (5 ∷ []) (7 ∷ [])
+weighing = record { same = refl; few = omega arith; sizes = capacities .most; short = alone (λ x. x < 2 ^ 40) 7 (omega arith) }
+
+pub adding : Adding (3 ∷ []) 0 (0 ∷ []) 5
+adding =
+    record {
+      places = alone (λ x. 0 + x < 1) 0 (omega arith);
+      amounts = alone (λ x. x < 2 ^ 32) 3 (omega arith);
+      small = omega arith;
+      few = omega arith;
+    }
+
+pub ending : Ending (3 ∷ []) (5 ∷ []) 4
+ending = record { same = refl; small = omega arith; sizes = capacities .most }
+
+pub ranking : Ranking (3 ∷ []) (5 ∷ [])
+ranking = record { some = omega arith; same = refl; amounts = alone (λ x. x < 2 ^ 32) 3 (omega arith); sizes = capacities .most }

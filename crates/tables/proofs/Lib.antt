@@ -1,0 +1,10 @@
+pub mod Amounts
+pub mod Counted
+pub mod Filled
+pub mod Followed
+pub mod Fuller
+pub mod Instances
+pub mod Lowered
+pub mod OnPath
+pub mod Passed
+pub mod Weighed

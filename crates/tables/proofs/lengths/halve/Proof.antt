@@ -1,0 +1,73 @@
+-- `solver::lengths::halve` meets its contract: after e turns the first e lengths are halved, and the others are as they were.
+-- Assumes nothing.
+use mathlib.Core.Path.{ap, _∙_}
+use mathlib.Core.List.{map}
+use Prim.Native.Nat.{_-_}
+use native.Mathlib.Omega.{arith}
+use lib.ListN.{length, getD, length-map}
+use Rattle.length.specs.Length.{halving}
+use Rattle.tables.proofs.Counted.{map-at}
+use Rattle.tables.proofs.Filled.{Filling, fill-none, fill-more, fill-next, fill-all}
+use Rattle.tables.proofs.lengths.halve.Statement.{statement}
+use Rattle.tables.proofs.lengths.halve.Tie as tie
+
+abbrev Inv-loop : tie.InvT-loop
+Inv-loop lengths₀ e₀ lengths e = Filling (λ j. halving (getD lengths₀ j 0)) e lengths₀ lengths
+
+abbrev μ-loop : tie.MeasureT-loop
+μ-loop lengths₀ e₀ lengths e = length lengths₀ - e
+
+loop-holds : tie.Need-loop-holds Inv-loop μ-loop
+loop-holds c = fill-none _ _
+
+mul-t4 : tie.Need-mul-t4 Inv-loop μ-loop
+mul-t4 c = omega arith
+
+slice-read-t7 : tie.Need-slice-read-t7 Inv-loop μ-loop
+slice-read-t7 c = omega arith
+
+halving-requires : tie.Need-halving-requires Inv-loop μ-loop
+halving-requires c κs = rw (fill-next (c .before .before .loop .inv)) (c .before .before .before .before .pre _ (omega arith))
+
+mul-lengths : tie.Need-mul-lengths Inv-loop μ-loop
+mul-lengths c = omega arith
+
+slice-write-lengths : tie.Need-slice-write-lengths Inv-loop μ-loop
+slice-write-lengths c = omega arith
+
+add-e : tie.Need-add-e Inv-loop μ-loop
+add-e c = omega arith
+
+loop-less : tie.Need-loop-less Inv-loop μ-loop
+loop-less c = omega arith
+
+loop-again : tie.Need-loop-again Inv-loop μ-loop
+loop-again c =
+    let turn = c .before .before .before .loop in
+    fill-more _ (turn .inv) (omega arith) (c .halving .ensures ∙ ap halving (fill-next (turn .inv)))
+
+same-length : tie.Need-same-length Inv-loop μ-loop
+same-length c = omega arith
+
+returns : tie.Need-returns Inv-loop μ-loop
+returns c =
+    let l = c .before .before .before .args .lengths .now in
+    fill-all (map halving l) (c .before .loop .inv) (omega arith) (length-map l halving) (λ j h. map-at halving l j (rw length-map at h))
+
+pub halve-spec : {M : Type 1} → statement M
+halve-spec =
+    tie.close
+    (tie.spec
+    Inv-loop
+    μ-loop
+    loop-holds
+    mul-t4
+    slice-read-t7
+    halving-requires
+    mul-lengths
+    slice-write-lengths
+    add-e
+    loop-less
+    loop-again
+    same-length
+    returns)

@@ -1,0 +1,47 @@
+-- What the steps of an iteration ask of their arguments, so that every index is within its table and every product and sum within 64 bits.
+-- Assumes nothing.
+use mathlib.Core.Path.{_≡_}
+use mathlib.Core.List.{List}
+use Prim.Native.Nat.{ℕ, _+_, _^_, _≤_, _<_}
+use lib.ListN.{length, getD}
+use Rattle.method.proofs.Times.{times}
+use Rattle.tables.specs.Tables.{Under, Within, Capacities}
+
+-- Growth along a path at precision q by the draw g, no more than the capacities on it. The path has no arc twice, so that each length is below
+-- the mark, document 01's 2^40, when it grows.
+pub record Growing (lengths capacities : List ℕ) (q g : ℕ) (path : List ℕ) : Type 0 where
+  pub same : length lengths ≡ length capacities
+  pub coarsest : 4 ≤ q
+  pub finest : q ≤ 16
+  pub places : Under (length capacities) path
+  pub once : (e : ℕ) → times e path ≤ 1
+  pub drawn : (j : ℕ) → j < length path → g ≤ getD capacities (getD path j 0) 0
+  pub sizes : Capacities capacities
+  pub short : Under (2 ^ 40) lengths
+
+-- D's sum over all arcs.
+pub record Weighing (capacities lengths : List ℕ) : Type 0 where
+  pub same : length lengths ≡ length capacities
+  pub few : length capacities ≤ 256
+  pub sizes : Within 1000 capacities
+  pub short : Under (2 ^ 40) lengths
+
+-- A draw g added at each place of a path, counted from base. Amounts stay far below 2^32, and a path has fewer arcs than there are nodes.
+pub record Adding (table : List ℕ) (base : ℕ) (path : List ℕ) (g : ℕ) : Type 0 where
+  pub places : (j : ℕ) → j < length path → base + getD path j 0 < length table
+  pub amounts : Under (2 ^ 32) table
+  pub small : g ≤ 1000
+  pub few : length path ≤ 64
+
+-- Loads compared with the threshold times the capacities.
+pub record Ending (loads capacities : List ℕ) (threshold : ℕ) : Type 0 where
+  pub same : length loads ≡ length capacities
+  pub small : threshold ≤ 2 ^ 20
+  pub sizes : Within 1000 capacities
+
+-- Loads over capacities compared with each other.
+pub record Ranking (loads capacities : List ℕ) : Type 0 where
+  pub some : 1 ≤ length loads
+  pub same : length loads ≡ length capacities
+  pub amounts : Under (2 ^ 32) loads
+  pub sizes : Within 1000 capacities

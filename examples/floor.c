@@ -1,0 +1,67 @@
+/* A floor of four stations and two pairs, solved as the drawing package would:
+ * docks at 1 and 2, packing at 4, and a transfer at 3 that pair 2 ends in. */
+#include "vithmork.h"
+
+#include <stdio.h>
+
+enum { STATIONS = 4, BELTS = 5, PAIRS = 2, PRECISION = 16 };
+
+static const uint64_t belt[BELTS][3] = {
+    /* tail, head, totes an hour */
+    {1, 2, 600}, {1, 3, 400}, {2, 3, 250}, {2, 4, 500}, {3, 4, 450}};
+static const uint64_t pair[PAIRS][2] = {{1, 4}, {2, 3}};
+
+static uint8_t belts[VITHMORK_BELTS_BYTES(BELTS)];
+static uint8_t pairs[VITHMORK_PAIRS_BYTES(PAIRS)];
+static uint8_t flow[VITHMORK_FLOW_BYTES(PAIRS, BELTS)];
+static uint8_t length[VITHMORK_LENGTH_BYTES(BELTS)];
+static uint8_t answer[VITHMORK_ANSWER_BYTES];
+static uint8_t count[VITHMORK_COUNT_BYTES];
+
+static void fill(void)
+{
+    for (size_t e = 0; e < BELTS; e++)
+        for (size_t i = 0; i < VITHMORK_BELT_NUMBERS; i++)
+            vithmork_put(belts, e * VITHMORK_BELT_NUMBERS + i, belt[e][i]);
+    for (size_t p = 0; p < PAIRS; p++)
+        for (size_t i = 0; i < VITHMORK_PAIR_NUMBERS; i++)
+            vithmork_put(pairs, p * VITHMORK_PAIR_NUMBERS + i, pair[p][i]);
+}
+
+/* A number of the flow table, or the sum of some, in totes an hour. */
+static double scaled(uint64_t amount)
+{
+    return (double)(amount * vithmork_get(answer, VITHMORK_SCALE_CAPACITY)) /
+           (double)vithmork_get(answer, VITHMORK_SCALE_LOAD);
+}
+
+static void print(void)
+{
+    printf("total %.3f\n", scaled(vithmork_get(answer, VITHMORK_DRAWN)));
+    printf("bound %.3f\n", (double)vithmork_get(answer, VITHMORK_BOUND_D) /
+                               (double)vithmork_get(answer, VITHMORK_BOUND_ALPHA));
+    for (size_t e = 0; e < BELTS; e++) {
+        uint64_t load = 0;
+        for (size_t p = 0; p < PAIRS; p++)
+            load += vithmork_get(flow, p * BELTS + e);
+        printf("belt %u to %u carries %.3f of %u\n", (unsigned)belt[e][0],
+               (unsigned)belt[e][1], scaled(load), (unsigned)belt[e][2]);
+    }
+    printf("choices %u, so far %u\n", (unsigned)vithmork_get(answer, VITHMORK_CHOICES),
+           (unsigned)vithmork_get(count, 0));
+}
+
+int main(void)
+{
+    fill();
+    uint64_t returned = vithmork_solve(
+        STATIONS, PRECISION, belts, sizeof belts, pairs, sizeof pairs, flow, sizeof flow,
+        length, sizeof length, answer, sizeof answer, count, sizeof count);
+    if (returned != VITHMORK_ACCEPTED) {
+        vithmork_refusal refusal = vithmork_refused(returned);
+        printf("refused: number %u, place %u\n", refusal.number, refusal.place);
+        return 1;
+    }
+    print();
+    return 0;
+}

@@ -1,0 +1,132 @@
+/* Vithmork: the most totes a mezzanine floor can carry between its pairs of
+ * stations, as a plan in exact whole numbers and a bound that no plan exceeds.
+ *
+ * A number in a table takes eight bytes, lowest first, at any address. The
+ * call allocates nothing, keeps nothing between calls and needs less than
+ * 256 KiB of stack. C99 or C++17.
+ */
+#ifndef VITHMORK_H
+#define VITHMORK_H
+
+#include <stddef.h>
+#include <stdint.h>
+
+#ifdef __cplusplus
+extern "C" {
+#endif
+
+/* Bounds. What lies outside them is refused, so a host need not test first. */
+enum {
+    VITHMORK_MIN_STATIONS = 2,
+    VITHMORK_MAX_STATIONS = 64,
+    VITHMORK_MIN_BELTS = 1,
+    VITHMORK_MAX_BELTS = 256,
+    VITHMORK_MIN_PAIRS = 1,
+    VITHMORK_MAX_PAIRS = 32,
+    VITHMORK_MIN_CAPACITY = 1,
+    VITHMORK_MAX_CAPACITY = 1000,
+    VITHMORK_MIN_PRECISION = 4,
+    VITHMORK_MAX_PRECISION = 16
+};
+
+/* Sizes in bytes. m and k are the whole items in the slices of belts and pairs;
+ * an incomplete last one is not read. The tables to write may be longer than m
+ * and k ask: their later bytes keep their contents. */
+#define VITHMORK_NUMBER_BYTES ((size_t)8)
+#define VITHMORK_BELT_NUMBERS ((size_t)3)
+#define VITHMORK_PAIR_NUMBERS ((size_t)2)
+#define VITHMORK_ANSWER_NUMBERS ((size_t)7)
+#define VITHMORK_BELTS_BYTES(m) ((size_t)(m) * VITHMORK_BELT_NUMBERS * VITHMORK_NUMBER_BYTES)
+#define VITHMORK_PAIRS_BYTES(k) ((size_t)(k) * VITHMORK_PAIR_NUMBERS * VITHMORK_NUMBER_BYTES)
+#define VITHMORK_FLOW_BYTES(k, m) ((size_t)(k) * (size_t)(m) * VITHMORK_NUMBER_BYTES)
+#define VITHMORK_LENGTH_BYTES(m) ((size_t)(m) * VITHMORK_NUMBER_BYTES)
+#define VITHMORK_ANSWER_BYTES (VITHMORK_ANSWER_NUMBERS * VITHMORK_NUMBER_BYTES)
+#define VITHMORK_COUNT_BYTES VITHMORK_NUMBER_BYTES
+
+/* Places of the answer table, from 0. The scale is CAPACITY / LOAD: the total
+ * carried is DRAWN times the scale, and what a pair sends over a belt is its
+ * number in the flow table times the scale. The bound is D / ALPHA. Nothing is
+ * reduced or rounded. */
+enum {
+    VITHMORK_DRAWN = 0,          /* F, the sum of all draws */
+    VITHMORK_SCALE_CAPACITY = 1, /* c(b), capacity of the fullest belt b */
+    VITHMORK_SCALE_LOAD = 2,     /* Y(b), what was drawn over it */
+    VITHMORK_BOUND_D = 3,        /* capacity * length, summed over all belts */
+    VITHMORK_BOUND_ALPHA = 4,    /* the shortest route under the same lengths */
+    VITHMORK_CHOICES = 5,        /* routes chosen; 0 says that no pair is joined */
+    VITHMORK_BOUND_CHOICE = 6    /* which of them, from 1, gave the bound; 0 if none */
+};
+
+/* Refusals. 9 and 10 speak of files, and this call never returns them. */
+enum {
+    VITHMORK_ACCEPTED = 0,
+    VITHMORK_REFUSED_STATIONS = 1,    /* n out of bounds */
+    VITHMORK_REFUSED_BELTS = 2,       /* too few or too many complete belts */
+    VITHMORK_REFUSED_PAIRS = 3,       /* likewise pairs */
+    VITHMORK_REFUSED_PRECISION = 4,   /* q out of bounds */
+    VITHMORK_REFUSED_SHORT_TABLE = 5, /* a table to write is too small */
+    VITHMORK_REFUSED_LOOSE_BELT = 6,  /* an end outside 1 to n, or both equal; place: the belt */
+    VITHMORK_REFUSED_CAPACITY = 7,    /* out of bounds; place: the belt */
+    VITHMORK_REFUSED_LOOSE_PAIR = 8,  /* as 6; place: the pair */
+    VITHMORK_REFUSED_FULL_COUNT = 11  /* running count above 2^63 */
+};
+
+/* Solves one floor.
+ *
+ *   n       stations, numbered from 1
+ *   q       precision: the total is at least 1 - 2/q of the bound
+ *   belts   m items: tail, head, capacity. A belt that runs either way is two
+ *   pairs   k items: source, sink. A pair may be listed twice
+ *   flow    written: m numbers for each pair, pair by pair, to be scaled (above)
+ *   length  written: m lengths that give the bound
+ *   answer  written: seven numbers (above)
+ *   count   read and written: the running count, raised by the choices made. It
+ *           is the host's own, one for all its calls, and starts where it likes
+ *
+ * Returns 0, or for a refusal number * 1000 + place; a refusal changes no byte.
+ * An unjoined floor is no refusal: its answer is 0, 1, 1, 0, 1, 0, 0.
+ *
+ * The slices must not overlap and no pointer may be null (an empty slice may
+ * point at any byte): the proof takes each slice to be memory of its own. */
+uint64_t vithmork_solve(uint64_t n, uint64_t q,
+                        const uint8_t *belts, size_t belts_len,
+                        const uint8_t *pairs, size_t pairs_len,
+                        uint8_t *flow, size_t flow_len,
+                        uint8_t *length, size_t length_len,
+                        uint8_t *answer, size_t answer_len,
+                        uint8_t *count, size_t count_len);
+
+/* What a call returned, taken apart. Places count from 1; 0 where none is meant. */
+typedef struct {
+    unsigned number;
+    unsigned place;
+} vithmork_refusal;
+
+static inline vithmork_refusal vithmork_refused(uint64_t returned)
+{
+    vithmork_refusal refusal;
+    refusal.number = (unsigned)(returned / 1000);
+    refusal.place = (unsigned)(returned % 1000);
+    return refusal;
+}
+
+/* The number at a place, from 0, of a table: right whatever the host's byte order. */
+static inline uint64_t vithmork_get(const uint8_t *table, size_t place)
+{
+    uint64_t number = 0;
+    for (size_t i = VITHMORK_NUMBER_BYTES; i > 0; i--)
+        number = number << 8 | table[place * VITHMORK_NUMBER_BYTES + i - 1];
+    return number;
+}
+
+static inline void vithmork_put(uint8_t *table, size_t place, uint64_t number)
+{
+    for (size_t i = 0; i < VITHMORK_NUMBER_BYTES; i++)
+        table[place * VITHMORK_NUMBER_BYTES + i] = (uint8_t)(number >> 8 * i);
+}
+
+#ifdef __cplusplus
+}
+#endif
+
+#endif

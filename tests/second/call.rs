@@ -1,0 +1,154 @@
+//! The host's call by document 01: byte slices in, what is returned and every
+//! byte of the slices out.
+
+use crate::network::{Arc, Commodity, Network, Solution};
+
+pub const NUMBER: usize = 8;
+pub const BELT: usize = 3 * NUMBER;
+pub const PAIR: usize = 2 * NUMBER;
+pub const ANSWER: usize = 7 * NUMBER;
+pub const FULL: u64 = 1 << 63;
+
+/// All that the host gives, and after the call all that it finds.
+#[derive(Clone, PartialEq)]
+pub struct Call {
+    pub n: u64,
+    pub q: u64,
+    pub belts: Vec<u8>,
+    pub pairs: Vec<u8>,
+    pub flow: Vec<u8>,
+    pub length: Vec<u8>,
+    pub answer: Vec<u8>,
+    pub count: Vec<u8>,
+}
+
+/// A number of document 01's table, with its place.
+#[derive(Clone, Copy, Debug, PartialEq)]
+pub struct Refusal {
+    pub number: u64,
+    pub place: u64,
+}
+
+impl Refusal {
+    pub fn returned(self) -> u64 {
+        self.number * 1000 + self.place
+    }
+}
+
+/// The number at a place, from 0; the slice holds it whole.
+pub fn get(slice: &[u8], place: usize) -> u64 {
+    let bytes = &slice[place * NUMBER..][..NUMBER];
+    bytes.iter().rev().fold(0, |number, byte| number << 8 | u64::from(*byte))
+}
+
+pub fn put(slice: &mut [u8], place: usize, number: u64) {
+    slice[place * NUMBER..][..NUMBER].copy_from_slice(&number.to_le_bytes());
+}
+
+pub fn numbers(slice: &[u8]) -> Vec<u64> {
+    (0..slice.len() / NUMBER).map(|place| get(slice, place)).collect()
+}
+
+fn put_all(slice: &mut [u8], numbers: &[u64]) {
+    for (place, number) in numbers.iter().enumerate() {
+        put(slice, place, *number);
+    }
+}
+
+impl Call {
+    /// Tables of exactly the needed size, all zero, and a running count of 0.
+    pub fn new(net: &Network, q: u64) -> Call {
+        let (m, k) = (net.arcs.len(), net.commodities.len());
+        let mut call = Call {
+            n: net.nodes,
+            q,
+            belts: vec![0; m * BELT],
+            pairs: vec![0; k * PAIR],
+            flow: vec![0; k * m * NUMBER],
+            length: vec![0; m * NUMBER],
+            answer: vec![0; ANSWER],
+            count: vec![0; NUMBER],
+        };
+        for (e, arc) in net.arcs.iter().enumerate() {
+            put_all(&mut call.belts[e * BELT..], &[arc.tail, arc.head, arc.capacity]);
+        }
+        for (i, commodity) in net.commodities.iter().enumerate() {
+            put_all(&mut call.pairs[i * PAIR..], &[commodity.source, commodity.sink]);
+        }
+        call
+    }
+
+    /// The network as the slices have it, checked or not.
+    pub fn network(&self) -> Network {
+        let belt =
+            |item: &[u8]| Arc { tail: get(item, 0), head: get(item, 1), capacity: get(item, 2) };
+        let pair = |item: &[u8]| Commodity { source: get(item, 0), sink: get(item, 1) };
+        Network {
+            nodes: self.n,
+            arcs: self.belts.chunks_exact(BELT).map(belt).collect(),
+            commodities: self.pairs.chunks_exact(PAIR).map(pair).collect(),
+        }
+    }
+
+    /// What the call returns, with the slices as it leaves them.
+    pub fn answered(&self, solve: fn(&Network, u64) -> Solution) -> (u64, Call) {
+        match self.refusal() {
+            Some(refusal) => (refusal.returned(), self.clone()),
+            None => (0, self.written(&solve(&self.network(), self.q))),
+        }
+    }
+
+    pub fn written(&self, solution: &Solution) -> Call {
+        let mut after = self.clone();
+        put_all(&mut after.flow, &solution.flow);
+        put_all(&mut after.length, &solution.lengths);
+        put_all(&mut after.answer, &solution.answer);
+        put(&mut after.count, 0, get(&self.count, 0) + solution.answer[5]);
+        after
+    }
+
+    /// Document 01, "Turned down", in its order.
+    pub fn refusal(&self) -> Option<Refusal> {
+        let net = self.network();
+        whole_call(1, !(2..=64).contains(&self.n))
+            .or_else(|| whole_call(2, !(1..=256).contains(&net.arcs.len())))
+            .or_else(|| whole_call(3, !(1..=32).contains(&net.commodities.len())))
+            .or_else(|| whole_call(4, !(4..=16).contains(&self.q)))
+            .or_else(|| whole_call(5, self.short(&net)))
+            .or_else(|| whole_call(11, get(&self.count, 0) > FULL))
+            .or_else(|| first_faulty_belt(&net))
+            .or_else(|| first_loose_pair(&net))
+    }
+
+    fn short(&self, net: &Network) -> bool {
+        let (m, k) = (net.arcs.len(), net.commodities.len());
+        self.flow.len() / NUMBER < k * m
+            || self.length.len() / NUMBER < m
+            || self.answer.len() / NUMBER < 7
+            || self.count.len() / NUMBER < 1
+    }
+}
+
+fn whole_call(number: u64, holds: bool) -> Option<Refusal> {
+    holds.then_some(Refusal { number, place: 0 })
+}
+
+fn loose(n: u64, a: u64, b: u64) -> bool {
+    !(1..=n).contains(&a) || !(1..=n).contains(&b) || a == b
+}
+
+fn first_faulty_belt(net: &Network) -> Option<Refusal> {
+    net.arcs.iter().zip(1..).find_map(|(arc, place)| {
+        if loose(net.nodes, arc.tail, arc.head) {
+            return Some(Refusal { number: 6, place });
+        }
+        let fits = (1..=1000).contains(&arc.capacity);
+        (!fits).then_some(Refusal { number: 7, place })
+    })
+}
+
+fn first_loose_pair(net: &Network) -> Option<Refusal> {
+    let mut pairs = net.commodities.iter().zip(1..);
+    let fault = pairs.find(|(pair, _)| loose(net.nodes, pair.source, pair.sink))?;
+    Some(Refusal { number: 8, place: fault.1 })
+}

@@ -1,0 +1,193 @@
+//! Compares the static library with the second solver, byte for byte, on sound
+//! and damaged calls; exits with 1 on any difference. `--quick` takes a few
+//! hundred floors, `--seed N` other ones.
+
+mod call;
+mod damage;
+mod fast;
+mod figures;
+mod floors;
+mod guarded;
+mod library;
+mod literal;
+mod method;
+mod network;
+mod outside;
+mod random;
+mod rare;
+mod search;
+mod shapes;
+mod solver;
+mod tally;
+
+use call::{numbers, Call};
+use floors::{Capacities, CAPACITIES, PRECISIONS};
+use network::Solution;
+use random::Random;
+use shapes::{Shape, FULL_SIZE, SHAPES};
+use std::process::ExitCode;
+use std::time::Instant;
+use tally::{holds, Tally};
+
+/// How much is compared: every `levels`-th number of belts, so many small,
+/// medium and damaged floors, rounds of full-size ones, and up to which
+/// precision the plain form is tried on these, as it takes minutes at 16.
+struct Amounts {
+    levels: usize,
+    damaged: u64,
+    small: u64,
+    medium: u64,
+    full: usize,
+    plain: u64,
+}
+
+const WHOLE: Amounts =
+    Amounts { levels: 1, damaged: 20_000, small: 39_000, medium: 260, full: 7, plain: 5 };
+const QUICK: Amounts =
+    Amounts { levels: 51, damaged: 1_000, small: 390, medium: 13, full: 0, plain: 0 };
+
+fn main() -> ExitCode {
+    let Some((amounts, seed)) = options(std::env::args().skip(1)) else {
+        eprintln!("compare: the options are --quick and --seed NUMBER");
+        return ExitCode::from(2);
+    };
+    println!("seed {seed}");
+    let mut tally = Tally::default();
+    timed("document 01's figures", &mut tally, compare_figures);
+    timed("rare floors", &mut tally, compare_rare);
+    timed("damaged calls, stated", &mut tally, compare_damaged);
+    timed("damaged calls, random", &mut tally, |tally| {
+        compare_random_damage(tally, amounts.damaged, &mut Random::new(seed))
+    });
+    timed("load marks", &mut tally, |tally| compare_levels(tally, amounts.levels));
+    timed("small floors", &mut tally, |tally| {
+        compare_small(tally, amounts.small, &mut Random::new(seed + 1))
+    });
+    timed("medium floors", &mut tally, |tally| {
+        compare_medium(tally, amounts.medium, &mut Random::new(seed + 2))
+    });
+    timed("full-size floors", &mut tally, |tally| {
+        compare_full(tally, &amounts, &mut Random::new(seed + 3))
+    });
+    tally.close()
+}
+
+fn options(mut words: impl Iterator<Item = String>) -> Option<(Amounts, u64)> {
+    let (mut amounts, mut seed) = (WHOLE, 1);
+    while let Some(word) = words.next() {
+        match word.as_str() {
+            "--quick" => amounts = QUICK,
+            "--seed" => seed = words.next()?.parse().ok()?,
+            _ => return None,
+        }
+    }
+    Some((amounts, seed))
+}
+
+fn timed(name: &str, tally: &mut Tally, part: impl FnOnce(&mut Tally)) {
+    let (before, started) = (*tally, Instant::now());
+    part(tally);
+    println!(
+        "{name}: {} solved, {} unjoined, {} refused in {:.1} s",
+        tally.solved - before.solved,
+        tally.unjoined - before.unjoined,
+        tally.refused - before.refused,
+        started.elapsed().as_secs_f64()
+    );
+}
+
+fn compare_figures(tally: &mut Tally) {
+    for (name, found, printed) in figures::arithmetic() {
+        tally.judge(name, None, is(found, printed));
+    }
+    for run in figures::runs() {
+        let after = tally.compare(run.name, &run.call, solver::solve);
+        let mut answer = run.answer.iter().zip(numbers(&after.answer));
+        let printed = answer.all(|(printed, found)| printed.is_none_or(|number| number == found));
+        let as_printed = printed && numbers(&after.flow) == run.flow;
+        tally.judge(run.name, Some(&run.call), holds(as_printed, "not as printed"));
+    }
+}
+
+fn compare_rare(tally: &mut Tally) {
+    for (name, net, q) in rare::floors() {
+        tally.compare(name, &Call::new(&net, q), solver::solve);
+    }
+}
+
+fn compare_damaged(tally: &mut Tally) {
+    for case in damage::cases() {
+        let (returned, _) = case.call.answered(solver::solve);
+        tally.judge(&case.name, Some(&case.call), is(returned, case.returned));
+        tally.compare(&case.name, &case.call, solver::solve);
+    }
+}
+
+fn compare_random_damage(tally: &mut Tally, amount: u64, random: &mut Random) {
+    for i in 0..amount {
+        let call = damage::at_random(random);
+        tally.compare(&format!("random damage {i}"), &call, solver::solve);
+    }
+}
+
+/// One belt joins the only pair and the rest lie apart: the iterations are then
+/// T itself, for every number of belts and every precision.
+fn compare_levels(tally: &mut Tally, every: usize) {
+    for m in (1..=256).step_by(every) {
+        for q in PRECISIONS {
+            let net = floors::one_joining(m, 1 + m % 1000);
+            tally.compare(&format!("load mark, m {m}, q {q}"), &Call::new(&net, q), fast::solve);
+        }
+    }
+}
+
+fn compare_small(tally: &mut Tally, amount: u64, random: &mut Random) {
+    for (i, q) in (0..amount).zip(PRECISIONS.cycle()) {
+        let net = floors::small(random);
+        let call = floors::lent(&net, q, random);
+        let name = format!("small floor {i}");
+        let plain = solver::solve(&net, q);
+        tally.judge(&name, Some(&call), agree(&plain, &fast::solve(&net, q)));
+        if random.one_in(8) {
+            let listed = solver::solve_by(literal::choose, &net, q);
+            tally.judge(&name, Some(&call), agree(&plain, &listed));
+        }
+        tally.compare_with(&name, &call, (0, call.written(&plain)));
+    }
+}
+
+fn compare_medium(tally: &mut Tally, amount: u64, random: &mut Random) {
+    for (i, q) in (0..amount).zip(PRECISIONS.cycle()) {
+        let net = floors::medium(random);
+        let call = floors::lent(&net, q, random);
+        tally.compare(&format!("medium floor {i}"), &call, fast::solve);
+    }
+}
+
+/// The fast form speaks for the plain one where that would take minutes.
+fn compare_full(tally: &mut Tally, amounts: &Amounts, random: &mut Random) {
+    let all = SHAPES.into_iter().cycle().zip(PRECISIONS.cycle());
+    for (i, (shape, q)) in all.take(amounts.full * SHAPES.len()).enumerate() {
+        let capacities = CAPACITIES[i / SHAPES.len() % CAPACITIES.len()];
+        let net = floors::floor(shape, FULL_SIZE, capacities, random);
+        let name = format!("{shape:?}, {capacities:?}, q {q}");
+        let call = floors::lent(&net, q, random);
+        tally.compare(&name, &call, fast::solve);
+        if q <= amounts.plain {
+            let plain = solver::solve(&net, q);
+            tally.judge(&name, Some(&call), agree(&plain, &fast::solve(&net, q)));
+        }
+    }
+    let net = floors::unjoined(Shape::Dense, FULL_SIZE, Capacities::Mixed, random);
+    let call = floors::lent(&net, 4, random);
+    tally.compare("full-size and unjoined", &call, fast::solve);
+}
+
+/// On the second solver's own behalf: its number is the stated one.
+fn is(found: u64, stated: u64) -> Result<(), String> {
+    holds(found == stated, &format!("the second solver has {found}, not {stated}"))
+}
+
+fn agree(plain: &Solution, other: &Solution) -> Result<(), String> {
+    holds(plain == other, "two forms of the second solver differ")
+}

@@ -1,0 +1,117 @@
+//! The second solver, fast form: the same choices found with less work. `search`
+//! finds them; here D and the tests that end or halve look only at the arcs just
+//! drawn over.
+
+use crate::method::{fraction_below, fullest, grown, halved, start, threshold, weight, MARK};
+use crate::network::{Network, Solution};
+use crate::search::Search;
+
+struct Bound {
+    weight: u64,
+    alpha: u64,
+    iteration: u64,
+    lengths: Vec<u64>,
+}
+
+struct Run<'a> {
+    net: &'a Network,
+    q: u64,
+    threshold: u64,
+    lengths: Vec<u64>,
+    weight: u64,
+    flow: Vec<u64>,
+    loads: Vec<u64>,
+    drawn: u64,
+    iterations: u64,
+    bound: Bound,
+}
+
+pub fn solve(net: &Network, q: u64) -> Solution {
+    let mut search = Search::new(net);
+    let mut run = Run::new(net, q);
+    let mut path = Vec::new();
+    let mut ended = false;
+    while !ended {
+        let Some(commodity) = search.choose(&run.lengths) else {
+            return Solution::unjoined(net);
+        };
+        let alpha = search.walk(commodity, &run.lengths, &mut path);
+        run.keep_bound(alpha);
+        let marked = run.draw(commodity, &path);
+        ended = run.reached(&path);
+        search.grow();
+        if marked {
+            run.halve();
+            search.drop_bounds();
+        }
+    }
+    run.solution()
+}
+
+impl<'a> Run<'a> {
+    fn new(net: &'a Network, q: u64) -> Run<'a> {
+        let (m, k) = (net.arcs.len(), net.commodities.len());
+        let lengths = start(net);
+        Run {
+            net,
+            q,
+            threshold: threshold(net, q),
+            weight: weight(net, &lengths),
+            flow: vec![0; k * m],
+            loads: vec![0; m],
+            drawn: 0,
+            iterations: 0,
+            // 1 over 0 stands for no bound: every fraction is smaller.
+            bound: Bound { weight: 1, alpha: 0, iteration: 0, lengths: lengths.clone() },
+            lengths,
+        }
+    }
+
+    fn keep_bound(&mut self, alpha: u64) {
+        self.iterations += 1;
+        let least = &mut self.bound;
+        if fraction_below(self.weight, alpha, least.weight, least.alpha) {
+            least.weight = self.weight;
+            least.alpha = alpha;
+            least.iteration = self.iterations;
+            least.lengths.copy_from_slice(&self.lengths);
+        }
+    }
+
+    /// Whether a length has come to the mark.
+    fn draw(&mut self, commodity: usize, path: &[usize]) -> bool {
+        let arcs = &self.net.arcs;
+        let draw = path.iter().fold(u64::MAX, |least, &e| least.min(arcs[e].capacity));
+        let mut marked = false;
+        for &e in path {
+            let next = grown(self.lengths[e], &arcs[e], draw, self.q);
+            self.weight += arcs[e].capacity * (next - self.lengths[e]);
+            self.lengths[e] = next;
+            self.flow[commodity * arcs.len() + e] += draw;
+            self.loads[e] += draw;
+            marked |= next >= MARK;
+        }
+        self.drawn += draw;
+        marked
+    }
+
+    fn reached(&self, path: &[usize]) -> bool {
+        path.iter().any(|&e| self.loads[e] >= self.threshold * self.net.arcs[e].capacity)
+    }
+
+    fn halve(&mut self) {
+        self.lengths.iter_mut().for_each(|length| *length = halved(*length));
+        self.weight = weight(self.net, &self.lengths);
+    }
+
+    fn solution(self) -> Solution {
+        let b = fullest(self.net, &self.loads);
+        let (capacity, load) = (self.net.arcs[b].capacity, self.loads[b]);
+        let Bound { weight, alpha, iteration, lengths } = self.bound;
+        Solution {
+            flow: self.flow,
+            lengths,
+            answer: [self.drawn, capacity, load, weight, alpha, self.iterations, iteration],
+        }
+    }
+}

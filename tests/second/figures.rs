@@ -1,0 +1,63 @@
+//! The figures that document 01 prints: its marked ones of the arithmetic, and
+//! its runs.
+
+use crate::call::Call;
+use crate::method::{grown, halved, level, start};
+use crate::network::{network, Arc};
+
+/// A run that document 01 gives, as far as it says: a flow table and some
+/// numbers of the answer.
+pub struct Run {
+    pub name: &'static str,
+    pub call: Call,
+    pub flow: &'static [u64],
+    pub answer: [Option<u64>; 7],
+}
+
+pub fn runs() -> Vec<Run> {
+    let one = network(2, &[(1, 2, 5)], &[(1, 2)]);
+    let row = network(3, &[(1, 2, 2), (2, 3, 3)], &[(1, 3), (2, 3)]);
+    let beside = network(2, &[(1, 2, 1), (1, 2, 1)], &[(1, 2)]);
+    let (d, alpha) = (137_438_953_472, 68_719_476_736);
+    vec![
+        Run {
+            name: "one belt of 5",
+            call: Call::new(&one, 4),
+            flow: &[20],
+            answer: [Some(20), Some(5), Some(20), None, None, Some(4), None],
+        },
+        Run {
+            name: "two belts in a row",
+            call: Call::new(&row, 4),
+            flow: &[0, 0, 0, 48],
+            answer: [Some(48), Some(3), Some(48), None, None, Some(16), None],
+        },
+        Run {
+            name: "two belts side by side",
+            call: Call::new(&beside, 4),
+            flow: &[16, 15],
+            answer: [31, 1, 16, d, alpha, 31, 1].map(Some),
+        },
+    ]
+}
+
+/// The second solver's own arithmetic against the marked figures: each name with
+/// what was found and what is printed.
+pub fn arithmetic() -> Vec<(&'static str, u64, u64)> {
+    let starts = |capacity| start(&network(2, &[(1, 2, capacity)], &[(1, 2)]))[0];
+    let belt = |capacity| Arc { tail: 1, head: 2, capacity };
+    vec![
+        ("L for m = 1, q = 4", level(1, 4), 1),
+        ("L for m = 2, q = 4", level(2, 4), 4),
+        ("L for m = 2, q = 16", level(2, 16), 12),
+        ("L for m = 256, q = 4", level(256, 4), 25),
+        ("L for m = 256, q = 16", level(256, 16), 92),
+        ("T for m = 256, q = 16", 16 * level(256, 16), 1_472),
+        ("start at 5", starts(5), 13_743_895_348),
+        ("start at 3", starts(3), 22_906_492_246),
+        ("growth of a full draw", grown(13_743_895_348, &belt(5), 5, 4), 17_179_869_185),
+        ("growth of length 1", grown(1, &belt(1_000), 1, 16), 2),
+        ("half of 7", halved(7), 4),
+        ("half of 1", halved(1), 1),
+    ]
+}

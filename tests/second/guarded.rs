@@ -1,0 +1,57 @@
+//! The library's call on slices with known bytes on both sides, at odd addresses:
+//! what it writes outside them shows, and so does a wish for aligned numbers.
+
+use crate::call::Call;
+use crate::library::{solve, Lent};
+
+const BEFORE: usize = 33;
+const AFTER: usize = 40;
+
+struct Guarded {
+    bytes: Vec<u8>,
+    len: usize,
+}
+
+fn guard(at: usize) -> u8 {
+    (at * 151 + 89) as u8
+}
+
+impl Guarded {
+    fn around(slice: &[u8]) -> Guarded {
+        let mut bytes: Vec<u8> = (0..BEFORE + slice.len() + AFTER).map(guard).collect();
+        bytes[BEFORE..][..slice.len()].copy_from_slice(slice);
+        Guarded { bytes, len: slice.len() }
+    }
+
+    fn slice(&mut self) -> &mut [u8] {
+        &mut self.bytes[BEFORE..][..self.len]
+    }
+
+    fn whole(&self) -> bool {
+        let inside = BEFORE..BEFORE + self.len;
+        let mut bytes = self.bytes.iter().enumerate();
+        bytes.all(|(at, byte)| inside.contains(&at) || *byte == guard(at))
+    }
+
+    fn contents(self) -> Vec<u8> {
+        self.bytes[BEFORE..][..self.len].to_vec()
+    }
+}
+
+/// What the library returns, with the slices as it leaves them, or the names of
+/// the slices outside which it wrote.
+pub fn call_library(call: &Call) -> Result<(u64, Call), String> {
+    let given = [&call.belts, &call.pairs, &call.flow, &call.length, &call.answer, &call.count];
+    let mut lent = given.map(|slice| Guarded::around(slice));
+    let [belts, pairs, flow, length, answer, count] = lent.each_mut().map(Guarded::slice);
+    let returned = solve(call.n, call.q, Lent { belts, pairs, flow, length, answer, count });
+    let names = ["belts", "pairs", "flow", "length", "answer", "count"];
+    let spilled: Vec<&str> =
+        lent.iter().zip(names).filter(|(g, _)| !g.whole()).map(|(_, name)| name).collect();
+    if !spilled.is_empty() {
+        return Err(format!("wrote outside {}", spilled.join(", ")));
+    }
+    let [belts, pairs, flow, length, answer, count] = lent.map(Guarded::contents);
+    let (n, q) = (call.n, call.q);
+    Ok((returned, Call { n, q, belts, pairs, flow, length, answer, count }))
+}

@@ -1,0 +1,56 @@
+//! The one call into the static library, and the only unsafe code here.
+
+#[link(name = "host", kind = "static")]
+extern "C" {
+    fn vithmork_solve(
+        n: u64,
+        q: u64,
+        belts: *const u8,
+        belts_len: usize,
+        pairs: *const u8,
+        pairs_len: usize,
+        flow: *mut u8,
+        flow_len: usize,
+        length: *mut u8,
+        length_len: usize,
+        answer: *mut u8,
+        answer_len: usize,
+        count: *mut u8,
+        count_len: usize,
+    ) -> u64;
+}
+
+/// What a call lends. Slices that are borrowed so overlap nowhere. The two that
+/// the library only reads are lent as if it might write, so that a caller may
+/// look whether it did.
+pub struct Lent<'a> {
+    pub belts: &'a mut [u8],
+    pub pairs: &'a mut [u8],
+    pub flow: &'a mut [u8],
+    pub length: &'a mut [u8],
+    pub answer: &'a mut [u8],
+    pub count: &'a mut [u8],
+}
+
+pub fn solve(n: u64, q: u64, lent: Lent) -> u64 {
+    // SAFETY: the library asks of its caller only that each pointer and count be
+    // a slice of its own, and borrowed slices are.
+    unsafe {
+        vithmork_solve(
+            n,
+            q,
+            lent.belts.as_mut_ptr().cast_const(),
+            lent.belts.len(),
+            lent.pairs.as_mut_ptr().cast_const(),
+            lent.pairs.len(),
+            lent.flow.as_mut_ptr(),
+            lent.flow.len(),
+            lent.length.as_mut_ptr(),
+            lent.length.len(),
+            lent.answer.as_mut_ptr(),
+            lent.answer.len(),
+            lent.count.as_mut_ptr(),
+            lent.count.len(),
+        )
+    }
+}

@@ -1,0 +1,77 @@
+//! The arithmetic of document 01, "One choice of route": what both forms of the
+//! second solver compute alike.
+
+use crate::network::{Arc, Network};
+use std::cmp::Ordering;
+
+pub const SCALE: u64 = 1 << 36;
+pub const MARK: u64 = 1 << 40;
+
+/// Powers of 17 up to 17^92 and their multiples by 256 stay below 2^512.
+type Wide = [u32; 16];
+
+fn times(number: &Wide, by: u64) -> Wide {
+    let mut carry = 0;
+    number.map(|limb| {
+        let sum = u64::from(limb) * by + carry;
+        carry = sum >> 32;
+        sum as u32
+    })
+}
+
+fn below(a: &Wide, b: &Wide) -> bool {
+    a.iter().rev().cmp(b.iter().rev()) == Ordering::Less
+}
+
+/// L: the least whole number, at least 1, with (1 + 1/q)^L >= m.
+pub fn level(m: usize, q: u64) -> u64 {
+    let mut one: Wide = [0; 16];
+    one[0] = 1;
+    let mut upper = times(&one, q + 1);
+    let mut lower = times(&times(&one, m as u64), q);
+    let mut level = 1;
+    while below(&upper, &lower) {
+        upper = times(&upper, q + 1);
+        lower = times(&lower, q);
+        level += 1;
+    }
+    level
+}
+
+/// T, the load mark.
+pub fn threshold(net: &Network, q: u64) -> u64 {
+    q * level(net.arcs.len(), q)
+}
+
+pub fn start(net: &Network) -> Vec<u64> {
+    net.arcs.iter().map(|arc| SCALE.div_ceil(arc.capacity)).collect()
+}
+
+pub fn grown(length: u64, arc: &Arc, draw: u64, q: u64) -> u64 {
+    length + (length * draw).div_ceil(q * arc.capacity)
+}
+
+pub fn halved(length: u64) -> u64 {
+    length.div_ceil(2)
+}
+
+/// D: the sum over all arcs of capacity times length.
+pub fn weight(net: &Network, lengths: &[u64]) -> u64 {
+    net.arcs.iter().zip(lengths).map(|(arc, length)| arc.capacity * length).sum()
+}
+
+/// Whether a / b is below c / d, exactly.
+pub fn fraction_below(a: u64, b: u64, c: u64, d: u64) -> bool {
+    u128::from(a) * u128::from(d) < u128::from(c) * u128::from(b)
+}
+
+/// b: the lowest-numbered arc of greatest load over capacity.
+pub fn fullest(net: &Network, loads: &[u64]) -> usize {
+    let mut best = 0;
+    for (e, arc) in net.arcs.iter().enumerate() {
+        if fraction_below(loads[best], net.arcs[best].capacity, loads[e], arc.capacity) {
+            best = e;
+        }
+    }
+    best
+}

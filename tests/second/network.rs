@@ -1,0 +1,57 @@
+//! A network and what a solver says of it. Stations of document 01 are nodes
+//! here, belts arcs, pairs commodities, routes paths, choices iterations.
+//! Nodes count from 1; an arc or a commodity stands at its number less 1.
+
+#[derive(Clone, Copy, Debug, PartialEq)]
+pub struct Arc {
+    pub tail: u64,
+    pub head: u64,
+    pub capacity: u64,
+}
+
+#[derive(Clone, Copy, Debug, PartialEq)]
+pub struct Commodity {
+    pub source: u64,
+    pub sink: u64,
+}
+
+#[derive(Clone, Debug)]
+pub struct Network {
+    pub nodes: u64,
+    pub arcs: Vec<Arc>,
+    pub commodities: Vec<Commodity>,
+}
+
+/// A network written out: belts as (tail, head, capacity), pairs as (source, sink).
+pub fn network(nodes: u64, belts: &[(u64, u64, u64)], pairs: &[(u64, u64)]) -> Network {
+    let arc = |&(tail, head, capacity): &(u64, u64, u64)| Arc { tail, head, capacity };
+    let commodity = |&(source, sink): &(u64, u64)| Commodity { source, sink };
+    Network {
+        nodes,
+        arcs: belts.iter().map(arc).collect(),
+        commodities: pairs.iter().map(commodity).collect(),
+    }
+}
+
+/// The seven numbers of the answer, in document 01's order: F, c(b), Y(b), the
+/// bound's D and alpha, the count of iterations, and which gave the bound.
+pub type Answer = [u64; 7];
+
+/// `flow` holds the amounts commodity by commodity, `lengths` the kept ones.
+#[derive(Clone, Debug, PartialEq)]
+pub struct Solution {
+    pub flow: Vec<u64>,
+    pub lengths: Vec<u64>,
+    pub answer: Answer,
+}
+
+impl Solution {
+    /// Document 01, "One choice of route": no commodity's sink can be reached.
+    pub fn unjoined(net: &Network) -> Solution {
+        Solution {
+            flow: vec![0; net.commodities.len() * net.arcs.len()],
+            lengths: vec![0; net.arcs.len()],
+            answer: [0, 1, 1, 0, 1, 0, 0],
+        }
+    }
+}

@@ -1,0 +1,184 @@
+//! The second solver, plain form: written from document 01, step by step, with
+//! a Bellman-Ford search for every commodity at every iteration.
+
+use crate::method::{fraction_below, fullest, grown, halved, start, threshold, weight, MARK};
+use crate::network::{Network, Solution};
+
+pub const UNREACHED: u64 = u64::MAX;
+
+/// Distances to one sink, by node.
+pub type Distances = [u64; 65];
+
+/// The chosen commodity, its path as arc indices, and alpha.
+#[derive(Debug, PartialEq)]
+pub struct Choice {
+    pub commodity: usize,
+    pub path: Vec<usize>,
+    pub alpha: u64,
+}
+
+struct Bound {
+    weight: u64,
+    alpha: u64,
+    iteration: u64,
+    lengths: Vec<u64>,
+}
+
+struct Run<'a> {
+    net: &'a Network,
+    q: u64,
+    lengths: Vec<u64>,
+    flow: Vec<u64>,
+    loads: Vec<u64>,
+    drawn: u64,
+    iterations: u64,
+    bound: Option<Bound>,
+}
+
+pub fn solve(net: &Network, q: u64) -> Solution {
+    solve_by(choose, net, q)
+}
+
+/// The method with any way to the choice: `literal` has another.
+pub fn solve_by(choose: fn(&Network, &[u64]) -> Option<Choice>, net: &Network, q: u64) -> Solution {
+    let threshold = threshold(net, q);
+    let mut run = Run::new(net, q);
+    while !run.reached(threshold) {
+        match choose(net, &run.lengths) {
+            Some(choice) => run.iterate(&choice),
+            None => return Solution::unjoined(net),
+        }
+    }
+    run.solution()
+}
+
+/// The lowest-numbered commodity of least distance, and its first shortest path.
+pub fn choose(net: &Network, lengths: &[u64]) -> Option<Choice> {
+    let mut best: Option<(usize, Distances, u64)> = None;
+    for (i, commodity) in net.commodities.iter().enumerate() {
+        let distances = distances(net, lengths, commodity.sink);
+        let found = distances[commodity.source as usize];
+        let least = best.as_ref().map_or(UNREACHED, |(_, _, alpha)| *alpha);
+        if found < least {
+            best = Some((i, distances, found));
+        }
+    }
+    let (commodity, distances, alpha) = best?;
+    let path = first_path(net, lengths, &distances, commodity);
+    Some(Choice { commodity, path, alpha })
+}
+
+/// The least length of any path from each node to the sink, by Bellman-Ford.
+pub fn distances(net: &Network, lengths: &[u64], sink: u64) -> Distances {
+    let mut distances = [UNREACHED; 65];
+    distances[sink as usize] = 0;
+    while relax_all(net, lengths, &mut distances) {}
+    distances
+}
+
+fn relax_all(net: &Network, lengths: &[u64], distances: &mut Distances) -> bool {
+    let mut changed = false;
+    for (arc, length) in net.arcs.iter().zip(lengths) {
+        let onward = distances[arc.head as usize];
+        let tail = &mut distances[arc.tail as usize];
+        if onward != UNREACHED && length + onward < *tail {
+            *tail = length + onward;
+            changed = true;
+        }
+    }
+    changed
+}
+
+/// Taking the lowest-numbered arc that lies on some shortest path, node after
+/// node, gives the path whose arc numbers come first in dictionary order.
+fn first_path(net: &Network, lengths: &[u64], distances: &Distances, i: usize) -> Vec<usize> {
+    let mut path = Vec::new();
+    let mut node = net.commodities[i].source;
+    while node != net.commodities[i].sink {
+        let next = (0..net.arcs.len()).find(|&e| tight(net, lengths, distances, node, e));
+        let arc = next.expect("a node that reaches the sink has a tight arc");
+        path.push(arc);
+        node = net.arcs[arc].head;
+    }
+    path
+}
+
+fn tight(net: &Network, lengths: &[u64], distances: &Distances, node: u64, e: usize) -> bool {
+    let onward = distances[net.arcs[e].head as usize];
+    net.arcs[e].tail == node
+        && onward != UNREACHED
+        && lengths[e] + onward == distances[node as usize]
+}
+
+impl<'a> Run<'a> {
+    fn new(net: &'a Network, q: u64) -> Run<'a> {
+        let (m, k) = (net.arcs.len(), net.commodities.len());
+        Run {
+            net,
+            q,
+            lengths: start(net),
+            flow: vec![0; k * m],
+            loads: vec![0; m],
+            drawn: 0,
+            iterations: 0,
+            bound: None,
+        }
+    }
+
+    fn iterate(&mut self, choice: &Choice) {
+        self.iterations += 1;
+        self.keep_bound(choice.alpha);
+        self.draw(choice);
+        if self.lengths.iter().any(|&length| length >= MARK) {
+            self.lengths.iter_mut().for_each(|length| *length = halved(*length));
+        }
+    }
+
+    /// A smaller fraction replaces the least seen, an equal one doesn't.
+    fn keep_bound(&mut self, alpha: u64) {
+        let weight = weight(self.net, &self.lengths);
+        let smaller = match &self.bound {
+            None => true,
+            Some(least) => fraction_below(weight, alpha, least.weight, least.alpha),
+        };
+        if smaller {
+            let (iteration, lengths) = (self.iterations, self.lengths.clone());
+            self.bound = Some(Bound { weight, alpha, iteration, lengths });
+        }
+    }
+
+    fn draw(&mut self, choice: &Choice) {
+        let arcs = &self.net.arcs;
+        let capacities = choice.path.iter().map(|&e| arcs[e].capacity);
+        let draw = capacities.min().expect("a path has an arc, as its ends differ");
+        for &e in &choice.path {
+            self.flow[choice.commodity * arcs.len() + e] += draw;
+            self.loads[e] += draw;
+            self.lengths[e] = grown(self.lengths[e], &arcs[e], draw, self.q);
+        }
+        self.drawn += draw;
+    }
+
+    fn reached(&self, threshold: u64) -> bool {
+        let mut loads = self.net.arcs.iter().zip(&self.loads);
+        loads.any(|(arc, load)| *load >= threshold * arc.capacity)
+    }
+
+    fn solution(self) -> Solution {
+        let b = fullest(self.net, &self.loads);
+        let bound = self.bound.expect("the threshold is reached by drawing");
+        Solution {
+            flow: self.flow,
+            lengths: bound.lengths,
+            answer: [
+                self.drawn,
+                self.net.arcs[b].capacity,
+                self.loads[b],
+                bound.weight,
+                bound.alpha,
+                self.iterations,
+                bound.iteration,
+            ],
+        }
+    }
+}
