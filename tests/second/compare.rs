@@ -42,7 +42,7 @@ struct Amounts {
 }
 
 const WHOLE: Amounts =
-    Amounts { levels: 1, damaged: 20_000, small: 39_000, medium: 260, full: 7, plain: 5 };
+    Amounts { levels: 1, damaged: 20_000, small: 39_000, medium: 130, full: 5, plain: 4 };
 const QUICK: Amounts =
     Amounts { levels: 51, damaged: 1_000, small: 390, medium: 13, full: 0, plain: 0 };
 
@@ -165,8 +165,9 @@ fn compare_medium(tally: &mut Tally, amount: u64, random: &mut Random) {
 }
 
 /// The fast form speaks for the plain one where that would take minutes.
+/// Full-size floors at the coarse precisions: a finer one takes minutes a floor.
 fn compare_full(tally: &mut Tally, amounts: &Amounts, random: &mut Random) {
-    let all = SHAPES.into_iter().cycle().zip(PRECISIONS.cycle());
+    let all = SHAPES.into_iter().cycle().zip((4..=6).cycle());
     for (i, (shape, q)) in all.take(amounts.full * SHAPES.len()).enumerate() {
         let capacities = CAPACITIES[i / SHAPES.len() % CAPACITIES.len()];
         let net = floors::floor(shape, FULL_SIZE, capacities, random);

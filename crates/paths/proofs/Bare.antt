@@ -1,18 +1,14 @@
 -- No choice depends on the capacities: the choice of a network without them is the choice of the network.
 -- Assumes nothing.
-use mathlib.Core.Path.{_≡_, refl, sym, ap, _∙_}
-use mathlib.Core.Bool.{cond}
+use mathlib.Core.Path.{_≡_, refl, sym, _∙_}
 use mathlib.Core.Option.{Option, none, some, bind}
-use mathlib.Core.List.{List, [], _∷_, map}
+use mathlib.Core.List.{List, [], _∷_}
 use Prim.Native.Nat.{ℕ}
-use Rattle.arith.specs.Lists.{upTo, flat, keep}
-use Rattle.network.specs.Ends.{Ends}
-use Rattle.network.specs.Network.{Network, arcs, commodities, source, sink}
-use Rattle.network.specs.Path.{leads, follow, pathLength}
-use Rattle.method.specs.Choice.{Choice, choiceOf, words, endsAt, paths, candidates, least, choice}
-use Rattle.paths.specs.Chose.{Picked, Chose}
-use Rattle.paths.specs.Graph.{Fit}
-use Rattle.paths.specs.Search.{bare, Survey, Search}
+use Rattle.network.specs.Network.{Network}
+use Rattle.network.specs.Path.{leads, follow}
+use Rattle.method.specs.Choice.{paths, candidates, choice}
+use Rattle.paths.specs.Chose.{Chose}
+use Rattle.paths.specs.Search.{bare, Search}
 use Rattle.paths.specs.declared.Selected.{Selected}
 
 -- A network without its capacities.
@@ -26,6 +22,7 @@ bind-same none h = refl
 bind-same (some w) h = h w
 
 module _ (net : Network) where
+  -- Arcs lead where they lead, so the same lists of arcs are paths, and the candidates are the same.
   follow-bare : (v : ℕ) (p : List ℕ) → follow (bareOf net) v p ≡ follow net v p
   unfolding follow leads
   follow-bare v [] = refl
@@ -50,14 +47,12 @@ module _ {net : Network} {l : List ℕ} where
             record {
               fit =
                   record {
-                    heads = f .heads;
                     lengths = f .lengths;
                     ends =
                         record { tails = E .tails; heads = E .heads; sources = E .sources; sinks = E .sinks; apart = E .apart };
                     small = f .small;
                     room = f .room;
                   };
-              sinks = H .survey .sinks;
               positive = H .survey .positive;
               few = H .survey .few;
             };

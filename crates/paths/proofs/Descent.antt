@@ -50,5 +50,6 @@ module _ {net : Network} {l d : List ℕ} {t far : ℕ} (ends : Ends net) (D : D
   within zero v node near b = onward v node near (λ w n c. absurd (omega arith))
   within (suc n) v node near b = onward v node near (λ w at-w c. within n w at-w (omega arith) (omega arith))
 
+  -- A walk from each node below the cap.
   pub distance-path : (v : ℕ) → Node net v → getD d v 0 < far → (p : List ℕ) × Walk net l d t v p
   distance-path v node near = within (getD d v 0) v node near (le-refl (getD d v 0))

@@ -2,8 +2,7 @@
 -- Assumes nothing.
 use mathlib.Core.Path.{_≡_, refl}
 use mathlib.Core.Option.{none, some}
-use mathlib.Core.List.{List, [], _∷_}
-use Prim.Native.Nat.{ℕ}
+use mathlib.Core.List.{[], _∷_}
 use native.Mathlib.Omega.{arith}
 use Rattle.arith.specs.Lists.{upFrom, upTo, flat}
 use Rattle.network.specs.Ends.{Ends}
@@ -15,11 +14,11 @@ use Rattle.network.specs.declared.Verdict.the-variants.{Accepted}
 use Rattle.network.proofs.Accepted.{accepted-sound}
 use Rattle.network.proofs.Sounds.{sound-ends}
 use Rattle.method.specs.Choice.{choiceOf, choice}
-use Rattle.paths.specs.Far.{far}
 use Rattle.paths.specs.Nearest.{Nearest}
 use Rattle.paths.proofs.Found.{nearest-start, nearest-step, nobody-none, somebody-choice}
 use Rattle.paths.proofs.WalkExample.{floor, lengths, near, away, bounded, to-3, to-1, walk}
 
+-- Tables with just enough room for the larger of the two networks below.
 abbrev tables : Tables
 tables = record { flow = 6; length = 3; answer = 7; count = 1 }
 
@@ -27,7 +26,7 @@ tables = record { flow = 6; length = 3; answer = 7; count = 1 }
 abbrev twice : Network
 twice = floor (1 ∷ 1 ∷ []) (3 ∷ 3 ∷ [])
 
--- The commodity from 3 to 1, to which no path leads.
+-- The commodity from 3 to 1, for which there is no path.
 abbrev parted : Network
 parted = floor (3 ∷ []) (1 ∷ [])
 
@@ -35,9 +34,8 @@ accepted : (verdict twice 4 tables 0 ≡ Accepted) × (verdict parted 4 tables 0
 unfolding upFrom upTo flat firstRow outside loose short sizeRows arcRows commodityRows itemRows rows verdict
 accepted = (refl, refl)
 
-module _ (net : Network) (h : verdict net 4 tables 0 ≡ Accepted) where
-  ends : Ends net
-  ends = sound-ends net 4 (accepted-sound net 4 tables 0 h .0)
+ends : (net : Network) → verdict net 4 tables 0 ≡ Accepted → Ends net
+ends net h = sound-ends net 4 (accepted-sound net 4 tables 0 h .0)
 
 -- The first commodity is nearer than far, and the second no nearer than the first.
 first : Nearest twice lengths 1 0 2
@@ -50,6 +48,7 @@ second = nearest-step (ends twice (accepted .0)) bounded (omega arith) (omega ar
 found : (choice twice lengths ≡ some (choiceOf 0 (0 ∷ 1 ∷ []))) × (pathLength lengths (0 ∷ 1 ∷ []) ≡ 2)
 found = somebody-choice (ends twice (accepted .0)) (λ e b. bounded e b .0) second (omega arith) (to-3 _ _) (walk _ _)
 
+-- Its source is far from its sink, so nothing is chosen.
 not-found : choice parted lengths ≡ none
 not-found =
     nobody-none

@@ -3,7 +3,6 @@
 use mathlib.Core.List.{List}
 use Prim.Native.Nat.{ℕ}
 use native.Mathlib.Omega.{arith}
-use lib.ListN.{getD}
 use Rattle.network.specs.Ends.{Ends}
 use Rattle.network.specs.Network.{Network}
 use Rattle.paths.specs.Distances.{Way, Distances}
@@ -14,6 +13,7 @@ use Rattle.paths.specs.Walk.{Walk, stop, step}
 abbrev pub graphOf : Network → Network
 graphOf net = graph (net .nodes) (net .tails) (net .heads)
 
+-- Without commodities their ends ask nothing.
 pub ends-graph : {net : Network} → Ends net → Ends (graphOf net)
 ends-graph E =
     record {
@@ -27,9 +27,10 @@ ends-graph E =
 module _ {net : Network} {l : List ℕ} where
   pub fit-graph : {size : ℕ} → Fit net l size → Fit (graphOf net) l size
   fit-graph f =
-      record { heads = f .heads; lengths = f .lengths; ends = ends-graph (f .ends); small = f .small; room = f .room }
+      record { ends = ends-graph (f .ends); lengths = f .lengths; small = f .small; room = f .room }
 
   module _ {d : List ℕ} where
+    -- A way over an arc, either way round.
     way-net : {v x e : ℕ} → Way (graphOf net) l d v x e → Way net l d v x e
     way-net w = record { arc = w .arc; from = w .from; long = w .long }
 

@@ -1,19 +1,18 @@
--- What holds of the distances while a search goes on: they start at far, relaxation keeps them ways over arcs, and at rest they are the distances.
+-- What holds of the distances while a search goes on: relaxation keeps it, and at rest they are the distances.
 -- Assumes nothing.
-use mathlib.Core.Path.{_≡_, refl, sym, ap, _∙_}
-use mathlib.Core.Logic.{_⊎_, inl, inr, ⊎-elim}
-use mathlib.Core.List.{List, _++_}
-use Prim.Native.Nat.{ℕ, _+_, _≤_, _<_}
+use mathlib.Core.Path.{_≡_, sym}
+use mathlib.Core.Logic.{⊎-elim}
+use mathlib.Core.List.{List}
+use Prim.Native.Nat.{ℕ, _≤_, _<_}
 use native.Mathlib.Nat.{le-antisymm}
 use native.Mathlib.Omega.{arith}
-use lib.ListN.{length, getD, set, replicate, length-append, length-replicate, getD-replicate, List·getD-append}
-use lib.Seq.{getD-set-same, getD-set-other}
+use lib.ListN.{getD}
 use Rattle.network.specs.Ends.{Node}
 use Rattle.network.specs.Network.{Network, arcs, tail, head}
 use Rattle.paths.specs.Distances.{Distances}
 use Rattle.paths.specs.Graph.{Capped}
 use Rattle.paths.specs.Relax.{over, relaxed}
-use Rattle.paths.proofs.Relaxing.{set-entry, Shortened, relaxed-entry, relaxed-le}
+use Rattle.paths.proofs.Relaxing.{Shortened, relaxed-entry, relaxed-le}
 
 -- Arc e leads from v, and the way over it is no longer than v's entry.
 pub record Over (net : Network) (l d : List ℕ) (v e : ℕ) : Type 0 where
@@ -64,29 +63,4 @@ module _ (net : Network) (l d : List ℕ) (e : ℕ) (b : e < arcs net) where
         sink = omega (arith, L .sink, relaxed-le net l d e t);
         capped = λ v c. omega (arith, L .capped v c, relaxed-le net l d e v);
         way = λ v node apart. way-relaxed v far (L .way v node apart);
-      }
-
--- Nothing is known but the sink.
-module _ (net : Network) (l rest : List ℕ) (t far : ℕ) (b : t ≤ net .nodes) where
-  abbrev fars : List ℕ
-  fars = replicate (net .nodes + 1) far ++ rest
-
-  fars-at : (v : ℕ) → v ≤ net .nodes → getD fars v 0 ≡ far
-  fars-at v c =
-      List·getD-append (replicate (net .nodes + 1) far) rest 0 v (omega (arith, length-replicate (net .nodes + 1) far)) ∙
-      getD-replicate (net .nodes + 1) v far 0 (omega arith)
-
-  fars-room : t < length fars
-  fars-room = omega (arith, length-append (replicate (net .nodes + 1) far) rest, length-replicate (net .nodes + 1) far)
-
-  pub labels-start : Labels net l (set fars t 0) t far
-  labels-start =
-      record {
-        sink = getD-set-same fars t 0 0 fars-room;
-        capped = λ v c.
-            ⊎-elim
-            (λ (h : getD (set fars t 0) v 0 ≡ getD fars v 0). omega (arith, fars-at v c))
-            (λ (h : (v ≡ t) × (getD (set fars t 0) v 0 ≡ 0)). omega arith)
-            (set-entry fars t 0 v);
-        way = λ v node apart near. absurd (omega (arith, near, getD-set-other fars t v 0 0 apart, fars-at v (node .1)));
       }

@@ -1,6 +1,7 @@
 pub mod Bare
 pub mod Descent
 pub mod Falls
+pub mod Fars
 pub mod Found
 pub mod FoundExample
 pub mod Graphs
@@ -9,7 +10,9 @@ pub mod Lower
 pub mod Lowest
 pub mod Nearest
 pub mod Reach
+pub mod Ready
 pub mod Relaxing
+pub mod Rests
 pub mod Rooms
 pub mod Selects
 pub mod Simple

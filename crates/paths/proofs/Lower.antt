@@ -19,6 +19,7 @@ module _ {net : Network} {l d : List ℕ} {t far : ℕ} where
       let r = leads-some net v e w h in
       omega (arith, D .feasible e (r .0), ap (λ u. getD d u 0) (r .1), ap (λ u. getD d u 0) (r .2))
 
+  -- No path is shorter.
   pub distance-lower : Distances net l d t far → (v : ℕ) (p : List ℕ) → Path net v t p → getD d v 0 ≤ pathLength l p
   unfolding follow pathLength
   distance-lower D v [] h = omega (arith, D .sink, ap (λ u. getD d u 0) (Option·some-injective v t h))

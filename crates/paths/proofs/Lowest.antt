@@ -24,6 +24,7 @@ module _ (P : ℕ → Type 0) (decided : (i : ℕ) → P i ⊎ (P i → ⊥)) wh
       onward (inr none) (inl h) = inl (n, record { has = h; none-lower = none })
       onward (inr none) (inr no-n) = inr (λ j b. below-more (λ j. P j → ⊥) n none no-n j (omega arith))
 
+  -- From any number that has the property.
   pub lowest : (n : ℕ) → P n → (i : ℕ) × Lowest P i
   lowest n h =
       ⊎-elim

@@ -18,10 +18,12 @@ use Rattle.paths.proofs.Lower.{distance-lower}
 abbrev NoShorter : Network → List ℕ → ℕ → ℕ → Type 0
 NoShorter net l x j = (q : List ℕ) → Path net (source net j) (sink net j) q → x ≤ pathLength l q
 
+-- Before the first look: no commodity is below 0, and x is far.
 pub nearest-start : {net : Network} {l : List ℕ} → Nearest net l 0 0 far
 nearest-start = nobody refl (λ j b h. omega arith)
 
 module _ {net : Network} {l : List ℕ} {k i x : ℕ} where
+  -- x is never past the cap.
   pub nearest-cap : Nearest net l k i x → x ≤ far
   nearest-cap (nobody e unjoined) = omega arith
   nearest-cap (somebody near listed p h long least lowest) = omega arith
@@ -40,7 +42,7 @@ module _ {net : Network} {l : List ℕ} {k i x : ℕ} where
   pub nearest-lowest :
       Nearest net l k i x → x < far → (j : ℕ) → j < i → (q : List ℕ) → Path net (source net j) (sink net j) q → x < pathLength l q
   nearest-lowest (nobody e unjoined) b j c q h = absurd (omega arith)
-  nearest-lowest (somebody near listed p r long least lowest) b j c q h = lowest j c q h
+  nearest-lowest (somebody near listed p r long least lowest) b j c q h = omega (arith, lowest j c q h)
 
   -- and i has a path of length x: so its source is no farther from its sink.
   pub nearest-reached :

@@ -21,6 +21,7 @@ unfolding pathLength
 pathLength-le l x [] h = omega arith
 pathLength-le l x (e ∷ p) h = omega (arith, h e (first refl), pathLength-le l x p (λ j m. h j (later m)))
 
+-- A path is no shorter than its shortcut, which has fewer arcs than there are nodes. Lengths are below the mark of document 01, "One choice of route".
 pub distance-near :
     {net : Network} {l d : List ℕ} {t far : ℕ} → Ends net → ((e : ℕ) → e < arcs net → getD l e 0 < 2 ^ 40) → net .nodes * 2 ^ 40 ≤ far →
     Distances net l d t far → (v : ℕ) → Node net v → (p : List ℕ) → Path net v t p → getD d v 0 < far

@@ -5,15 +5,12 @@ use mathlib.Core.Logic.{_⊎_, inl, inr, ⊎-elim}
 use mathlib.Core.Bool.{Bool, true, false, cond}
 use mathlib.Core.List.{List, [], _∷_}
 use Prim.Native.Nat.{ℕ, zero, suc, _≤_, _<_}
-use native.Mathlib.Nat.{le-refl}
 use native.Mathlib.Omega.{arith}
 use lib.ListN.{length, getD, set, length-set}
 use lib.Seq.{getD-set-same}
 use borrow.Author.Tests.{ltb-true, ltb-false}
-use Rattle.arith.specs.Sum.{sum}
 use Rattle.network.specs.Network.{Network, tail}
 use Rattle.paths.specs.Relax.{over, shortens, relaxed}
-use Rattle.paths.proofs.Falls.{sum-falls}
 
 -- After a store of x at v an entry is as before, or it is that at v and is x.
 pub set-entry : (d : List ℕ) (v x u : ℕ) → (getD (set d v x) u 0 ≡ getD d u 0) ⊎ ((u ≡ v) × (getD (set d v x) u 0 ≡ x))

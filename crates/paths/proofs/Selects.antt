@@ -1,10 +1,10 @@
 -- The choice from what the search found: nothing where no commodity is near, else the walk of the nearest.
 -- Assumes nothing.
-use mathlib.Core.Path.{_≡_, sym, subst}
+use mathlib.Core.Path.{_≡_, subst}
 use mathlib.Core.List.{List}
 use Prim.Native.Nat.{ℕ, _≤_, _<_}
 use native.Mathlib.Omega.{arith}
-use lib.ListN.{length, getD, take, length-take}
+use lib.ListN.{length, take, length-take}
 use Rattle.network.specs.Network.{Network, commodities, source, sink}
 use Rattle.network.proofs.Paths.{path-some}
 use Rattle.paths.specs.Chose.{Chose}
@@ -19,6 +19,7 @@ use Rattle.paths.proofs.Graphs.{graphOf, fit-graph, distances-net, walk
 use Rattle.paths.proofs.Nearest.{nearest-cap, nearest-listed, nearest-reached}
 use Rattle.paths.proofs.Walks.{walk-path}
 
+-- What is selected: commodity i, r arcs, the distance x.
 abbrev pub selected : ℕ → ℕ → ℕ → Selected
 selected i r x = record { commodity = i; arcs = r; distance = x }
 

@@ -1,4 +1,4 @@
--- A walk visits no node twice, so it has fewer arcs than there are nodes: without a loop it would be shorter than the distance.
+-- A walk visits no node twice, so it has fewer arcs than there are nodes. Guarantee, section 6.
 -- Assumes nothing.
 use mathlib.Core.Logic.{⊎-elim}
 use mathlib.Core.List.{List, _++_}
@@ -18,6 +18,7 @@ use Rattle.paths.proofs.Lower.{distance-lower}
 use Rattle.paths.proofs.Walks.{walk-path, walk-length}
 
 module _ {net : Network} {l d : List ℕ} {t far v : ℕ} {p : List ℕ} where
+  -- Cutting a loop out would give a path shorter than the distance.
   pub walk-distinct : Positive net l → Distances net l d t far → Walk net l d t v p → Distinct (visited net v p)
   walk-distinct pos D w =
       ⊎-elim

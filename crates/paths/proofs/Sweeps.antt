@@ -1,30 +1,27 @@
--- A sweep over the arcs: what every relaxation keeps it keeps; a sweep that changed something lowers the sum of the distances; one that changed
--- nothing found no arc that shortens.
+-- A sweep over the arcs: what every relaxation keeps it keeps, no distance grows, and where one changed their sum falls, so a search ends.
 -- Assumes nothing.
-use mathlib.Core.Path.{_≡_, refl, ap, subst, _∙_}
-use mathlib.Core.Bool.{Bool, true, false}
+use mathlib.Core.Path.{_≡_, refl, _∙_}
+use mathlib.Core.Bool.{true}
 use mathlib.Core.Logic.{⊎-elim}
 use mathlib.Core.List.{List}
 use Prim.Native.Nat.{ℕ, zero, suc, _≤_, _<_}
 use native.Mathlib.Nat.{le-refl, eq-or-lt-of-le, le-of-suc-le-suc}
 use native.Mathlib.Omega.{arith}
 use lib.ListN.{length, getD}
-use borrow.Author.Tests.{ltb-false}
-use Rattle.arith.specs.Lists.{exists}
 use Rattle.arith.specs.Sum.{sum}
 use Rattle.arith.proofs.Exists.{exists-true}
 use Rattle.network.specs.Network.{Network, tail}
-use Rattle.network.proofs.Or.{or-false-left, or-false-right}
 use Rattle.paths.specs.Graph.{Capped}
-use Rattle.paths.specs.Relax.{over, shortens, relaxed, swept, changed}
+use Rattle.paths.specs.Relax.{shortens, relaxed, swept, changed}
 use Rattle.paths.proofs.Falls.{sum-falls}
-use Rattle.paths.proofs.Relaxing.{relaxed-size, relaxed-le, relaxed-same, relaxed-tail}
+use Rattle.paths.proofs.Relaxing.{relaxed-size, relaxed-le, relaxed-tail}
 
 -- The sum of the entries of all nodes, and of place 0.
 unfoldable pub total : Network → List ℕ → ℕ
 total net d = sum (suc (net .nodes)) (λ v. getD d v 0)
 
 module _ (net : Network) (l d : List ℕ) where
+  -- What every relaxation keeps.
   pub swept-keeps :
       (P : List ℕ → Type 0) (k : ℕ) → ((x : List ℕ) (e : ℕ) → e < k → P x → P (relaxed net l x e)) → P d → P (swept net l d k)
   unfolding swept
@@ -33,33 +30,6 @@ module _ (net : Network) (l d : List ℕ) where
 
   pub swept-size : (k : ℕ) → length (swept net l d k) ≡ length d
   swept-size k = swept-keeps (λ x. length x ≡ length d) k (λ x e b q. relaxed-size net l x e ∙ q) refl
-
-  -- Nothing changed over the first k arcs and the next: over the first k, and at the next.
-  still-before : (k : ℕ) → changed net l d (suc k) ≡ false → changed net l d k ≡ false
-  unfolding changed exists
-  still-before k h = or-false-left (changed net l d k) (shortens net l (swept net l d k) k) h
-
-  still-here : (k : ℕ) → changed net l d (suc k) ≡ false → shortens net l (swept net l d k) k ≡ false
-  unfolding changed exists
-  still-here k h = or-false-right (changed net l d k) (shortens net l (swept net l d k) k) h
-
-  -- Where nothing changed, the distances are as they were, and no arc shortens.
-  pub swept-same : (k : ℕ) → changed net l d k ≡ false → swept net l d k ≡ d
-  unfolding swept
-  swept-same zero h = refl
-  swept-same (suc k) h = relaxed-same net l (swept net l d k) k (still-here k h) ∙ swept-same k (still-before k h)
-
-  no-shorter : (e : ℕ) → shortens net l d e ≡ false → getD d (tail net e) 0 ≤ over net l d e
-  unfolding shortens
-  no-shorter e h = ltb-false _ _ h
-
-  pub swept-rest : (k : ℕ) → changed net l d k ≡ false → (e : ℕ) → e < k → getD d (tail net e) 0 ≤ over net l d e
-  swept-rest zero h e b = absurd (omega arith)
-  swept-rest (suc k) h e b =
-      ⊎-elim
-      (λ (q : e ≡ k). rw q (no-shorter k (rw (swept-same k (still-before k h)) at (still-here k h))))
-      (λ (b : e < k). swept-rest k (still-before k h) e b)
-      (eq-or-lt-of-le (le-of-suc-le-suc b))
 
   -- What an arc left is not grown by the later ones.
   swept-after : (k e v : ℕ) → e < k → getD (swept net l d k) v 0 ≤ getD (swept net l d (suc e)) v 0
@@ -78,6 +48,7 @@ module _ (net : Network) (l d : List ℕ) where
   pub swept-capped : (k far : ℕ) → Capped net d far → Capped net (swept net l d k) far
   swept-capped k far h v b = omega (arith, h v b, swept-le k v)
 
+  -- Where some arc shortened, its tail is nearer afterwards.
   pub swept-falls :
       (k : ℕ) → ((e : ℕ) → e < k → tail net e ≤ net .nodes) → net .nodes < length d → changed net l d k ≡ true →
       total net (swept net l d k) < total net d

@@ -1,5 +1,5 @@
--- Two tables of distances and a walk in which the rule for ties decides: so these exist. The arcs and lengths are those of the tied choice in the crate
--- method.
+-- Two tables of distances, and a walk in which the rule for ties decides: so these exist.
+-- The arcs and lengths are those of the tied choice in the crate method.
 -- Assumes nothing.
 use mathlib.Core.Path.{_≡_, refl}
 use mathlib.Core.List.{List, [], _∷_}

@@ -1,9 +1,9 @@
 -- A walk on its way: k arcs are written, and whatever walk goes on from v completes them to a walk from s.
 -- Assumes nothing.
-use mathlib.Core.Path.{_≡_, refl, sym, ap, subst, _∙_}
+use mathlib.Core.Path.{_≡_, sym, subst, _∙_}
 use mathlib.Core.List.{List, [], _∷_, _++_, append-assoc, append-nil}
 use mathlib.Core.Logic.{⊎-elim}
-use Prim.Native.Nat.{ℕ, suc, _+_, _≤_, _<_}
+use Prim.Native.Nat.{ℕ, _+_, _≤_, _<_}
 use native.Mathlib.Numerals.{add-one}
 use native.Mathlib.Omega.{arith}
 use lib.ListN.{length, getD, take, set, length-append, length-set}
@@ -11,7 +11,6 @@ use lib.Seq.{length-take-le, take-suc-set}
 use Rattle.arith.proofs.Order.{le-or-lt}
 use Rattle.network.specs.Ends.{Node}
 use Rattle.network.specs.Network.{Network, arcs, head}
-use Rattle.paths.specs.Distances.{Way}
 use Rattle.paths.specs.Far.{far}
 use Rattle.paths.specs.Tight.{Tight}
 use Rattle.paths.specs.Walk.{Walk, stop, step}
@@ -19,6 +18,7 @@ use Rattle.paths.specs.Walked.{Walkable, Walked}
 use Rattle.paths.proofs.Descent.{distance-path}
 use Rattle.paths.proofs.Simple.{walk-few}
 
+-- The walk from s is at v, at a node below the cap, with its k arcs in the table.
 pub record Walking (net : Network) (l d : List ℕ) (s t size : ℕ) (path : List ℕ) (v k : ℕ) : Type 0 where
   pub whole : length path ≡ size
   pub within : k ≤ size
@@ -27,6 +27,7 @@ pub record Walking (net : Network) (l d : List ℕ) (s t size : ℕ) (path : Lis
   pub completes : (p : List ℕ) → Walk net l d t v p → Walk net l d t s (take k path ++ p)
 
 module _ {net : Network} {l d : List ℕ} {s t size : ℕ} (W : Walkable net l d s t size) where
+  -- Before the first arc.
   pub walking-start : (path : List ℕ) → length path ≡ size → Walking net l d s t size path s 0
   walking-start path q =
       record { whole = q; within = omega arith; node = W .source; near = W .near; completes = λ p w. w }
@@ -44,6 +45,7 @@ module _ {net : Network} {l d : List ℕ} {s t size : ℕ} (W : Walkable net l d
           length-take-le k path (omega (arith, S .whole, S .within)),
         )
 
+    -- At t the walk is done.
     pub walking-end : v ≡ t → Walked net l d s t k path
     walking-end q =
         record {
@@ -61,6 +63,7 @@ module _ {net : Network} {l d : List ℕ} {s t size : ℕ} (W : Walkable net l d
           (λ (b : e < arcs net). b)
           (le-or-lt (arcs net) e)
 
+      -- It leads to a nearer node, so the walk ends.
       pub next-nearer : getD d (head net e) 0 < getD d v 0
       next-nearer = omega (arith, T .way next-arc .long, W .positive e next-arc)
 
@@ -70,6 +73,7 @@ module _ {net : Network} {l d : List ℕ} {s t size : ℕ} (W : Walkable net l d
       written : (p : List ℕ) → take (k + 1) (set path k e) ++ p ≡ take k path ++ (e ∷ p)
       written p = rw (add-one, take-suc-set path k e room, append-assoc)
 
+      -- One arc more.
       pub walking-step : Walking net l d s t size (set path k e) (head net e) (k + 1)
       walking-step =
           record {

@@ -3,7 +3,7 @@
 use mathlib.Core.Path.{_≡_, refl, sym, ap, subst, _∙_}
 use mathlib.Core.Logic.{⊎-elim}
 use mathlib.Core.Option.{some, Option·some-injective}
-use mathlib.Core.List.{List, [], _∷_}
+use mathlib.Core.List.{List}
 use Prim.Native.Nat.{ℕ, _+_, _<_}
 use native.Mathlib.Nat.{eq-or-lt-of-le}
 use native.Mathlib.Omega.{arith}
@@ -18,38 +18,44 @@ use Rattle.paths.specs.Walk.{Walk, stop, step}
 use Rattle.paths.proofs.Lower.{way-lower, distance-lower}
 
 module _ {net : Network} {l d : List ℕ} {t : ℕ} where
+  -- It is a path,
   pub walk-path : {v : ℕ} {p : List ℕ} → Walk net l d t v p → Path net v t p
   unfolding follow
   walk-path stop = refl
   walk-path (step {v = v} {e = e} {p = p} apart way low w) =
       path-cons net v (head net e) t e p (some-leads net v e (way .arc) (way .from)) (walk-path w)
 
+  -- as long as the distance of its start.
   pub walk-length : {v : ℕ} {p : List ℕ} → getD d t 0 ≡ 0 → Walk net l d t v p → pathLength l p ≡ getD d v 0
   unfolding pathLength
   walk-length z stop = sym z
   walk-length z (step apart way low w) = omega (arith, way .long, walk-length z w)
 
-  -- An arc that leads from v and is lower than the walk's first arc is not tight, so the way over it is longer.
-  lower-longer :
-      {far : ℕ} → Distances net l d t far → (v e j w : ℕ) → ((i : ℕ) → i < e → Way net l d v (getD d v 0) i → ⊥) → j < e → leads net v j ≡ some w →
+  -- The way over an arc that is not tight is longer than the distance of where it starts,
+  slack-longer :
+      {far : ℕ} → Distances net l d t far → (v j w : ℕ) → (Way net l d v (getD d v 0) j → ⊥) → leads net v j ≡ some w →
       getD d v 0 < getD l j 0 + getD d w 0
-  lower-longer D v e j w low b h =
+  slack-longer D v j w slack h =
       let r = leads-some net v j w h in
       ⊎-elim
-      (λ (q : getD d v 0 ≡ getD l j 0 + getD d w 0).
-      absurd (low j b (record { arc = r .0; from = r .1; long = omega (arith, ap (λ u. getD d u 0) (r .2)) })))
-      (λ (lt : getD d v 0 < getD l j 0 + getD d w 0). lt)
+      (λ (q : getD d v 0 ≡ getD l j 0 + getD d w 0). absurd (slack (record {
+        arc = r .0;
+        from = r .1;
+        long = omega (arith, ap (λ u. getD d u 0) (r .2));
+      })))
+      (λ (b : getD d v 0 < getD l j 0 + getD d w 0). b)
       (eq-or-lt-of-le (way-lower D v j w h))
 
+  -- so paths that are before a walk in dictionary order are longer.
   pub walk-first :
       {v far : ℕ} {p : List ℕ} → Distances net l d t far → Walk net l d t v p → (q : List ℕ) → Path net v t q → Before q p →
       getD d v 0 < pathLength l q
   unfolding follow pathLength
   walk-first D (step {v = v} apart way low w) q h ends = absurd (apart (Option·some-injective v t h))
-  walk-first D (step {v = v} {e = e} apart way low w) q h (smaller {d = j} {p = r} b) =
+  walk-first D (step {v = v} apart way low w) q h (smaller {d = j} {p = r} b) =
       let s = path-step net v t j r h in
-      omega (arith, lower-longer D v e j (s .0) low b (s .1), distance-lower D (s .0) r (s .2))
-  walk-first D (step {v = v} {e = e} apart way low w) q h (agrees {d = j} {p = r} same b) =
+      omega (arith, slack-longer D v j (s .0) (low j b) (s .1), distance-lower D (s .0) r (s .2))
+  walk-first D (step {v = v} apart way low w) q h (agrees {d = j} {p = r} same b) =
       let s = path-step net v t j r h in
       let k = leads-some net v j (s .0) (s .1) in
       omega (

@@ -1,5 +1,4 @@
 -- What a search asks of the tables that it is lent, and what it leaves in one.
-use mathlib.Core.Path.{_≡_}
 use mathlib.Core.List.{List, []}
 use Prim.Native.Nat.{ℕ, _^_, _≤_, _<_}
 use lib.ListN.{length, getD}
@@ -12,11 +11,10 @@ use Rattle.paths.specs.Distances.{Distances}
 abbrev pub graph : ℕ → List ℕ → List ℕ → Network
 graph n tails heads = ofArcs n tails heads []
 
--- Every arc has a head and a length, the ends are nodes, lengths are small, and a table of the given size has room for each node.
+-- The ends are nodes, each arc has a length, a small one, and a table of the given size has room for each node.
 pub record Fit (net : Network) (l : List ℕ) (size : ℕ) : Type 0 where
-  pub heads : length (net .heads) ≡ arcs net
-  pub lengths : length l ≡ arcs net
   pub ends : Ends net
+  pub lengths : arcs net ≤ length l
   pub small : (e : ℕ) → e < arcs net → getD l e 0 < 2 ^ 40
   pub room : net .nodes < size
 

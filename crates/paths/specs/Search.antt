@@ -1,10 +1,8 @@
 -- What the choice over all commodities asks of the tables that it is lent.
-use mathlib.Core.Path.{_≡_}
 use mathlib.Core.List.{List, []}
 use Prim.Native.Nat.{ℕ, _≤_}
-use lib.ListN.{length}
 use Rattle.network.specs.Ends.{Positive}
-use Rattle.network.specs.Network.{Network, commodities}
+use Rattle.network.specs.Network.{Network}
 use Rattle.paths.specs.Graph.{Fit}
 
 -- A network without its capacities, on which no choice depends (proofs/Bare).
@@ -12,10 +10,9 @@ abbrev pub bare : ℕ → List ℕ → List ℕ → List ℕ → List ℕ → Ne
 bare n tails heads sources sinks =
     record { nodes = n; tails = tails; heads = heads; capacities = []; sources = sources; sinks = sinks }
 
--- A look at every commodity: the tables fit, each commodity has a sink, lengths are at least 1, and there are no more nodes than the cap allows.
+-- A look at every commodity: the tables fit, lengths are at least 1, and there are no more nodes than the cap allows.
 pub record Survey (net : Network) (l : List ℕ) (size : ℕ) : Type 0 where
   pub fit : Fit net l size
-  pub sinks : length (net .sinks) ≡ commodities net
   pub positive : Positive net l
   pub few : net .nodes ≤ 64
 

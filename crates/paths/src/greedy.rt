@@ -1,4 +1,5 @@
 // The greedy walk: from a node over the lowest-numbered arc that keeps to a shortest path, until the sink.
+// n, the number of nodes, is taken for the contracts, which speak of the network.
 ghost use Prim.Native.Nat.{_≤_};
 ghost use lib.ListN.{length};
 ghost use Rattle.paths.specs.Far.{far};

@@ -1,4 +1,5 @@
 // Distances to a sink: every arc relaxed in turn, again and again until none shortens a distance.
+// n is the number of nodes: one function reads it, the others take it for their contracts, which speak of the network.
 ghost use mathlib.Core.Path.{_≡_};
 ghost use mathlib.Core.List.{_++_};
 ghost use Prim.Native.Nat.{_+_, _≤_, _<_};

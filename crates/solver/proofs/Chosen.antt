@@ -5,19 +5,19 @@ use mathlib.Core.Option.{none, some, Option·none-ne-some}
 use mathlib.Core.List.{List}
 use mathlib.Core.Logic.{⊎-elim}
 use Prim.Native.Nat.{ℕ, _≤_, _<_}
-use native.Mathlib.Nat.{eq-or-lt-of-le}
+use native.Mathlib.Nat.{eq-or-lt-of-le, le-of-eq}
 use native.Mathlib.Omega.{arith}
 use Rattle.network.specs.Network.{Network}
-use Rattle.network.proofs.Sounds.{sound-ends}
 use Rattle.method.specs.Choice.{Choice, choice}
 use Rattle.method.specs.Iteration.{State, advance, iteration}
 use Rattle.method.proofs.Reached.{Reached}
 use Rattle.method.proofs.Sized.{reached-sizes}
 use Rattle.paths.specs.Far.{far}
 use Rattle.paths.specs.Chose.{Picked, Chose}
-use Rattle.paths.specs.Search.{Survey, Search}
+use Rattle.paths.specs.Search.{Search}
 use Rattle.paths.specs.declared.Selected.{Selected}
-use Rattle.paths.proofs.Bare.{bareOf, chose-net}
+use Rattle.paths.proofs.Bare.{bareOf, search-bare, chose-net}
+use Rattle.paths.proofs.Ready.{sound-search}
 use Rattle.solver.specs.Runs.{Lent, Space, Chooses}
 
 pub surveyed :
@@ -25,25 +25,10 @@ pub surveyed :
     Search (bareOf net) (s .lengths) nodes places
 surveyed net q lent s r nodes places space =
     let z = reached-sizes net q (lent .sound) s r in
-    let e = sound-ends net q (lent .sound) in
     let few : net .nodes ≤ 64 = lent .sound .counts .of-nodes .most in
-    record {
-      survey =
-          record {
-            fit =
-                record {
-                  heads = lent .heads;
-                  lengths = r .valid .lengths;
-                  ends = record { tails = e .tails; heads = e .heads; sources = e .sources; sinks = e .sinks; apart = e .apart };
-                  small = z .length-high;
-                  room = omega (arith, space .dist);
-                };
-            sinks = lent .sinks;
-            positive = z .length-low;
-            few = few;
-          };
-      places = omega (arith, space .path);
-    }
+    search-bare
+    (sound-search (lent .sound) (λ e l. (z .length-low e l, z .length-high e l)) (le-of-eq (sym (r .valid .lengths))) (omega (arith, space .dist))
+    (omega (arith, space .path)))
 
 -- Where something is chosen whatever the lengths, the search picks it.
 pub picks : (net : Network) → Chooses net → (l : List ℕ) (r : Selected) (path : List ℕ) → Chose (bareOf net) l r path → Picked net l r path

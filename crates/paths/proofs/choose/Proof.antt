@@ -1,12 +1,13 @@
 -- `paths::choose` meets its contract: the nearest commodity is found, and its walk is the choice.
 -- Assumes nothing.
-use mathlib.Core.Path.{_≡_, _∙_}
+use mathlib.Core.Path.{_∙_}
 use Prim.Native.Nat.{_<_}
 use native.Mathlib.Omega.{arith}
 use lib.ListN.{length}
 use borrow.Author.Needs.{needs}
 use Rattle.paths.proofs.Graphs.{fit-graph}
 use Rattle.paths.proofs.Nearest.{nearest-listed}
+use Rattle.paths.proofs.Rooms.{sink-listed}
 use Rattle.paths.proofs.Selects.{selects-nothing, selects-walkable, selects-walk}
 use Rattle.paths.proofs.choose.Statement.{statement}
 use Rattle.paths.proofs.choose.Tie as tie
@@ -18,8 +19,8 @@ search-at c = c .before .before .before
 abbrev entry : tie.After-nearest-commodity → tie.Start
 entry c = c .before .before .before .before .before .before .before .before .before
 
-listed : (c : tie.Else1) → search-at c .nearest-commodity .result .commodity < length (entry (search-at c) .args .sources .now)
-listed c = nearest-listed (search-at c .nearest-commodity .ensures) (c .if1 .left)
+among : (c : tie.Else1) → search-at c .nearest-commodity .result .commodity < length (entry (search-at c) .args .sources .now)
+among c = nearest-listed (search-at c .nearest-commodity .ensures) (c .if1 .left)
 
 nearest-commodity-requires : tie.Need-nearest-commodity-requires
 nearest-commodity-requires c κs = search needs
@@ -31,24 +32,24 @@ returns : tie.Need-returns
 returns c = let s = c .before .before .before in selects-nothing (entry s .pre) (s .nearest-commodity .ensures) _ _ (c .if1 .taken)
 
 mul-source : tie.Need-mul-source
-mul-source c = omega (arith, entry (search-at c) .good, listed c)
+mul-source c = omega (arith, entry (search-at c) .good, among c)
 
 shared-slice-read-source : tie.Need-shared-slice-read-source
-shared-slice-read-source c = listed (c .before)
+shared-slice-read-source c = among (c .before)
 
 mul-sink : tie.Need-mul-sink
-mul-sink c = omega (arith, entry (search-at (c .before)) .good, listed (c .before))
+mul-sink c = omega (arith, entry (search-at (c .before)) .good, among (c .before))
 
 shared-slice-read-sink : tie.Need-shared-slice-read-sink
 shared-slice-read-sink c =
     let t = c .before .before in
-    omega (arith, listed t, entry (search-at t) .pre .survey .sinks)
+    sink-listed (entry (search-at t) .pre .survey .fit) (search-at t .nearest-commodity .result .commodity) (among t)
 
 distances-requires : tie.Need-distances-requires
 distances-requires c κs =
     let t = c .before .before .before in
     let fit = entry (search-at t) .pre .survey .fit in
-    (rw (search-at t .nearest-commodity .kept .1 .1 .1 .1 .1 .1 .0) (fit-graph fit), fit .ends .sinks _ (listed t))
+    (rw (search-at t .nearest-commodity .kept .1 .1 .1 .1 .1 .1 .0) (fit-graph fit), fit .ends .sinks _ (among t))
 
 walk-requires : tie.Need-walk-requires
 walk-requires c κs =

@@ -14,6 +14,7 @@ use Rattle.paths.specs.Nearest.{Nearest}
 use Rattle.paths.specs.Search.{bare, Survey}
 use Rattle.paths.proofs.Found.{nearest-start, nearest-step}
 use Rattle.paths.proofs.Graphs.{graphOf, fit-graph, distances-net}
+use Rattle.paths.proofs.Rooms.{sink-listed}
 use Rattle.paths.proofs.nearest_commodity.Statement.{statement}
 use Rattle.paths.proofs.nearest_commodity.Tie as tie
 
@@ -81,7 +82,9 @@ mul-distances : tie.Need-mul-distances Inv-loop μ-loop
 mul-distances c = omega (arith, entry c .good)
 
 shared-slice-read-distances : tie.Need-shared-slice-read-distances Inv-loop μ-loop
-shared-slice-read-distances c = omega (arith, entry (c .before) .pre .sinks)
+shared-slice-read-distances c =
+    let t = c .before in
+    sink-listed (entry t .pre .fit) (t .before .loop .i) (t .loop-test .taken)
 
 distances-requires : tie.Need-distances-requires Inv-loop μ-loop
 distances-requires c κs =

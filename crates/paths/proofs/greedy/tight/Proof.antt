@@ -1,6 +1,6 @@
 -- `paths::greedy::tight` meets its contract: no arc passed is tight, and the one returned is.
 -- Assumes nothing.
-use mathlib.Core.Path.{_≡_, refl}
+use mathlib.Core.Path.{_≡_}
 use mathlib.Core.Logic.{⊎-elim}
 use mathlib.Core.List.{List}
 use Prim.Native.Nat.{ℕ, _+_, _-_, _≤_, _<_}
@@ -12,7 +12,7 @@ use Rattle.network.specs.Network.{Network, arcs, tail, head}
 use Rattle.paths.specs.Distances.{Way}
 use Rattle.paths.specs.Graph.{graph}
 use Rattle.paths.specs.Tight.{Tight}
-use Rattle.paths.proofs.Rooms.{head-room, over-fits}
+use Rattle.paths.proofs.Rooms.{head-room, head-listed, over-fits}
 use Rattle.paths.proofs.greedy.tight.Statement.{statement}
 use Rattle.paths.proofs.greedy.tight.Tie as tie
 
@@ -63,7 +63,7 @@ mul-w : tie.Need-mul-w Inv-loop μ-loop
 mul-w c = omega (arith, c .before .before)
 
 shared-slice-read-w : tie.Need-shared-slice-read-w Inv-loop μ-loop
-shared-slice-read-w c = omega (arith, entry (c .before .before .before) .pre .0 .heads)
+shared-slice-read-w c = let t = c .before .before .before in head-listed (entry t .pre .0) (t .before .loop .e) (t .loop-test .taken)
 
 mul-if2 : tie.Need-mul-if2 Inv-loop μ-loop
 mul-if2 c = omega (arith, c .before .before .before)

@@ -5,6 +5,7 @@ use Prim.Native.Nat.{_<_}
 use native.Mathlib.Omega.{arith}
 use lib.ListN.{length, getD}
 use Rattle.paths.specs.Graph.{graph}
+use Rattle.paths.proofs.Rooms.{head-listed}
 use Rattle.paths.proofs.Walking.{Walking, walking-start, walking-few, walking-end, walking-step, next-arc, next-nearer}
 use Rattle.paths.proofs.greedy.walk.Statement.{statement}
 use Rattle.paths.proofs.greedy.walk.Tie as tie
@@ -56,7 +57,7 @@ mul-v : tie.Need-mul-v Inv-loop μ-loop
 mul-v c = omega (arith, entry (turn c) .good, arc c)
 
 shared-slice-read-v : tie.Need-shared-slice-read-v Inv-loop μ-loop
-shared-slice-read-v c = omega (arith, arc (c .before), entry (turn (c .before)) .pre .fit .heads)
+shared-slice-read-v c = head-listed (entry (turn (c .before)) .pre .fit) (c .before .tight .result) (arc (c .before))
 
 loop-less : tie.Need-loop-less Inv-loop μ-loop
 loop-less c =

@@ -11,8 +11,10 @@ use Rattle.network.specs.Network.{Network, arcs}
 use Rattle.paths.specs.Far.{far}
 use Rattle.paths.specs.Graph.{graph, Fit, Table}
 use Rattle.paths.specs.Relax.{swept, changed}
-use Rattle.paths.proofs.Labels.{Labels, labels-start, labels-relaxed, labels-rest}
-use Rattle.paths.proofs.Sweeps.{total, swept-keeps, swept-size, swept-falls, swept-same, swept-rest}
+use Rattle.paths.proofs.Fars.{labels-start}
+use Rattle.paths.proofs.Labels.{Labels, labels-relaxed, labels-rest}
+use Rattle.paths.proofs.Rests.{swept-same, swept-rest}
+use Rattle.paths.proofs.Sweeps.{total, swept-keeps, swept-size, swept-falls}
 use Rattle.paths.proofs.search.distances.Statement.{statement}
 use Rattle.paths.proofs.search.distances.Tie as tie
 

@@ -5,7 +5,7 @@ use native.Mathlib.Omega.{arith}
 use borrow.Author.Needs.{needs}
 use borrow.Author.Tests.{lt-ltb, le-ltb}
 use Rattle.paths.specs.Relax.{shortens, relaxed}
-use Rattle.paths.proofs.Rooms.{tail-room, head-room, over-fits}
+use Rattle.paths.proofs.Rooms.{tail-room, head-room, head-listed, over-fits}
 use Rattle.paths.proofs.search.relax.Statement.{statement}
 use Rattle.paths.proofs.search.relax.Tie as tie
 
@@ -19,7 +19,7 @@ mul-w : tie.Need-mul-w
 mul-w c = search needs
 
 shared-slice-read-w : tie.Need-shared-slice-read-w
-shared-slice-read-w c = search needs
+shared-slice-read-w c = let s = c .before .before in head-listed (s .pre .0) (s .args .e) (s .pre .1 .0)
 
 mul-way : tie.Need-mul-way
 mul-way c = search needs
