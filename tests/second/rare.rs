@@ -38,12 +38,14 @@ fn equally_full() -> Vec<(&'static str, Network, u64)> {
 /// length that are drawn over in turn. Draws of 105, 80 and 128 take its length
 /// times 135/128, 25/24 and 16/15; three, two and seven of them double it and
 /// round nothing, so that it goes from 2^29 to the mark itself in eleven rounds.
+/// The pair beside it keeps the last bits in which a late halving would show.
 fn exactly_marked() -> Network {
-    let ways = [(105, 195); 3].into_iter().chain([(80, 463); 2]).chain([(133, 140); 7]);
+    let ways = [(105, 196); 3].into_iter().chain([(80, 465); 2]).chain([(136, 137); 7]);
     let mut belts = vec![(14, 15, 128)];
     for (station, (into, out_of)) in (2..).zip(ways) {
         belts.push((1, station, into));
         belts.push((station, 14, out_of));
     }
-    network(15, &belts, &[(1, 15)])
+    belts.push((16, 17, 18));
+    network(17, &belts, &[(1, 15), (16, 17)])
 }

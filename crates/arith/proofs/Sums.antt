@@ -38,6 +38,16 @@ unfolding sum
 sum-le zero f g h = le-refl 0
 sum-le (suc n) f g h = omega (arith, sum-le n f g (λ i l. h i (omega arith)), h n (le-refl (suc n)))
 
+-- A sum falls where no term grows and one falls.
+pub sum-lt : (n : ℕ) (f g : ℕ → ℕ) (k : ℕ) → k < n → ((i : ℕ) → i < n → f i ≤ g i) → f k < g k → sum n f < sum n g
+unfolding sum
+sum-lt zero f g k l h s = omega arith
+sum-lt (suc n) f g k l h s =
+    ⊎-elim
+    (λ (e : k ≡ n). omega (arith, ap f e, ap g e, sum-le n f g (λ i b. h i (omega arith))))
+    (λ (b : k < n). omega (arith, sum-lt n f g k b (λ i d. h i (omega arith)) s, h n (le-refl (suc n))))
+    (eq-or-lt-of-le (le-of-suc-le-suc l))
+
 -- A term is at most its sum.
 pub term-le-sum : (n : ℕ) (f : ℕ → ℕ) (i : ℕ) → i < n → f i ≤ sum n f
 unfolding sum

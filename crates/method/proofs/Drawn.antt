@@ -18,13 +18,7 @@ use Rattle.method.specs.Iteration.{update}
 use Rattle.method.specs.Answer.{amounts}
 use Rattle.method.proofs.Balance.{path-below, path-balance}
 use Rattle.method.proofs.Through.{through-adds, times-row}
-use Rattle.method.proofs.Times.{Below, none, also, once, times, along, update-adds}
-
-once-same : (e : ℕ) → once e e ≡ 1
-once-same e = ap (λ t. cond t 1 0) (eq-eqb e e refl)
-
-once-other : (e j : ℕ) → (e ≡ j → ⊥) → once j e ≡ 0
-once-other e j n = ap (λ t. cond t 1 0) (ne-eqb e j n)
+use Rattle.method.proofs.Times.{Below, none, also, once, once-same, once-other, times, along, update-adds}
 
 -- The places of row i of a table of k rows are within it.
 row-below : (m k i : ℕ) (p : List ℕ) → i < k → Below m p → Below (k * m) (map (λ e. i * m + e) p)
@@ -37,7 +31,7 @@ row-below m k i (e ∷ p) l (also h b) =
 sum-row : (k i g : ℕ) (c x x' : ℕ → ℕ) → i < k → ((j : ℕ) → j < k → x' j ≡ x j + c j * (once j i * g)) → sum k x' ≡ sum k x + c i * g
 sum-row k i g c x x' l h =
     sum-change k x x' i (c i * g) l
-    (λ j b n. h j b ∙ omega (arith, ap (λ t. c j * (t * g)) (once-other i j (λ (q : i ≡ j). n (sym q)))))
+    (λ j b n. h j b ∙ omega (arith, ap (λ t. c j * (t * g)) (once-other i j n)))
     (h i l ∙ omega (arith, ap (λ t. c i * (t * g)) (once-same i)))
 
 module _ (net : Network) (i g : ℕ) (p : List ℕ) (path : Path net (source net i) (sink net i) p) (listed : i < commodities net) (table : List ℕ)
@@ -86,8 +80,8 @@ module _ (net : Network) (i g : ℕ) (p : List ℕ) (path : Path net (source net
           (omega (
             arith,
             path-balance net v (source net i) (sink net i) p path,
-            once-other (source net i) v (λ (h : source net i ≡ v). ns (sym h ∙ ap (source net) same)),
-            once-other (sink net i) v (λ (h : sink net i ≡ v). nt (sym h ∙ ap (sink net) same)),
+            once-other (source net i) v (λ (h : v ≡ source net i). ns (h ∙ ap (source net) same)),
+            once-other (sink net i) v (λ (h : v ≡ sink net i). nt (h ∙ ap (sink net) same)),
           ))
 
   leaving-adds : leaving net (amounts net next) ≡ leaving net (amounts net table) + along (λ e. once (source net i) (tail net e)) p * g
@@ -110,7 +104,7 @@ module _ (net : Network) (i g : ℕ) (p : List ℕ) (path : Path net (source net
         arith,
         path-balance net (source net i) (source net i) (sink net i) p path,
         once-same (source net i),
-        once-other (sink net i) (source net i) (λ (h : sink net i ≡ source net i). apart (sym h)),
+        once-other (sink net i) (source net i) apart,
       ) in
       omega (arith, leaving-adds, entering-adds, ap (λ t. t * g) one)
 

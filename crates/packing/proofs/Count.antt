@@ -6,21 +6,11 @@ use Prim.Native.Nat.{ℕ, zero, suc, _+_, _*_, _-_, _/_, _≤_, _<_}
 use native.Mathlib.Nat.{le-trans, le-refl, le-of-suc-le-suc, eq-or-lt-of-le, le-div-iff-mul-le, div-lt-iff-lt-mul, div-mul-le-self, mul-le-mul}
 use native.Mathlib.Omega.{arith}
 use Rattle.arith.specs.Sum.{sum}
-use Rattle.arith.proofs.Sums.{sum-le, sum-const}
+use Rattle.arith.proofs.Sums.{sum-le, sum-const, sum-lt}
 use Rattle.packing.proofs.Program.{Program}
 use Rattle.packing.proofs.Run.{State, Iteration, Run, Below}
 
 -- one term less, and none greater
-sum-lt : (n : ℕ) (f g : ℕ → ℕ) (k : ℕ) → k < n → ((i : ℕ) → i < n → f i ≤ g i) → f k < g k → sum n f < sum n g
-unfolding sum
-sum-lt zero f g k l h s = omega arith
-sum-lt (suc n) f g k l h s =
-    ⊎-elim
-    (λ (e : k ≡ n). omega (arith, ap f e, ap g e, sum-le n f g (λ i b. h i (omega arith))))
-    (λ (b : k < n). omega (arith, sum-lt n f g k b (λ i d. h i (omega arith)) s, h n (le-refl (suc n))))
-    (eq-or-lt-of-le (le-of-suc-le-suc l))
-
--- more drawn is no fewer whole capacities, and a capacity more is one more
 quotient-mono : (x y c : ℕ) → 0 < c → x ≤ y → x / c ≤ y / c
 quotient-mono x y c p h = le-div-iff-mul-le p .1 (le-trans (div-mul-le-self x c) h)
 

@@ -1,6 +1,5 @@
 pub mod Bare
 pub mod Descent
-pub mod Falls
 pub mod Fars
 pub mod Found
 pub mod FoundExample

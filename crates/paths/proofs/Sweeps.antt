@@ -13,7 +13,7 @@ use Rattle.arith.proofs.Exists.{exists-true}
 use Rattle.network.specs.Network.{Network, tail}
 use Rattle.paths.specs.Graph.{Capped}
 use Rattle.paths.specs.Relax.{shortens, relaxed, swept, changed}
-use Rattle.paths.proofs.Falls.{sum-falls}
+use Rattle.arith.proofs.Sums.{sum-lt}
 use Rattle.paths.proofs.Relaxing.{relaxed-size, relaxed-le, relaxed-tail}
 
 -- The sum of the entries of all nodes, and of place 0.
@@ -55,13 +55,13 @@ module _ (net : Network) (l d : List ℕ) where
   unfolding changed total swept
   swept-falls k ends room h =
       let (e, b, s) = exists-true k (λ e. shortens net l (swept net l d e) e) h in
-      sum-falls
+      sum-lt
       (suc (net .nodes))
       (λ v. getD (swept net l d k) v 0)
       (λ v. getD d v 0)
-      (λ v c. swept-le k v)
       (tail net e)
       (omega (arith, ends e b))
+      (λ v c. swept-le k v)
       (omega (
         arith,
         swept-after k e (tail net e) b,

@@ -8,27 +8,19 @@ use native.Mathlib.Omega.{arith}
 use Rattle.numbers.specs.Numbers.{count}
 use Rattle.host.proofs.running_in.Statement.{statement}
 use Rattle.host.proofs.running_in.Tie as tie
-use Rattle.host.proofs.running_in.Reads as reads
-use Rattle.host.proofs.running_in.Lts as lts
-use Rattle.numbers.proofs.count.Reads as count-reads
-use Rattle.numbers.proofs.read.Reads as read-reads
 
--- src/lib.rt:10:12
 count-requires : tie.Need-count-requires
 count-requires c κs = search needs
 
--- src/lib.rt:10:36
 read-requires : tie.Need-read-requires
 read-requires c κs = search needs
 
--- src/lib.rt:7:1
 returns : tie.Need-returns
 returns c =
     let s = now (c .before .before .before .before .args .count) in
     let h : 0 < count s = omega (arith, c .before .before .count .ensures, c .before .if1 .taken) in
     rw (lt-ltb 0 (count s) h) (c .read .ensures)
 
--- src/lib.rt:7:1
 returns-2 : tie.Need-returns-2
 returns-2 c =
     let s = now (c .before .before .before .args .count) in

@@ -13,52 +13,34 @@ use Rattle.host.proofs.Hosts.{sizesIn, refused-in, accepted-in, sizable
 use Rattle.host.proofs.Judged.{served-refused}
 use Rattle.host.proofs.vithmork_solve.Statement.{statement}
 use Rattle.host.proofs.vithmork_solve.Tie as tie
-use Rattle.host.proofs.vithmork_solve.Reads as reads
-use Rattle.host.proofs.vithmork_solve.Lts as lts
-use Rattle.host.proofs.decode.decode.Reads as decode-reads
-use Rattle.host.proofs.running_in.Reads as running-in-reads
-use Rattle.network.proofs.checks.check_sizes.Reads as check-sizes-reads
-use Rattle.network.proofs.numbers.host_number.Reads as host-number-reads
-use Rattle.numbers.proofs.count.Reads as count-reads
-use Rattle.numbers.proofs.items.Reads as items-reads
 
--- src/lib.rt:34:9
 items-requires : tie.Need-items-requires
 items-requires c κs = search needs
 
--- src/lib.rt:35:9
 items-requires-2 : tie.Need-items-requires-2
 items-requires-2 c κs = search needs
 
--- src/lib.rt:36:9
 count-requires : tie.Need-count-requires
 count-requires c κs = search needs
 
--- src/lib.rt:37:9
 count-requires-2 : tie.Need-count-requires-2
 count-requires-2 c κs = search needs
 
--- src/lib.rt:38:9
 count-requires-3 : tie.Need-count-requires-3
 count-requires-3 c κs = search needs
 
--- src/lib.rt:39:9
 count-requires-4 : tie.Need-count-requires-4
 count-requires-4 c κs = search needs
 
--- src/lib.rt:46:9
 running-in-requires : tie.Need-running-in-requires
 running-in-requires c κs = search needs
 
--- src/lib.rt:47:9
 check-sizes-requires : tie.Need-check-sizes-requires
 check-sizes-requires c κs = search needs
 
--- src/lib.rt:49:9
 enum-told : tie.Need-enum-told
 enum-told c = search needs
 
--- src/lib.rt:49:9
 -- the rows that were looked at are those of the definition
 abbrev looked : (s : tie.Start) → List Row
 looked s = sizesIn (s .args .n) (s .args .q) (now (s .args .belts)) (now (s .args .pairs)) (tablesIn (now (s .args .flow)) (now (s .args .length)) (now (s .args .answer)) (now (s .args .count))) (runningIn (now (s .args .count)))
@@ -92,23 +74,18 @@ host-number-requires c κs =
     let s = c .before .before .before .before .before .before .before .before .before .before .before .before .before .before .before .before .before .before .before .before .before in
     rw (number c) (verdict-fits (networkIn (s .args .n) (now (s .args .belts)) (now (s .args .pairs))) (s .args .q) (tablesIn (now (s .args .flow)) (now (s .args .length)) (now (s .args .answer)) (now (s .args .count))) (runningIn (now (s .args .count))))
 
--- src/lib.rt:49:9
 same-length : tie.Need-same-length
 same-length c = search needs
 
--- src/lib.rt:49:9
 same-length-2 : tie.Need-same-length-2
 same-length-2 c = search needs
 
--- src/lib.rt:49:9
 same-length-3 : tie.Need-same-length-3
 same-length-3 c = search needs
 
--- src/lib.rt:49:9
 same-length-4 : tie.Need-same-length-4
 same-length-4 c = search needs
 
--- src/lib.rt:49:9
 returns : tie.Need-returns
 returns c =
     let s = c .before .before .before .before .before .before .before .before .before .before .before .before .before .before .before .before .before .before .before .before .before .before in
@@ -118,7 +95,6 @@ returns c =
 enum-told-2 : tie.Need-enum-told-2
 enum-told-2 c = search needs
 
--- src/lib.rt:51:5
 passed : (c : tie.After-enum-told2) → firstRow (looked (c .before .before .before .before .before .before .before .before .before .before .before .before .before .before .before .before .before .before .before .before .before)) ≡ Accepted
 passed c = sym (sizes (c .before .before)) ∙ c .enum-told2 .given .1
 
@@ -128,23 +104,18 @@ decode-requires c κs =
     rw (c .before .before .before .before .before .before .before .running-in .ensures)
     (sizable-in (s .args .n) (s .args .q) (now (s .args .belts)) (now (s .args .pairs)) (now (s .args .flow)) (now (s .args .length)) (now (s .args .answer)) (now (s .args .count)) (runningIn (now (s .args .count))) (passed (c .before .before .before .before)))
 
--- src/lib.rt:21:1
 same-length-5 : tie.Need-same-length-5
 same-length-5 c = search needs
 
--- src/lib.rt:21:1
 same-length-6 : tie.Need-same-length-6
 same-length-6 c = search needs
 
--- src/lib.rt:21:1
 same-length-7 : tie.Need-same-length-7
 same-length-7 c = search needs
 
--- src/lib.rt:21:1
 same-length-8 : tie.Need-same-length-8
 same-length-8 c = search needs
 
--- src/lib.rt:21:1
 returns-2 : tie.Need-returns-2
 returns-2 c =
     let s = c .before .before .before .before .before .before .before .before .before .before .before .before .before .before .before .before .before .before .before .before .before .before .before .before .before .before .before .before .before .before .before .before .before .before in

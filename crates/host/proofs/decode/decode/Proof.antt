@@ -7,10 +7,6 @@ use lib.ListN.{replicate}
 use lib.Seq.{length-take-le}
 use Rattle.host.proofs.decode.decode.Statement.{statement}
 use Rattle.host.proofs.decode.decode.Tie as tie
-use Rattle.host.proofs.decode.decode.Reads as reads
-use Rattle.host.proofs.decode.decode.Lts as lts
-use Rattle.host.proofs.decode.decode_in.Reads as decode-in-reads
-use Rattle.numbers.proofs.items.Reads as items-reads
 
 -- the arrays have a place for each number
 few-arcs : (c : tie.After-items2) → c .before .items .result ≤ 256
@@ -19,55 +15,42 @@ few-arcs c = omega (arith, c .before .items .ensures, c .before .before .before 
 few-pairs : (c : tie.After-items2) → c .items2 .result ≤ 32
 few-pairs c = omega (arith, c .items2 .ensures, c .before .before .before .before .before .before .before .before .pre .counts .of-commodities .most)
 
--- src/decode.rt:53:9
 items-requires : tie.Need-items-requires
 items-requires c κs = search needs
 
--- src/decode.rt:54:9
 items-requires-2 : tie.Need-items-requires-2
 items-requires-2 c κs = search needs
 
--- src/decode.rt:66:9
 array-borrow-prefix-tails : tie.Need-array-borrow-prefix-tails
 array-borrow-prefix-tails c = search needs
 
--- src/decode.rt:66:9
 slice-aggregate-decode-in : tie.Need-slice-aggregate-decode-in
 slice-aggregate-decode-in c = sym (length-take-le _ (replicate {A = ℕ} 256 0) (few-arcs (c .before)))
 
--- src/decode.rt:67:9
 array-borrow-prefix-heads : tie.Need-array-borrow-prefix-heads
 array-borrow-prefix-heads c = search needs
 
--- src/decode.rt:67:9
 slice-aggregate-decode-in-2 : tie.Need-slice-aggregate-decode-in-2
 slice-aggregate-decode-in-2 c = sym (length-take-le _ (replicate {A = ℕ} 256 0) (few-arcs (c .before .before)))
 
--- src/decode.rt:68:9
 array-borrow-prefix-capacities : tie.Need-array-borrow-prefix-capacities
 array-borrow-prefix-capacities c = search needs
 
--- src/decode.rt:68:9
 slice-aggregate-decode-in-3 : tie.Need-slice-aggregate-decode-in-3
 slice-aggregate-decode-in-3 c = sym (length-take-le _ (replicate {A = ℕ} 256 0) (few-arcs (c .before .before .before)))
 
--- src/decode.rt:69:9
 array-borrow-prefix-sources : tie.Need-array-borrow-prefix-sources
 array-borrow-prefix-sources c = search needs
 
--- src/decode.rt:69:9
 slice-aggregate-decode-in-4 : tie.Need-slice-aggregate-decode-in-4
 slice-aggregate-decode-in-4 c = sym (length-take-le _ (replicate {A = ℕ} 32 0) (few-pairs (c .before .before .before .before)))
 
--- src/decode.rt:70:9
 array-borrow-prefix-sinks : tie.Need-array-borrow-prefix-sinks
 array-borrow-prefix-sinks c = search needs
 
--- src/decode.rt:70:9
 slice-aggregate-decode-in-5 : tie.Need-slice-aggregate-decode-in-5
 slice-aggregate-decode-in-5 c = sym (length-take-le _ (replicate {A = ℕ} 32 0) (few-pairs (c .before .before .before .before .before)))
 
--- src/decode.rt:60:5
 decode-in-requires : tie.Need-decode-in-requires
 decode-in-requires c κs =
     let s = c .before .before .before .before .before .before .before .before .before .before .before .before .before .before .before .before .before in
@@ -75,23 +58,18 @@ decode-in-requires c κs =
     let u = length-take-le _ (replicate {A = ℕ} 32 0) (few-pairs (c .before .before .before .before .before .before .before .before .before)) ∙ c .before .before .before .before .before .before .before .before .before .items2 .ensures in
     (s .pre, record { for-tails = t; for-heads = t; for-capacities = t; for-sources = u; for-sinks = u })
 
--- src/decode.rt:39:1
 same-length : tie.Need-same-length
 same-length c = search needs
 
--- src/decode.rt:39:1
 same-length-2 : tie.Need-same-length-2
 same-length-2 c = search needs
 
--- src/decode.rt:39:1
 same-length-3 : tie.Need-same-length-3
 same-length-3 c = search needs
 
--- src/decode.rt:39:1
 same-length-4 : tie.Need-same-length-4
 same-length-4 c = search needs
 
--- src/decode.rt:39:1
 returns : tie.Need-returns
 returns c = search needs
 

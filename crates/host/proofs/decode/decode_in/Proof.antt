@@ -9,34 +9,24 @@ use Rattle.host.specs.Host.{networkIn}
 use Rattle.host.proofs.Decoded.{column-of, judging}
 use Rattle.host.proofs.decode.decode_in.Statement.{statement}
 use Rattle.host.proofs.decode.decode_in.Tie as tie
-use Rattle.host.proofs.decode.decode_in.Reads as reads
-use Rattle.host.proofs.decode.decode_in.Lts as lts
-use Rattle.host.proofs.judge.judge.Reads as judge-reads
-use Rattle.numbers.proofs.read_column.Reads as read-column-reads
 
--- src/decode.rt:30:5
 read-column-requires : tie.Need-read-column-requires
 read-column-requires c κs = search needs
 
--- src/decode.rt:31:5
 read-column-requires-2 : tie.Need-read-column-requires-2
 read-column-requires-2 c κs = search needs
 
--- src/decode.rt:32:5
 read-column-requires-3 : tie.Need-read-column-requires-3
 read-column-requires-3 c κs = search needs
 
--- src/decode.rt:33:5
 read-column-requires-4 : tie.Need-read-column-requires-4
 read-column-requires-4 c κs = search needs
 
--- src/decode.rt:34:5
 read-column-requires-5 : tie.Need-read-column-requires-5
 read-column-requires-5 c κs =
     let p = c .before .before .before .before .before .before .before .before .before .before .before .before .before .before .before .before .before .before .before .before .before .before .before .before .before .before .before .before .pre .1 in
     (lit< tt, omega (arith, p .for-sources), omega (arith, p .for-sources, p .for-sinks))
 
--- src/decode.rt:35:5
 -- each table has its column
 tails : (c : tie.After-read-column5) → c .before .before .before .before .before .before .before .before .before .before .before .before .before .before .before .before .read-column .last .1 .1 .1 .1 .0 ≡ column (now (c .before .before .before .before .before .before .before .before .before .before .before .before .before .before .before .before .before .before .before .before .before .before .before .before .before .before .before .before .before .args .belts)) 3 0 (items 3 (now (c .before .before .before .before .before .before .before .before .before .before .before .before .before .before .before .before .before .before .before .before .before .before .before .before .before .before .before .before .before .args .belts)))
 tails c =
@@ -71,43 +61,33 @@ judge-requires c κs =
     (judging (s .args .n) (s .args .q) (now (s .args .belts)) (now (s .args .pairs)) (now (s .args .flow)) (now (s .args .lengths)) (now (s .args .answer))
     (now (s .args .table)) (s .args .running) (s .pre .0))
 
--- src/decode.rt:8:1
 same-length : tie.Need-same-length
 same-length c = c .before .before .before .before .before .before .before .before .before .before .before .before .before .before .before .before .before .before .before .before .before .before .before .before .before .before .before .before .before .before .before .before .before .before .before .before .read-column .kept .1 .1 .1 .1 .0
 
--- src/decode.rt:8:1
 same-length-2 : tie.Need-same-length-2
 same-length-2 c = c .before .before .before .before .before .before .before .before .before .before .before .before .before .before .before .before .before .before .before .before .before .before .before .before .before .before .before .before .before .before .before .before .read-column2 .kept .1 .1 .1 .1 .0
 
--- src/decode.rt:8:1
 same-length-3 : tie.Need-same-length-3
 same-length-3 c = search needs
 
--- src/decode.rt:8:1
 same-length-4 : tie.Need-same-length-4
 same-length-4 c = search needs
 
--- src/decode.rt:8:1
 same-length-5 : tie.Need-same-length-5
 same-length-5 c = search needs
 
--- src/decode.rt:8:1
 same-length-6 : tie.Need-same-length-6
 same-length-6 c = search needs
 
--- src/decode.rt:8:1
 same-length-7 : tie.Need-same-length-7
 same-length-7 c = search needs
 
--- src/decode.rt:8:1
 same-length-8 : tie.Need-same-length-8
 same-length-8 c = search needs
 
--- src/decode.rt:8:1
 same-length-9 : tie.Need-same-length-9
 same-length-9 c = search needs
 
--- src/decode.rt:8:1
 returns : tie.Need-returns
 unfolding networkIn
 returns c = rw (tails (c .before .before .before .before .before .before .before .before .before .before .before .before .before .before .before .before .before .before .before .before), heads (c .before .before .before .before .before .before .before .before .before .before .before .before .before .before .before .before .before .before .before .before), capacities (c .before .before .before .before .before .before .before .before .before .before .before .before .before .before .before .before .before .before .before .before), sources (c .before .before .before .before .before .before .before .before .before .before .before .before .before .before .before .before .before .before .before .before), sinks (c .before .before .before .before .before .before .before .before .before .before .before .before .before .before .before .before .before .before .before .before)) at (c .before .before .before .before .before .before .before .before .judge .ensures)

@@ -8,35 +8,26 @@ use lib.ListN.{length, replicate, length-replicate}
 use lib.Seq.{length-take-le}
 use Rattle.host.proofs.deliver.deliver.Statement.{statement}
 use Rattle.host.proofs.deliver.deliver.Tie as tie
-use Rattle.host.proofs.deliver.deliver.Reads as reads
-use Rattle.host.proofs.deliver.deliver.Lts as lts
-use Rattle.host.proofs.deliver.deliver_in.Reads as deliver-in-reads
 
 -- 32 commodities on 256 arcs
 few : (s : tie.Start) → length (now (s .args .sources)) * length (now (s .args .tails)) ≤ 8192
 few s = mul-le-mul (s .pre .0 .sound .counts .of-commodities .most) (s .pre .0 .sound .counts .of-arcs .most)
 
--- src/deliver.rt:80:16
 mul-size : tie.Need-mul-size
 mul-size c = search needs
 
--- src/deliver.rt:92:9
 array-borrow-prefix-flows : tie.Need-array-borrow-prefix-flows
 array-borrow-prefix-flows c = few (c .before .before .before .before .before .before .before .before .before)
 
--- src/deliver.rt:92:9
 slice-aggregate-deliver-in : tie.Need-slice-aggregate-deliver-in
 slice-aggregate-deliver-in c = sym (length-take-le _ (replicate {A = ℕ} 8192 0) (rw (length-replicate {A = ℕ} 8192 0) (few (c .before .before .before .before .before .before .before .before .before .before))))
 
--- src/deliver.rt:93:9
 array-borrow-prefix-kept : tie.Need-array-borrow-prefix-kept
 array-borrow-prefix-kept c = search needs
 
--- src/deliver.rt:93:9
 slice-aggregate-deliver-in-2 : tie.Need-slice-aggregate-deliver-in-2
 slice-aggregate-deliver-in-2 c = sym (length-take-le _ (replicate {A = ℕ} 256 0) (c .before .before .before .before .before .before .before .before .before .before .before .pre .0 .sound .counts .of-arcs .most))
 
--- src/deliver.rt:83:5
 deliver-in-requires : tie.Need-deliver-in-requires
 deliver-in-requires c κs =
     let s = c .before .before .before .before .before .before .before .before .before .before .before .before .before .before .before in (
@@ -50,23 +41,18 @@ deliver-in-requires c κs =
       ),
     )
 
--- src/deliver.rt:61:1
 same-length : tie.Need-same-length
 same-length c = search needs
 
--- src/deliver.rt:61:1
 same-length-2 : tie.Need-same-length-2
 same-length-2 c = search needs
 
--- src/deliver.rt:61:1
 same-length-3 : tie.Need-same-length-3
 same-length-3 c = search needs
 
--- src/deliver.rt:61:1
 same-length-4 : tie.Need-same-length-4
 same-length-4 c = search needs
 
--- src/deliver.rt:61:1
 returns : tie.Need-returns
 returns c = search needs
 

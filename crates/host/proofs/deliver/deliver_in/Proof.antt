@@ -12,34 +12,23 @@ use Rattle.method.specs.Answer.{numbersOf}
 use Rattle.host.proofs.Counting.{count-small}
 use Rattle.host.proofs.deliver.deliver_in.Statement.{statement}
 use Rattle.host.proofs.deliver.deliver_in.Tie as tie
-use Rattle.host.proofs.deliver.deliver_in.Reads as reads
-use Rattle.host.proofs.deliver.deliver_in.Lts as lts
-use Rattle.host.proofs.deliver.put_answer.Reads as put-answer-reads
-use Rattle.host.proofs.deliver.put_count.Reads as put-count-reads
-use Rattle.numbers.proofs.write_all.Reads as write-all-reads
-use Rattle.solver.proofs.solves.solve.Reads as solve-reads
 
--- src/deliver.rt:53:9
 solve-requires : tie.Need-solve-requires
 solve-requires c κs = search needs
 
--- src/deliver.rt:54:5
 write-all-requires : tie.Need-write-all-requires
 write-all-requires c κs =
     let s = c .before .before .before .before .before .before .before .before .before .before .before .before .before .before .before .before .before .before .before .before in
     (le-refl _, omega (arith, c .before .before .before .before .before .before .solve .kept .1 .1 .1 .1 .1 .1 .1 .0, s .pre .1 .1 .0, s .pre .1 .0 .room .for-flow))
 
--- src/deliver.rt:55:5
 write-all-requires-2 : tie.Need-write-all-requires-2
 write-all-requires-2 c κs =
     let s = c .before .before .before .before .before .before .before .before .before .before .before .before .before .before .before .before .before .before .before .before .before .before .before .before .before in
     (le-refl _, omega (arith, c .before .before .before .before .before .before .before .before .before .before .before .solve .kept .1 .1 .1 .1 .1 .1 .1 .1 .0, s .pre .1 .1 .1, s .pre .1 .0 .room .for-length))
 
--- src/deliver.rt:56:5
 put-answer-requires : tie.Need-put-answer-requires
 put-answer-requires c κs = c .before .before .before .before .before .before .before .before .before .before .before .before .before .before .before .before .before .before .before .before .before .before .before .before .before .before .before .before .before .pre .1 .0 .room .for-answer
 
--- src/deliver.rt:57:5
 put-count-requires : tie.Need-put-count-requires
 put-count-requires c κs =
     let s = c .before .before .before .before .before .before .before .before .before .before .before .before .before .before .before .before .before .before .before .before .before .before .before .before .before .before .before .before .before .before .before .before .before in (
@@ -47,31 +36,24 @@ put-count-requires c κs =
       omega (arith, s .pre .1 .0 .full, count-small _ (s .args .q) (s .pre .0) (c .before .before .before .before .before .before .before .before .before .before .before .before .before .before .before .before .before .before .before .solve .result) _ _ (c .before .before .before .before .before .before .before .before .before .before .before .before .before .before .before .before .before .before .before .solve .ensures)),
     )
 
--- src/deliver.rt:31:1
 same-length : tie.Need-same-length
 same-length c = search needs
 
--- src/deliver.rt:31:1
 same-length-2 : tie.Need-same-length-2
 same-length-2 c = search needs
 
--- src/deliver.rt:31:1
 same-length-3 : tie.Need-same-length-3
 same-length-3 c = search needs
 
--- src/deliver.rt:31:1
 same-length-4 : tie.Need-same-length-4
 same-length-4 c = search needs
 
--- src/deliver.rt:31:1
 same-length-5 : tie.Need-same-length-5
 same-length-5 c = search needs
 
--- src/deliver.rt:31:1
 same-length-6 : tie.Need-same-length-6
 same-length-6 c = search needs
 
--- src/deliver.rt:31:1
 returns : tie.Need-returns
 returns c =
     let s = c .before .before .before .before .before .before .before .before .before .before .before .before .before .before .before .before .before .before .before .before .before .before .before .before .before .before .before .before .before .before .before .before .before .before .before .before in

@@ -3,23 +3,16 @@ use borrow.Author.Needs.{needs}
 use Rattle.method.specs.Answer.{numbersOf}
 use Rattle.host.proofs.deliver.put_answer.Statement.{statement}
 use Rattle.host.proofs.deliver.put_answer.Tie as tie
-use Rattle.host.proofs.deliver.put_answer.Reads as reads
-use Rattle.host.proofs.deliver.put_answer.Lts as lts
-use Rattle.numbers.proofs.write_all.Reads as write-all-reads
 
--- src/deliver.rt:17:32
 slice-aggregate-write-all : tie.Need-slice-aggregate-write-all
 slice-aggregate-write-all c = search needs
 
--- src/deliver.rt:17:5
 write-all-requires : tie.Need-write-all-requires
 write-all-requires c κs = search needs
 
--- src/deliver.rt:12:1
 same-length : tie.Need-same-length
 same-length c = search needs
 
--- src/deliver.rt:12:1
 returns : tie.Need-returns
 unfolding numbersOf
 returns c = c .before .before .write-all .ensures

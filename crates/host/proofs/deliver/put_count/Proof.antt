@@ -4,23 +4,16 @@ use mathlib.Core.Path.{_∙_}
 use Rattle.host.proofs.First.{put-first}
 use Rattle.host.proofs.deliver.put_count.Statement.{statement}
 use Rattle.host.proofs.deliver.put_count.Tie as tie
-use Rattle.host.proofs.deliver.put_count.Reads as reads
-use Rattle.host.proofs.deliver.put_count.Lts as lts
-use Rattle.numbers.proofs.write.Reads as write-reads
 
--- src/deliver.rt:25:30
 add-write : tie.Need-add-write
 add-write c = search needs
 
--- src/deliver.rt:25:5
 write-requires : tie.Need-write-requires
 write-requires c κs = search needs
 
--- src/deliver.rt:21:1
 same-length : tie.Need-same-length
 same-length c = search needs
 
--- src/deliver.rt:21:1
 returns : tie.Need-returns
 returns c = c .before .before .write .ensures ∙ put-first _ _
 

@@ -12,22 +12,13 @@ use Rattle.solver.specs.Runs.{networkOf}
 use Rattle.host.proofs.Judged.{fits, lends, served-refused, served-accepted}
 use Rattle.host.proofs.judge.judge.Statement.{statement}
 use Rattle.host.proofs.judge.judge.Tie as tie
-use Rattle.host.proofs.judge.judge.Reads as reads
-use Rattle.host.proofs.judge.judge.Lts as lts
-use Rattle.host.proofs.deliver.deliver.Reads as deliver-reads
-use Rattle.network.proofs.checks.check_arcs.Reads as check-arcs-reads
-use Rattle.network.proofs.checks.check_commodities.Reads as check-commodities-reads
-use Rattle.network.proofs.numbers.host_number.Reads as host-number-reads
 
--- src/judge.rt:29:9
 check-arcs-requires : tie.Need-check-arcs-requires
 check-arcs-requires c κs = search needs
 
--- src/judge.rt:31:9
 enum-told : tie.Need-enum-told
 enum-told c = search needs
 
--- src/judge.rt:31:9
 -- the network at entry
 abbrev net : (s : tie.Start) → Network
 net s =
@@ -47,7 +38,6 @@ of-arcs c = refused-first _ _ (c .before .before .check-arcs .ensures) (c .enum-
 host-number-requires : tie.Need-host-number-requires
 host-number-requires c κs = rw (of-arcs c) (number-fits (c .before .before .before .before .before .before .before .before .before .before .before .before))
 
--- src/judge.rt:31:9
 returns : tie.Need-returns
 returns c =
     let s = c .before .before .before .before .before .before .before .before .before .before .before .before .before in
@@ -58,15 +48,12 @@ returns c =
 enum-told-2 : tie.Need-enum-told-2
 enum-told-2 c = search needs
 
--- src/judge.rt:33:9
 check-commodities-requires : tie.Need-check-commodities-requires
 check-commodities-requires c κs = search needs
 
--- src/judge.rt:35:9
 enum-told-3 : tie.Need-enum-told-3
 enum-told-3 c = search needs
 
--- src/judge.rt:35:9
 -- the arcs pass, so the commodities decide
 of-commodities : (c : tie.After-check-commodities) → c .check-commodities .result ≡ firstRow (itemRows (net (c .before .before .before .before .before .before .before .before .before .before .before .before .before)))
 unfolding itemRows arcRows commodityRows
@@ -76,7 +63,6 @@ of-commodities c =
 host-number-requires-2 : tie.Need-host-number-requires-2
 host-number-requires-2 c κs = rw (of-commodities (c .before .before)) (number-fits (c .before .before .before .before .before .before .before .before .before .before .before .before .before .before .before))
 
--- src/judge.rt:35:9
 returns-2 : tie.Need-returns-2
 returns-2 c =
     let s = c .before .before .before .before .before .before .before .before .before .before .before .before .before .before .before .before in
@@ -87,7 +73,6 @@ returns-2 c =
 enum-told-4 : tie.Need-enum-told-4
 enum-told-4 c = search needs
 
--- src/judge.rt:37:5
 -- nothing is refused
 accepted : (c : tie.After-enum-told4) → firstRow (itemRows (net (c .before .before .before .before .before .before .before .before .before .before .before .before .before .before .before))) ≡ Accepted
 accepted c = sym (of-commodities (c .before .before)) ∙ c .enum-told4 .given .1
@@ -100,23 +85,18 @@ deliver-requires c κs =
       s .pre .open-for,
     )
 
--- src/judge.rt:12:1
 same-length : tie.Need-same-length
 same-length c = search needs
 
--- src/judge.rt:12:1
 same-length-2 : tie.Need-same-length-2
 same-length-2 c = search needs
 
--- src/judge.rt:12:1
 same-length-3 : tie.Need-same-length-3
 same-length-3 c = search needs
 
--- src/judge.rt:12:1
 same-length-4 : tie.Need-same-length-4
 same-length-4 c = search needs
 
--- src/judge.rt:12:1
 returns-3 : tie.Need-returns-3
 returns-3 c =
     let s = c .before .before .before .before .before .before .before .before .before .before .before .before .before .before .before .before .before .before .before .before .before .before .before .before .before .before .before .before in

@@ -1,3 +1,4 @@
+-- `solver::runs::iterate` meets its contract: the search gives the method's choice, and the step follows it. Assumes nothing.
 use borrow.Author.Needs.{needs}
 use denote.Ref.{now}
 use mathlib.Core.Path.{sym, _∙_}
@@ -17,10 +18,6 @@ use Rattle.solver.proofs.OfCapacities.{advance-same}
 use Rattle.solver.proofs.Ready.{ready}
 use Rattle.solver.proofs.runs.iterate.Statement.{statement}
 use Rattle.solver.proofs.runs.iterate.Tie as tie
-use Rattle.solver.proofs.runs.iterate.Reads as reads
-use Rattle.solver.proofs.runs.iterate.Lts as lts
-use Rattle.paths.proofs.choose.Reads as choose-reads
-use Rattle.solver.proofs.steps.step.Reads as step-reads
 
 -- the network and the state at entry
 abbrev net : (s : tie.Start) → Network
@@ -31,7 +28,6 @@ net s =
 abbrev state : (s : tie.Start) → State
 state s = stateOf (now (s .args .lengths)) (now (s .args .flow)) (now (s .args .loads)) (now (s .args .kept)) (s .args .p)
 
--- src/runs.rt:39:9
 choose-requires : tie.Need-choose-requires
 choose-requires c κs =
     let s = c .before .before .before .before .before .before .before .before .before .before .before .before .before .before in
@@ -49,15 +45,12 @@ picked c =
 room : (c : tie.After-choose) → c .choose .result .arcs ≤ length (arcs c)
 room c = omega (arith, picked c .few-arcs, c .choose .kept .1 .1 .1 .1 .1 .1 .1 .0, c .before .before .before .before .before .before .before .before .before .before .before .before .before .before .before .pre .1 .0 .path)
 
--- src/runs.rt:43:43
 slice-reshare-prefix-step : tie.Need-slice-reshare-prefix-step
 slice-reshare-prefix-step c = room (c .before .before .before .before)
 
--- src/runs.rt:43:43
 slice-aggregate-step : tie.Need-slice-aggregate-step
 slice-aggregate-step c = sym (length-take-le (c .before .before .before .before .before .choose .result .arcs) (arcs (c .before .before .before .before .before)) (room (c .before .before .before .before .before)))
 
--- src/runs.rt:43:5
 step-requires : tie.Need-step-requires
 step-requires c κs =
     let s = c .before .before .before .before .before .before .before .before .before .before .before .before .before .before .before .before .before .before .before .before .before .before .before .before in
@@ -66,31 +59,24 @@ step-requires c κs =
     (ready (net s) (s .args .q) (s .pre .0) (state s) (s .pre .1 .1 .1) (f .choose .result .commodity)
     (take (f .choose .result .arcs) (arcs f)) (picked f .chosen))
 
--- src/runs.rt:17:1
 same-length : tie.Need-same-length
 same-length c = search needs
 
--- src/runs.rt:17:1
 same-length-2 : tie.Need-same-length-2
 same-length-2 c = search needs
 
--- src/runs.rt:17:1
 same-length-3 : tie.Need-same-length-3
 same-length-3 c = search needs
 
--- src/runs.rt:17:1
 same-length-4 : tie.Need-same-length-4
 same-length-4 c = search needs
 
--- src/runs.rt:17:1
 same-length-5 : tie.Need-same-length-5
 same-length-5 c = search needs
 
--- src/runs.rt:17:1
 same-length-6 : tie.Need-same-length-6
 same-length-6 c = search needs
 
--- src/runs.rt:17:1
 returns : tie.Need-returns
 returns c =
     let s = c .before .before .before .before .before .before .before .before .before .before .before .before .before .before .before .before .before .before .before .before .before .before .before .before .before .before .before .before .before .before .before .before .before in

@@ -16,12 +16,6 @@ use Rattle.solver.proofs.Running.{left, Running, running-start, running
 use Rattle.solver.proofs.Same.{Same}
 use Rattle.solver.proofs.runs.run.Statement.{statement}
 use Rattle.solver.proofs.runs.run.Tie as tie
-use Rattle.solver.proofs.runs.run.Reads as reads
-use Rattle.solver.proofs.runs.run.Lts as lts
-use Rattle.length.proofs.threshold.Reads as threshold-reads
-use Rattle.tables.proofs.loads.ended.Reads as ended-reads
-use Rattle.solver.proofs.runs.begin.Reads as begin-reads
-use Rattle.solver.proofs.runs.iterate.Reads as iterate-reads
 
 abbrev Inv-loop : tie.InvT-loop
 Inv-loop n q tails heads capacities sources sinks flow₀ loads₀ lengths₀ kept₀ dist₀ path₀ threshold p₀ flow loads lengths kept dist path p =

@@ -9,39 +9,29 @@ use lib.ListN.{length, replicate, length-replicate}
 use lib.Seq.{length-take-le}
 use Rattle.solver.proofs.solves.solve.Statement.{statement}
 use Rattle.solver.proofs.solves.solve.Tie as tie
-use Rattle.solver.proofs.solves.solve.Reads as reads
-use Rattle.solver.proofs.solves.solve.Lts as lts
-use Rattle.solver.proofs.solves.solve_in.Reads as solve-in-reads
 
 -- 256 numbers are enough for the arcs
 room : (s : tie.Start) → length (now (s .args .tails)) ≤ length (replicate {A = ℕ} 256 0)
 room s = omega (arith, s .pre .0 .sound .counts .of-arcs .most, length-replicate {A = ℕ} 256 0)
 
--- src/solves.rt:114:9
 array-borrow-prefix-loads : tie.Need-array-borrow-prefix-loads
 array-borrow-prefix-loads c = search needs
 
--- src/solves.rt:114:9
 slice-aggregate-solve-in : tie.Need-slice-aggregate-solve-in
 slice-aggregate-solve-in c = sym (length-take-le _ _ (room (c .before .before .before .before .before .before .before .before .before .before)))
 
--- src/solves.rt:115:9
 array-borrow-prefix-lengths : tie.Need-array-borrow-prefix-lengths
 array-borrow-prefix-lengths c = search needs
 
--- src/solves.rt:115:9
 slice-aggregate-solve-in-2 : tie.Need-slice-aggregate-solve-in-2
 slice-aggregate-solve-in-2 c = sym (length-take-le _ _ (room (c .before .before .before .before .before .before .before .before .before .before .before)))
 
--- src/solves.rt:116:9
 slice-aggregate-solve-in-3 : tie.Need-slice-aggregate-solve-in-3
 slice-aggregate-solve-in-3 c = search needs
 
--- src/solves.rt:117:9
 slice-aggregate-solve-in-4 : tie.Need-slice-aggregate-solve-in-4
 slice-aggregate-solve-in-4 c = search needs
 
--- src/solves.rt:104:5
 solve-in-requires : tie.Need-solve-in-requires
 solve-in-requires c κs =
     let s = c .before .before .before .before .before .before .before .before .before .before .before .before .before in (
@@ -57,15 +47,12 @@ solve-in-requires c κs =
       ),
     )
 
--- src/solves.rt:83:1
 same-length : tie.Need-same-length
 same-length c = search needs
 
--- src/solves.rt:83:1
 same-length-2 : tie.Need-same-length-2
 same-length-2 c = search needs
 
--- src/solves.rt:83:1
 returns : tie.Need-returns
 returns c = search needs
 

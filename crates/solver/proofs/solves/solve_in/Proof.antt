@@ -17,14 +17,6 @@ use Rattle.solver.proofs.Chosen.{surveyed}
 use Rattle.solver.proofs.Solving.{initial-is, lengths-is, solved-none, solved-some, ranking}
 use Rattle.solver.proofs.solves.solve_in.Statement.{statement}
 use Rattle.solver.proofs.solves.solve_in.Tie as tie
-use Rattle.solver.proofs.solves.solve_in.Reads as reads
-use Rattle.solver.proofs.solves.solve_in.Lts as lts
-use Rattle.paths.proofs.choose.Reads as choose-reads
-use Rattle.tables.proofs.lengths.start.Reads as start-reads
-use Rattle.tables.proofs.loads.clear.Reads as clear-reads
-use Rattle.solver.proofs.runs.run.Reads as run-reads
-use Rattle.solver.proofs.solves.answer.Reads as answer-reads
-use Rattle.solver.proofs.solves.unjoined.Reads as unjoined-reads
 
 -- the network at entry
 abbrev net : (s : tie.Start) → Network
@@ -32,7 +24,6 @@ net s =
     networkOf (s .args .n) (now (s .args .tails)) (now (s .args .heads)) (now (s .args .capacities)) (now (s .args .sources))
     (now (s .args .sinks))
 
--- src/solves.rt:69:5
 start-requires : tie.Need-start-requires
 start-requires c κs =
     let s = c .before .before .before .before .before .before .before .before .before .before .before .before in
@@ -44,19 +35,15 @@ start-requires c κs =
       },
     )
 
--- src/solves.rt:70:5
 clear-requires : tie.Need-clear-requires
 clear-requires c κs = search needs
 
--- src/solves.rt:71:5
 clear-requires-2 : tie.Need-clear-requires-2
 clear-requires-2 c κs = search needs
 
--- src/solves.rt:72:5
 clear-requires-3 : tie.Need-clear-requires-3
 clear-requires-3 c κs = search needs
 
--- src/solves.rt:73:9
 -- the lengths of the start are the definition's
 first : (c : tie.After-start) → c .start .last .1 .0 ≡ initial (net (c .before .before .before .before .before .before .before .before .before .before .before .before .before)) .lengths
 first c = let s = c .before .before .before .before .before .before .before .before .before .before .before .before .before in c .start .ensures ∙ lengths-is (net s) (s .args .q) (s .pre .0)
@@ -67,7 +54,6 @@ choose-requires c κs =
     rw (first (c .before .before .before .before .before .before .before .before .before .before .before .before .before .before .before .before .before))
     (surveyed (net s) (s .args .q) (s .pre .0) (initial (net s)) (reached-start (net s) (s .args .q) (s .pre .0 .sound)) _ _ (s .pre .1 .1))
 
--- src/solves.rt:76:9
 -- what the search says of the network's choice by these lengths
 chose : (c : tie.After-choose) → Chose (net (c .before .before .before .before .before .before .before .before .before .before .before .before .before .before .before .before .before .before .before .before .before .before .before .before .before .before .before .before .before .before .before)) (initial (net (c .before .before .before .before .before .before .before .before .before .before .before .before .before .before .before .before .before .before .before .before .before .before .before .before .before .before .before .before .before .before .before)) .lengths) (c .choose .result) (c .choose .last .1 .1 .1 .1 .1 .1 .1 .0)
 chose c = rw (← (first (c .before .before .before .before .before .before .before .before .before .before .before .before .before .before .before .before .before .before))) (chose-net (c .choose .ensures))
@@ -75,31 +61,24 @@ chose c = rw (← (first (c .before .before .before .before .before .before .bef
 unjoined-requires : tie.Need-unjoined-requires
 unjoined-requires c κs = search needs
 
--- src/solves.rt:76:9
 same-length : tie.Need-same-length
 same-length c = search needs
 
--- src/solves.rt:76:9
 same-length-2 : tie.Need-same-length-2
 same-length-2 c = search needs
 
--- src/solves.rt:76:9
 same-length-3 : tie.Need-same-length-3
 same-length-3 c = search needs
 
--- src/solves.rt:76:9
 same-length-4 : tie.Need-same-length-4
 same-length-4 c = search needs
 
--- src/solves.rt:76:9
 same-length-5 : tie.Need-same-length-5
 same-length-5 c = search needs
 
--- src/solves.rt:76:9
 same-length-6 : tie.Need-same-length-6
 same-length-6 c = search needs
 
--- src/solves.rt:76:9
 returns : tie.Need-returns
 returns c =
     let s = c .before .before .before .before .before .before .before .before .before .before .before .before .before .before .before .before .before .before .before .before .before .before .before .before .before .before .before .before .before .before .before .before .before .before .before .before .before in
@@ -108,7 +87,6 @@ returns c =
     (solved-none (net s) (s .args .q) (s .pre .0) (now (s .args .flow)) (now (s .args .kept)) (now (s .args .loads)) (now (s .args .lengths))
     (s .pre .1 .0) (k .nothing (le-antisymm (k .capped) (c .before .if1 .taken))))
 
--- src/solves.rt:78:9
 -- something is chosen by the first lengths, so by any
 picked : (c : tie.Else1) → Picked (net (c .before .before .before .before .before .before .before .before .before .before .before .before .before .before .before .before .before .before .before .before .before .before .before .before .before .before .before .before .before .before .before .before .before .before .before .before)) (initial (net (c .before .before .before .before .before .before .before .before .before .before .before .before .before .before .before .before .before .before .before .before .before .before .before .before .before .before .before .before .before .before .before .before .before .before .before .before)) .lengths) (c .before .before .before .before .before .choose .result) (c .before .before .before .before .before .choose .last .1 .1 .1 .1 .1 .1 .1 .0)
 picked c = chose (c .before .before .before .before .before) .something (c .if1 .left)
@@ -131,7 +109,6 @@ run-requires c κs =
       ),
     )
 
--- src/solves.rt:79:5
 -- the loads keep their size
 loaded : (c : tie.After-run) → length (c .run .last .1 .1 .1 .1 .1 .1 .1 .1 .0) ≡ arcs (net (c .before .before .before .before .before .before .before .before .before .before .before .before .before .before .before .before .before .before .before .before .before .before .before .before .before .before .before .before .before .before .before .before .before .before .before .before .before .before .before .before .before .before .before))
 loaded c = c .run .kept .1 .1 .1 .1 .1 .1 .1 .1 .0 ∙ (c .before .before .before .before .before .before .before .before .before .before .before .before .before .before .before .before .before .before .before .before .before .before .before .before .before .before .clear .kept .0 ∙ c .before .before .before .before .before .before .before .before .before .before .before .before .before .before .before .before .before .before .before .before .before .before .before .before .before .before .before .before .before .before .before .before .before .before .before .before .before .before .before .before .before .before .before .pre .1 .0 .loadings)
@@ -142,31 +119,24 @@ answer-requires c κs =
     let f = c .before .before .before .before .before .before .before .before .before .before .before .before .before in
     ranking (net s) (s .args .q) (s .pre .0) (chooses (f .before .before .before .before .before .before .before)) (f .run .last .1 .1 .1 .1 .1 .1 .1 .1 .0) (ap (λ t. t .loads) (f .run .ensures)) (loaded f)
 
--- src/solves.rt:49:1
 same-length-7 : tie.Need-same-length-7
 same-length-7 c = c .before .before .before .before .before .before .before .before .before .before .before .before .before .before .run .kept .1 .1 .1 .1 .1 .1 .1 .0 ∙ c .before .before .before .before .before .before .before .before .before .before .before .before .before .before .before .before .before .before .before .before .before .before .before .before .before .before .before .before .before .before .before .before .before .before .before .before .clear2 .kept .0
 
--- src/solves.rt:49:1
 same-length-8 : tie.Need-same-length-8
 same-length-8 c = c .before .before .before .before .before .before .before .before .before .before .before .before .before .before .run .kept .1 .1 .1 .1 .1 .1 .1 .1 .1 .1 .0 ∙ c .before .before .before .before .before .before .before .before .before .before .before .before .before .before .before .before .before .before .before .before .before .before .before .before .before .before .before .before .before .before .before .before .clear3 .kept .0
 
--- src/solves.rt:49:1
 same-length-9 : tie.Need-same-length-9
 same-length-9 c = c .before .before .before .before .before .before .before .before .before .before .before .before .before .before .run .kept .1 .1 .1 .1 .1 .1 .1 .1 .0 ∙ c .before .before .before .before .before .before .before .before .before .before .before .before .before .before .before .before .before .before .before .before .before .before .before .before .before .before .before .before .before .before .before .before .before .before .before .before .before .before .before .before .clear .kept .0
 
--- src/solves.rt:49:1
 same-length-10 : tie.Need-same-length-10
 same-length-10 c = c .before .before .before .before .before .before .before .before .before .before .before .before .before .before .run .kept .1 .1 .1 .1 .1 .1 .1 .1 .1 .0 ∙ c .before .before .before .before .before .before .before .before .before .before .before .before .before .before .before .before .before .before .before .before .before .before .before .before .before .before .before .before .before .before .before .before .before .before .before .before .before .before .before .before .before .before .before .before .start .kept .1 .0
 
--- src/solves.rt:49:1
 same-length-11 : tie.Need-same-length-11
 same-length-11 c = c .before .before .before .before .before .before .before .before .before .before .before .before .before .before .run .kept .1 .1 .1 .1 .1 .1 .1 .1 .1 .1 .1 .0 ∙ c .before .before .before .before .before .before .before .before .before .before .before .before .before .before .before .before .before .before .before .before .before .before .before .before .before .before .choose .kept .1 .1 .1 .1 .1 .1 .0
 
--- src/solves.rt:49:1
 same-length-12 : tie.Need-same-length-12
 same-length-12 c = search needs
 
--- src/solves.rt:49:1
 returns-2 : tie.Need-returns-2
 returns-2 c =
     let s = c .before .before .before .before .before .before .before .before .before .before .before .before .before .before .before .before .before .before .before .before .before .before .before .before .before .before .before .before .before .before .before .before .before .before .before .before .before .before .before .before .before .before .before .before .before .before .before .before .before .before .before .before .before .before .before .before .before in

@@ -1,77 +1,53 @@
+-- `solver::steps::step` meets its contract: its parts are those of the method's step. Assumes nothing.
 use borrow.Author.Needs.{needs}
 use denote.Ref.{now}
 use native.Mathlib.Omega.{arith}
 use Rattle.solver.proofs.Stepped.{stepped}
 use Rattle.solver.proofs.steps.step.Statement.{statement}
 use Rattle.solver.proofs.steps.step.Tie as tie
-use Rattle.solver.proofs.steps.step.Reads as reads
-use Rattle.solver.proofs.steps.step.Lts as lts
-use Rattle.arith.proofs.less_product.Reads as less-product-reads
-use Rattle.tables.proofs.draws.add.Reads as add-reads
-use Rattle.tables.proofs.draws.draw.Reads as draw-reads
-use Rattle.tables.proofs.lengths.grow.Reads as grow-reads
-use Rattle.tables.proofs.lengths.settle.Reads as settle-reads
-use Rattle.tables.proofs.lengths.weight.Reads as weight-reads
-use Rattle.solver.proofs.steps.count.Reads as count-reads
-use Rattle.solver.proofs.steps.keep.Reads as keep-reads
 
--- src/steps.rt:73:9
 weight-requires : tie.Need-weight-requires
 weight-requires c κs = search needs
 
--- src/steps.rt:74:9
 draw-requires : tie.Need-draw-requires
 draw-requires c κs = search needs
 
--- src/steps.rt:75:9
 less-product-requires : tie.Need-less-product-requires
 less-product-requires c κs = search needs
 
--- src/steps.rt:76:5
 keep-requires : tie.Need-keep-requires
 keep-requires c κs = search needs
 
--- src/steps.rt:77:15
 mul-row : tie.Need-mul-row
 mul-row c = search needs
 
--- src/steps.rt:78:5
 add-requires : tie.Need-add-requires
 add-requires c κs = search needs
 
--- src/steps.rt:79:5
 add-requires-2 : tie.Need-add-requires-2
 add-requires-2 c κs = search needs
 
--- src/steps.rt:80:5
 grow-requires : tie.Need-grow-requires
 grow-requires c κs = rw (c .before .before .before .before .before .before .before .before .before .before .before .before .before .before .before .draw .ensures) (c .before .before .before .before .before .before .before .before .before .before .before .before .before .before .before .before .before .before .before .before .before .before .before .before .pre .growing)
 
--- src/steps.rt:81:5
 settle-requires : tie.Need-settle-requires
 settle-requires c κs = rw (c .before .before .before .grow .ensures, c .before .before .before .before .before .before .before .before .before .before .before .before .before .before .before .before .before .before .before .draw .ensures) (c .before .before .before .before .before .before .before .before .before .before .before .before .before .before .before .before .before .before .before .before .before .before .before .before .before .before .before .before .pre .grown)
 
--- src/steps.rt:82:5
 count-requires : tie.Need-count-requires
 count-requires c κs = omega (arith, c .before .before .before .before .before .before .before .before .before .before .before .before .before .before .before .before .before .before .before .before .before .before .before .before .before .before .before .before .before .before .before .pre .total, c .before .before .before .before .before .before .before .before .before .before .before .before .before .before .before .before .before .before .before .before .before .before .before .before .before .before .before .before .before .before .before .pre .count, c .before .before .before .before .before .before .before .before .before .before .before .before .before .before .before .before .before .before .before .before .before .before .draw .ensures, c .before .before .before .before .before .before .before .before .before .before .before .before .before .before .before .before .before .before .before .before .before .before .before .before .before .before .before .before .before .before .before .pre .loads .small)
 
--- src/steps.rt:58:1
 same-length : tie.Need-same-length
 same-length c = search needs
 
--- src/steps.rt:58:1
 same-length-2 : tie.Need-same-length-2
 same-length-2 c = search needs
 
--- src/steps.rt:58:1
 same-length-3 : tie.Need-same-length-3
 same-length-3 c = search needs
 
--- src/steps.rt:58:1
 same-length-4 : tie.Need-same-length-4
 same-length-4 c = search needs
 
--- src/steps.rt:58:1
 returns : tie.Need-returns
 returns c =
     let s = c .before .before .before .before .before .before .before .before .before .before .before .before .before .before .before .before .before .before .before .before .before .before .before .before .before .before .before .before .before .before .before .before in
