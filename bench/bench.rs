@@ -4,7 +4,7 @@
 //! `--q N` keeps to that precision (4, 8 and 16 otherwise), `--fast` leaves the
 //! plain form out, `--seed N` takes other floors.
 
-// The comparison's modules are shared, and not all of them is needed here.
+// Of the comparison's modules not everything is needed here.
 #![allow(dead_code)]
 
 #[path = "../tests/second/call.rs"]
@@ -60,7 +60,7 @@ fn main() -> ExitCode {
         return ExitCode::from(2);
     };
     println!(
-        "n 64, m 256, k 32, capacities 1 to 1,000, seed {}; tables not cleared first",
+        "n 64, m 256, k 32, capacities 1 to 1,000, seed {}; each run on a fresh copy, tables zero",
         options.seed
     );
     let shallow = report_stack(options.seed);
@@ -75,7 +75,7 @@ fn options(mut words: impl Iterator<Item = String>) -> Option<Options> {
     let mut options = Options { precisions: Vec::new(), plain: true, seed: 1 };
     while let Some(word) = words.next() {
         match word.as_str() {
-            "--q" => options.precisions.push(words.next()?.parse().ok()?),
+            "--q" => options.precisions.push(precision(&words.next()?)?),
             "--seed" => options.seed = words.next()?.parse().ok()?,
             "--fast" => options.plain = false,
             _ => return None,
@@ -85,6 +85,10 @@ fn options(mut words: impl Iterator<Item = String>) -> Option<Options> {
         options.precisions = vec![4, 8, 16];
     }
     Some(options)
+}
+
+fn precision(word: &str) -> Option<u64> {
+    word.parse().ok().filter(|q| floors::PRECISIONS.contains(q))
 }
 
 fn floors_at(q: u64, seed: u64) -> Vec<(String, Call)> {

@@ -1,6 +1,7 @@
 #!/usr/bin/env bash
 # Times the static library against the second solver, and sees that it cannot
-# allocate. Arguments go to the program: --q 4, --fast, --seed 7.
+# allocate; about five minutes, most of them the plain form's at q 16. Arguments
+# go to the program: --q 4, --fast (without the plain form), --seed 7.
 set -eu
 cd "$(dirname "$0")/.."
 tests/second/archive.sh
