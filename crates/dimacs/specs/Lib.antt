@@ -1,0 +1,9 @@
+pub mod Meaning
+pub mod Number
+pub mod Outcome
+pub mod Pieces
+pub mod Progress
+pub mod Reading
+pub mod Result
+pub mod Scan
+pub mod Stage
