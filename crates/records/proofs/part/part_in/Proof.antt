@@ -1,0 +1,83 @@
+-- `records::part::part_in` meets its contract: the tables filled are the network's lists. Assumes nothing.
+use denote.Ref.{now}
+use native.Mathlib.Omega.{arith}
+use lib.ListN.{length, take}
+use lib.Seq.{length-take-le}
+use Rattle.records.specs.Parts.{Sizable}
+use Rattle.records.specs.Records.{networkIn}
+use Rattle.records.proofs.Served.{judging}
+use borrow.Author.Needs.{needs}
+use Rattle.records.proofs.part.part_in.Statement.{statement}
+use Rattle.records.proofs.part.part_in.Tie as tie
+
+part-arcs-requires : tie.Need-part-arcs-requires
+part-arcs-requires c κs = search needs
+
+part-pairs-requires : tie.Need-part-pairs-requires
+part-pairs-requires c κs = search needs
+
+-- the sizes are those of the arcs taken
+sized : (s : tie.Start) → Sizable (s .args .n) (s .args .q) (length (take (length (now (s .args .tails))) (s .args .arcs))) (now (s .args .pairs)) (now (s .args .flow)) (now (s .args .lengths))
+sized s = rw (length-take-le (length (now (s .args .tails))) (s .args .arcs) (omega (arith, s .good .1 .1 .0))) (s .pre .0)
+
+judge-requires : tie.Need-judge-requires
+unfolding networkIn
+judge-requires c κs =
+    let s = c .before .before .before .before .before .before .before .before .before .before .before .before .before .before .before .before .before .before .before .before .before .before .before .before .before .before .before .before .before .before .before .before in
+    rw (
+      c .before .before .before .before .before .before .before .before .before .before .before .before .before .before .before .before .before .before .before .before .part-arcs .ensures .all-tails,
+      c .before .before .before .before .before .before .before .before .before .before .before .before .before .before .before .before .before .before .before .before .part-arcs .ensures .all-heads,
+      c .before .before .before .before .before .before .before .before .before .before .before .before .before .before .before .before .before .before .before .before .part-arcs .ensures .all-capacities,
+      c .before .before .before .before .before .before .before .before .before .before .before .part-pairs .ensures .all-sources,
+      c .before .before .before .before .before .before .before .before .before .before .before .part-pairs .ensures .all-sinks,
+    )
+    (judging (s .args .n) (s .args .q) (take (length (now (s .args .tails))) (s .args .arcs)) (now (s .args .pairs)) (now (s .args .flow)) (now (s .args .lengths)) (sized s))
+
+same-length : tie.Need-same-length
+same-length c = search needs
+
+same-length-2 : tie.Need-same-length-2
+same-length-2 c = search needs
+
+same-length-3 : tie.Need-same-length-3
+same-length-3 c = search needs
+
+same-length-4 : tie.Need-same-length-4
+same-length-4 c = search needs
+
+same-length-5 : tie.Need-same-length-5
+same-length-5 c = search needs
+
+same-length-6 : tie.Need-same-length-6
+same-length-6 c = search needs
+
+same-length-7 : tie.Need-same-length-7
+same-length-7 c = search needs
+
+returns : tie.Need-returns
+unfolding networkIn
+returns c =
+    rw (
+      c .before .before .before .before .before .before .before .before .before .before .before .before .before .before .before .before .before .before .before .before .before .before .before .before .before .part-arcs .ensures .all-tails,
+      c .before .before .before .before .before .before .before .before .before .before .before .before .before .before .before .before .before .before .before .before .before .before .before .before .before .part-arcs .ensures .all-heads,
+      c .before .before .before .before .before .before .before .before .before .before .before .before .before .before .before .before .before .before .before .before .before .before .before .before .before .part-arcs .ensures .all-capacities,
+      c .before .before .before .before .before .before .before .before .before .before .before .before .before .before .before .before .part-pairs .ensures .all-sources,
+      c .before .before .before .before .before .before .before .before .before .before .before .before .before .before .before .before .part-pairs .ensures .all-sinks,
+    )
+    at (c .before .before .before .before .judge .ensures)
+
+pub part-in-spec : {M : Type 1} → statement M
+part-in-spec =
+    tie.close
+    (tie.spec
+    part-arcs-requires
+    part-pairs-requires
+    judge-requires
+    same-length
+    same-length-2
+    same-length-3
+    same-length-4
+    same-length-5
+    same-length-6
+    same-length-7
+    returns)

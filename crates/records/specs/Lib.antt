@@ -1,0 +1,4 @@
+pub mod Copied
+pub mod Parts
+pub mod Records
+pub mod Reply

@@ -1,0 +1,48 @@
+-- The rows of the arcs: one more behind the others, and the load of an arc where there is one commodity. Assumes nothing.
+use mathlib.Core.Path.{_≡_, refl, sym, ap, _∙_}
+use mathlib.Core.List.{List, [], _∷_, _++_, append-nil, append-assoc}
+use Prim.Native.Nat.{ℕ, zero, suc, _+_, _*_, _≤_}
+use native.Mathlib.Nat.{zero-add, zero-mul, add-zero, add-suc, suc-add}
+use native.Mathlib.Omega.{arith}
+use lib.ListN.{length, getD}
+use Rattle.arith.specs.Lists.{upFrom, upTo, flat}
+use Rattle.arith.specs.Sum.{sum}
+use Rattle.network.specs.Flow.{loadOf}
+use Rattle.network.specs.Network.{Network, arcs, commodities, tail, head}
+use Rattle.method.specs.Answer.{Outcome, amounts}
+use Rattle.report.specs.Listing.{beltRow}
+use Rattle.report.specs.Shown.{beltOf, beltsOf}
+
+module _ {A B : Type 0} where
+  flat-append : (f : A → List B) (xs ys : List A) → flat f (xs ++ ys) ≡ flat f xs ++ flat f ys
+  unfolding flat
+  flat-append f [] ys = refl
+  flat-append f (x ∷ xs) ys = rw (flat-append f xs ys, append-assoc)
+
+  flat-same : (f g : A → List B) → ((x : A) → f x ≡ g x) → (xs : List A) → flat f xs ≡ flat g xs
+  unfolding flat
+  flat-same f g h [] = refl
+  flat-same f g h (x ∷ xs) = rw (h x, flat-same f g h xs)
+
+upFrom-last : (i n : ℕ) → upFrom i (suc n) ≡ upFrom i n ++ ((i + n) ∷ [])
+unfolding upFrom
+upFrom-last i zero = rw add-zero refl
+upFrom-last i (suc n) = rw (upFrom-last (suc i) n, add-suc, suc-add)
+
+-- The rows of one more arc.
+pub flat-more : (f : ℕ → List ℕ) (n : ℕ) → flat f (upTo (suc n)) ≡ flat f (upTo n) ++ f n
+unfolding upTo flat
+flat-more f n = rw (upFrom-last 0 n, flat-append, zero-add, append-nil)
+
+-- With one commodity the flow table holds the loads.
+pub one-load : (net : Network) → commodities net ≡ 1 → (t : List ℕ) (e : ℕ) → loadOf net (amounts net t) e ≡ getD t e 0
+unfolding loadOf amounts sum
+one-load net h t e = rw (h, zero-mul) (zero-add (getD t (0 + e) 0) ∙ ap (λ j. getD t j 0) (zero-add e))
+
+pub same-rows :
+    (net : Network) → commodities net ≡ 1 → (o : Outcome) →
+    flat (beltRow net o) (upTo (arcs net)) ≡ beltsOf (net .tails) (net .heads) (o .flow) (o .answer .capacity) (o .answer .load)
+unfolding beltRow
+same-rows net h o =
+    flat-same (beltRow net o) (beltOf (net .tails) (net .heads) (o .flow) (o .answer .capacity) (o .answer .load))
+    (λ e. rw (one-load net h (o .flow) e) refl) (upTo (arcs net))

@@ -1,0 +1,13 @@
+pub mod Belts
+pub mod Decimals
+pub mod Digits
+pub mod Examples
+pub mod Judged
+pub mod Lengths
+pub mod Numbers
+pub mod Puts
+pub mod Putting
+pub mod Rowed
+pub mod Showing
+pub mod Small
+pub mod Written

@@ -1,0 +1,52 @@
+-- `report::rows::put_fraction` meets its contract. Assumes nothing.
+use native.Mathlib.Omega.{arith}
+use Rattle.report.specs.Row.{joined}
+use Rattle.report.proofs.Digits.{decimal-short}
+use Rattle.report.proofs.Puts.{put-next}
+use borrow.Author.Needs.{needs}
+use Rattle.report.proofs.rows.put_fraction.Statement.{statement}
+use Rattle.report.proofs.rows.put_fraction.Tie as tie
+
+put-number-requires : tie.Need-put-number-requires
+put-number-requires c κs = omega (arith, decimal-short (c .before .before .args .upper))
+
+slice-aggregate-put : tie.Need-slice-aggregate-put
+slice-aggregate-put c = search needs
+
+put-requires : tie.Need-put-requires
+put-requires c κs = omega (arith, decimal-short (c .before .before .before .before .before .before .before .args .upper))
+
+put-number-requires-2 : tie.Need-put-number-requires-2
+put-number-requires-2 c κs =
+    let s = c .before .before .before .before .before .before .before .before .before .before .before in
+    omega (arith, decimal-short (s .args .upper), decimal-short (s .args .lower))
+
+slice-aggregate-put-2 : tie.Need-slice-aggregate-put-2
+slice-aggregate-put-2 c = search needs
+
+put-requires-2 : tie.Need-put-requires-2
+put-requires-2 c κs =
+    let s = c .before .before .before .before .before .before .before .before .before .before .before .before .before .before .before .before in
+    omega (arith, decimal-short (s .args .upper), decimal-short (s .args .lower))
+
+same-length : tie.Need-same-length
+same-length c = search needs
+
+returns : tie.Need-returns
+unfolding joined
+returns c =
+    put-next (c .before .before .before .before .before .before .before .before .before .before .before .before .before .before .before .before .put-number .ensures)
+    (put-next (c .before .before .before .before .before .before .before .before .before .before .before .put .ensures) (put-next (c .before .before .before .before .before .before .before .put-number2 .ensures) (c .before .before .put2 .ensures)))
+
+pub put-fraction-spec : {M : Type 1} → statement M
+put-fraction-spec =
+    tie.close
+    (tie.spec
+    put-number-requires
+    slice-aggregate-put
+    put-requires
+    put-number-requires-2
+    slice-aggregate-put-2
+    put-requires-2
+    same-length
+    returns)

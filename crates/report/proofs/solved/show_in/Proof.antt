@@ -1,0 +1,62 @@
+-- `report::solved::show_in` meets its contract: the outcome is solved and its rows put. Assumes nothing.
+use denote.Ref.{now}
+use mathlib.Core.Path.{_∙_}
+use native.Mathlib.Omega.{arith}
+use Rattle.network.specs.Network.{Network}
+use Rattle.solver.specs.Runs.{networkOf}
+use Rattle.report.proofs.Lengths.{answer-length}
+use Rattle.report.proofs.Puts.{put-within}
+use Rattle.report.proofs.Showing.{one-row, total-small, belted, shown}
+use borrow.Author.Needs.{needs}
+use Rattle.report.proofs.solved.show_in.Statement.{statement}
+use Rattle.report.proofs.solved.show_in.Tie as tie
+
+-- the network at entry
+abbrev net : (s : tie.Start) → Network
+net s =
+    networkOf (s .args .n) (now (s .args .tails)) (now (s .args .heads)) (now (s .args .capacities)) (now (s .args .sources))
+    (now (s .args .sinks))
+
+solve-requires : tie.Need-solve-requires
+solve-requires c κs =
+    let s = c .before .before .before .before .before .before .before .before .before .before in
+    (s .pre .0 .lent, (one-row (net s) (now (s .args .flow)) (s .pre .0 .one) (s .pre .1 .0), s .pre .1 .1))
+
+put-answer-requires : tie.Need-put-answer-requires
+put-answer-requires c κs =
+    let s = c .before .before .before .before .before .before .before .before .before .before .before .before .before .before .before .before in
+    (total-small (net s) (s .pre .0) (c .before .before .before .before .before .solve .ensures), omega (arith, s .pre .0 .enough))
+
+put-belts-requires : tie.Need-put-belts-requires
+put-belts-requires c κs =
+    let s = c .before .before .before .before .before .before .before .before .before .before .before .before .before .before .before .before .before .before .before .before .before in
+    let v = c .before .before .before .before .before .before .before .before .before .before .solve in
+    let p = c .before .before .before .before .put-answer in
+    rw (p .kept .0)
+    (belted (net s) (s .pre .0) (v .ensures) _ (v .kept .1 .1 .1 .1 .1 .1 .1 .0 ∙ s .pre .1 .0) (put-within (p .ensures) (answer-length _)))
+
+same-length : tie.Need-same-length
+same-length c = search needs
+
+same-length-2 : tie.Need-same-length-2
+same-length-2 c = search needs
+
+same-length-3 : tie.Need-same-length-3
+same-length-3 c = search needs
+
+returns : tie.Need-returns
+returns c =
+    let s = c .before .before .before .before .before .before .before .before .before .before .before .before .before .before .before .before .before .before .before .before .before .before .before .before in
+    shown (net s) (s .pre .0) (c .before .before .before .before .before .before .before .before .before .before .before .before .before .solve .ensures) (c .before .before .before .before .before .before .before .put-answer .ensures) (c .before .before .put-belts .ensures)
+
+pub show-in-spec : {M : Type 1} → statement M
+show-in-spec =
+    tie.close
+    (tie.spec
+    solve-requires
+    put-answer-requires
+    put-belts-requires
+    same-length
+    same-length-2
+    same-length-3
+    returns)

@@ -1,0 +1,7 @@
+pub mod Decimal
+pub mod Listed
+pub mod Listing
+pub mod Put
+pub mod Row
+pub mod Shown
+pub mod Text

@@ -1,0 +1,61 @@
+-- What the program writes for a file. Document 01, "File and listing"; its belt is here an arc, and its choice an iteration.
+use mathlib.Core.List.{List, [], _++_}
+use Prim.Native.Nat.{ℕ, _*_}
+use Rattle.arith.specs.Lists.{upTo, flat}
+use Rattle.network.specs.Flow.{loadOf}
+use Rattle.network.specs.Network.{Network, arcs, commodities, tail, head}
+use Rattle.network.specs.Refusal.{number, place}
+use Rattle.network.specs.Verdict.{verdict}
+use Rattle.network.specs.declared.Refusal.{Refusal}
+use Rattle.network.specs.declared.Tables.{Tables}
+use Rattle.network.specs.declared.Verdict.{Verdict}
+use Rattle.network.specs.declared.Verdict.the-variants.{Accepted, Refused}
+use Rattle.method.specs.Answer.{Outcome, amounts, outcome}
+use Rattle.method.specs.declared.Answer.{Answer}
+use Rattle.dimacs.specs.Outcome.{Outcome as File, holds, refused, parsed}
+use Rattle.report.specs.Decimal.{decimal}
+use Rattle.report.specs.Row.{row, header}
+use Rattle.report.specs.Text.{bytes}
+
+-- "The total is F × c(b) over Y(b), the bound D over alpha"; "the steps row holds the count of choices and which choice gave the bound".
+unfoldable pub answerRows : Answer → List ℕ
+answerRows a =
+    row (bytes "total") [] [] (a .total * a .capacity) (a .load) ++
+    (row (bytes "bound") [] [] (a .bound) (a .alpha) ++
+    row (bytes "steps") [] [] (a .count) (a .best))
+
+-- "a belt Y × c(b) over Y(b)", with its tail and head: arc e, whose load Y is that of the flow table over all commodities.
+unfoldable pub beltRow : Network → Outcome → ℕ → List ℕ
+beltRow net o e =
+    row (bytes "belt") (decimal (tail net e)) (decimal (head net e)) (loadOf net (amounts net (o .flow)) e * o .answer .capacity)
+    (o .answer .load)
+
+-- "Header, total, bound and steps come first, then the belts in order."
+unfoldable pub outcomeRows : Network → Outcome → List ℕ
+outcomeRows net o = answerRows (o .answer) ++ flat (beltRow net o) (upTo (arcs net))
+
+-- "A refusal is the header and refused,,,number,place."
+unfoldable pub refusalRow : Refusal → List ℕ
+refusalRow r = row (bytes "refused") [] [] (number r) (place r)
+
+-- Tables of just the size that the call may write: the program lends itself enough.
+unfoldable pub enough : Network → Tables
+enough net = record { flow = commodities net * arcs net; length = arcs net; answer = 7; count = 1 }
+
+-- The verdict on a network that a file holds: the program "takes q = 4", and counts nothing between files.
+unfoldable pub verdictOn : Network → Verdict
+verdictOn net = verdict net 4 (enough net) 0
+
+-- what follows from the verdict
+unfoldable pub verdictRows : Network → Verdict → List ℕ
+verdictRows net Accepted = outcomeRows net (outcome net 4)
+verdictRows net (Refused r) = refusalRow r
+
+-- what follows from the file
+unfoldable pub fileRows : File → List ℕ
+fileRows (holds net) = verdictRows net (verdictOn net)
+fileRows (refused r) = refusalRow r
+
+-- The bytes written for a file of these bytes.
+unfoldable pub listing : List ℕ → List ℕ
+listing text = header ++ fileRows (parsed text)

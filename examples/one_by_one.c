@@ -1,0 +1,79 @@
+/* A line of two belts that three pairs share. Solved one by one and added up the
+ * pairs carry more than the line can; solved in one call they do not. */
+#include "vithmork.h"
+
+#include <stdio.h>
+#include <stdlib.h>
+
+enum { STATIONS = 3, BELTS = 2, PAIRS = 3, PRECISION = 16 };
+
+static const uint64_t belt[BELTS][3] = {
+    /* tail, head, totes an hour */
+    {1, 2, 600}, {2, 3, 400}};
+static const uint64_t pair[PAIRS][2] = {{1, 3}, {1, 2}, {2, 3}};
+
+static uint8_t belts[VITHMORK_BELTS_BYTES(BELTS)];
+static uint8_t pairs[VITHMORK_PAIRS_BYTES(PAIRS)];
+static uint8_t flow[VITHMORK_FLOW_BYTES(PAIRS, BELTS)];
+static uint8_t length[VITHMORK_LENGTH_BYTES(BELTS)];
+static uint8_t answer[VITHMORK_ANSWER_BYTES];
+static uint8_t count[VITHMORK_COUNT_BYTES];
+
+static void fill(void)
+{
+    for (size_t e = 0; e < BELTS; e++)
+        for (size_t i = 0; i < VITHMORK_BELT_NUMBERS; i++)
+            vithmork_put(belts, e * VITHMORK_BELT_NUMBERS + i, belt[e][i]);
+    for (size_t p = 0; p < PAIRS; p++)
+        for (size_t i = 0; i < VITHMORK_PAIR_NUMBERS; i++)
+            vithmork_put(pairs, p * VITHMORK_PAIR_NUMBERS + i, pair[p][i]);
+}
+
+/* A number of the flow table, or the sum of some, in totes an hour. */
+static double scaled(uint64_t amount)
+{
+    return (double)(amount * vithmork_get(answer, VITHMORK_SCALE_CAPACITY)) /
+           (double)vithmork_get(answer, VITHMORK_SCALE_LOAD);
+}
+
+/* Solves for some pairs, adds each belt's amounts to carried, returns the total. */
+static double solve(size_t first, size_t number, double *carried)
+{
+    uint64_t returned = vithmork_solve(
+        STATIONS, PRECISION, belts, sizeof belts, pairs + VITHMORK_PAIRS_BYTES(first),
+        VITHMORK_PAIRS_BYTES(number), flow, sizeof flow, length, sizeof length, answer,
+        sizeof answer, count, sizeof count);
+    if (returned != VITHMORK_ACCEPTED) {
+        vithmork_refusal refusal = vithmork_refused(returned);
+        printf("refused: number %u, place %u\n", refusal.number, refusal.place);
+        exit(1);
+    }
+    for (size_t p = 0; p < number; p++)
+        for (size_t e = 0; e < BELTS; e++)
+            carried[e] += scaled(vithmork_get(flow, p * BELTS + e));
+    return scaled(vithmork_get(answer, VITHMORK_DRAWN));
+}
+
+static void print(const char *what, double total, const double *carried)
+{
+    printf("%s %.3f\n", what, total);
+    for (size_t e = 0; e < BELTS; e++)
+        printf("  belt %u to %u: %.3f of %u\n", (unsigned)belt[e][0], (unsigned)belt[e][1],
+               carried[e], (unsigned)belt[e][2]);
+}
+
+int main(void)
+{
+    double sum = 0, apart[BELTS] = {0}, shared[BELTS] = {0};
+    fill();
+    for (size_t p = 0; p < PAIRS; p++) {
+        double total = solve(p, 1, apart);
+        printf("pair %u to %u alone %.3f\n", (unsigned)pair[p][0], (unsigned)pair[p][1], total);
+        sum += total;
+    }
+    print("added up", sum, apart);
+    print("in one call", solve(0, PAIRS, shared), shared);
+    printf("bound %.3f\n", (double)vithmork_get(answer, VITHMORK_BOUND_D) /
+                               (double)vithmork_get(answer, VITHMORK_BOUND_ALPHA));
+    return 0;
+}
