@@ -165,9 +165,8 @@ fn compare_medium(tally: &mut Tally, amount: u64, random: &mut Random) {
 }
 
 /// The fast form speaks for the plain one where that would take minutes.
-/// Full-size floors at the coarse precisions: a finer one takes minutes a floor.
 fn compare_full(tally: &mut Tally, amounts: &Amounts, random: &mut Random) {
-    let all = SHAPES.into_iter().cycle().zip((4..=6).cycle());
+    let all = SHAPES.into_iter().cycle().zip(PRECISIONS.cycle());
     for (i, (shape, q)) in all.take(amounts.full * SHAPES.len()).enumerate() {
         let capacities = CAPACITIES[i / SHAPES.len() % CAPACITIES.len()];
         let net = floors::floor(shape, FULL_SIZE, capacities, random);

@@ -14,5 +14,6 @@ pub mod Same
 pub mod Shifts
 pub mod Sorted
 pub mod Sums
+pub mod Until
 pub mod Values
 pub mod Writing

@@ -13,6 +13,5 @@ pub mod Pieces
 pub mod Sized
 pub mod Split
 pub mod Stages
-pub mod Until
 pub mod Whole
 pub mod WordFront

@@ -8,12 +8,12 @@ use native.Mathlib.Omega.{arith}
 use lib.ListN.{length, take, drop, replicate, length-drop, drop-of-length-le}
 use lib.Seq.{drop-drop}
 use borrow.Author.Tests.{lt-ltb, le-ltb}
+use Rattle.arith.specs.Lists.{until, scan}
 use Rattle.network.specs.declared.Refusal.the-variants.{LongFile}
 use Rattle.dimacs.specs.Meaning.{meaning}
 use Rattle.dimacs.specs.Pieces.{lineFeed, linesOf, pieces}
 use Rattle.dimacs.specs.Outcome.{closing, refused, parsed}
 use Rattle.dimacs.specs.Reading.{before, next, readLines}
-use Rattle.dimacs.specs.Scan.{until, scan}
 use Rattle.dimacs.specs.Stage.{readingOf, Tidy, Held, Reached}
 use Rattle.dimacs.specs.declared.Line.{Line}
 use Rattle.dimacs.specs.declared.Stage.{Stage}

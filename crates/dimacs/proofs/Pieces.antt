@@ -6,8 +6,8 @@ use mathlib.Core.List.{List, [], _∷_}
 use Prim.Native.Nat.{ℕ, suc, _≤_, _<_}
 use native.Mathlib.Omega.{arith}
 use lib.ListN.{length, take, drop}
+use Rattle.arith.specs.Lists.{until}
 use Rattle.dimacs.specs.Pieces.{lead, pieces}
-use Rattle.dimacs.specs.Scan.{until}
 
 module _ (f : ℕ → Bool) where
   -- where the scan stops it goes no further

@@ -7,10 +7,11 @@ use native.Mathlib.Nat.{add-zero, zero-add}
 use native.Mathlib.Omega.{arith}
 use lib.ListN.{length, getD, take, drop}
 use lib.Seq.{drop-drop, getD-drop}
+use Rattle.arith.specs.Lists.{until, scan}
+use Rattle.arith.proofs.Until.{scan-within}
 use Rattle.dimacs.specs.Pieces.{blank, wordsOf}
-use Rattle.dimacs.specs.Scan.{until, scan, filling}
+use Rattle.dimacs.specs.Scan.{filling}
 use Rattle.dimacs.proofs.Pieces.{until-again}
-use Rattle.dimacs.proofs.Until.{scan-within}
 use Rattle.dimacs.proofs.WordFront.{AtWord, words-skip, first-word, later-words}
 
 -- Place at is where word k of the line starts, or its end where there are no more.

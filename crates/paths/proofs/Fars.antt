@@ -1,37 +1,58 @@
--- How a search starts: every node's entry is far but the sink's, and so the entries are labels.
+-- How a search starts: every node's entry is far but the sink's, so the entries are labels, and only the arcs into the sink can shorten one.
 -- Assumes nothing.
-use mathlib.Core.Path.{_≡_, _∙_}
+use mathlib.Core.Path.{_≡_, ap, _∙_}
 use mathlib.Core.Logic.{⊎-elim}
 use mathlib.Core.List.{List, _++_}
-use Prim.Native.Nat.{ℕ, _+_, _≤_, _<_}
+use Prim.Native.Nat.{ℕ, _+_, _≤_}
 use native.Mathlib.Omega.{arith}
-use lib.ListN.{length, getD, set, replicate, length-append, length-replicate, getD-replicate, List·getD-append}
+use lib.ListN.{length, getD, set, replicate}
 use lib.Seq.{getD-set-same, getD-set-other}
-use Rattle.network.specs.Network.{Network}
-use Rattle.paths.proofs.Labels.{Labels}
+use Rattle.network.specs.Network.{Network, arcs, tail, head}
+use Rattle.paths.specs.Far.{far}
+use Rattle.paths.specs.Graph.{Fit}
+use Rattle.paths.specs.Labels.{Labels}
+use Rattle.paths.specs.Listing.{Enlisted}
+use Rattle.paths.specs.Searching.{Searching}
+use Rattle.paths.proofs.Filled.{filled-at, filled-room}
 use Rattle.paths.proofs.Relaxing.{set-entry}
 
-module _ (net : Network) (l rest : List ℕ) (t far : ℕ) (b : t ≤ net .nodes) where
+module _ (net : Network) (l rest : List ℕ) (t : ℕ) (b : t ≤ net .nodes) where
   -- far at every node, whatever comes after
   abbrev fars : List ℕ
   fars = replicate (net .nodes + 1) far ++ rest
 
   fars-at : (v : ℕ) → v ≤ net .nodes → getD fars v 0 ≡ far
-  fars-at v c =
-      List·getD-append (replicate (net .nodes + 1) far) rest 0 v (omega (arith, length-replicate (net .nodes + 1) far)) ∙
-      getD-replicate (net .nodes + 1) v far 0 (omega arith)
+  fars-at = filled-at (net .nodes) far rest
 
-  fars-room : t < length fars
-  fars-room = omega (arith, length-append (replicate (net .nodes + 1) far) rest, length-replicate (net .nodes + 1) far)
+  start-far : (v : ℕ) → v ≤ net .nodes → (v ≡ t → ⊥) → getD (set fars t 0) v 0 ≡ far
+  start-far v c ne = getD-set-other fars t v 0 0 ne ∙ fars-at v c
 
-  pub labels-start : Labels net l (set fars t 0) t far
+  labels-start : Labels net l (set fars t 0) t far
   labels-start =
       record {
-        sink = getD-set-same fars t 0 0 fars-room;
+        sink = getD-set-same fars t 0 0 (omega (arith, filled-room (net .nodes) far rest));
         capped = λ v c.
             ⊎-elim
             (λ (h : getD (set fars t 0) v 0 ≡ getD fars v 0). omega (arith, fars-at v c))
             (λ (h : (v ≡ t) × (getD (set fars t 0) v 0 ≡ 0)). omega arith)
             (set-entry fars t 0 v);
-        way = λ v node apart near. absurd (omega (arith, near, getD-set-other fars t v 0 0 apart, fars-at v (node .1)));
+        way = λ v node apart near. absurd (omega (arith, near, start-far v (node .1) apart));
+      }
+
+  -- With the sink on the list the search can go on.
+  pub searching-start :
+      {old front listed : List ℕ} {size r : ℕ} → Fit net l (length (set fars t 0)) → Enlisted (net .nodes) old size t front listed r →
+      Searching net l t t (arcs net) (set fars t 0) front listed r
+  searching-start {listed = listed} f E =
+      record {
+        fit = f;
+        labels = labels-start;
+        listing = E .listing;
+        feasible = λ j c off at.
+            let ne : head net j ≡ t → ⊥ = λ q. omega (arith, E .has, ap (λ k. getD listed k 0) q) in
+            omega (
+              arith,
+              start-far (head net j) (f .ends .heads j c .1) ne,
+              labels-start .capped (tail net j) (f .ends .tails j c .1),
+            );
       }

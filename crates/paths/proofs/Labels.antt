@@ -1,4 +1,4 @@
--- What holds of the distances while a search goes on: relaxation keeps it, and at rest they are the distances.
+-- The labels of a search: relaxation keeps them labels, and at rest they are the distances.
 -- Assumes nothing.
 use mathlib.Core.Path.{_≡_, sym}
 use mathlib.Core.Logic.{⊎-elim}
@@ -7,24 +7,11 @@ use Prim.Native.Nat.{ℕ, _≤_, _<_}
 use native.Mathlib.Nat.{le-antisymm}
 use native.Mathlib.Omega.{arith}
 use lib.ListN.{getD}
-use Rattle.network.specs.Ends.{Node}
 use Rattle.network.specs.Network.{Network, arcs, tail, head}
 use Rattle.paths.specs.Distances.{Distances}
-use Rattle.paths.specs.Graph.{Capped}
+use Rattle.paths.specs.Labels.{Over, Labels}
 use Rattle.paths.specs.Relax.{over, relaxed}
 use Rattle.paths.proofs.Relaxing.{Shortened, relaxed-entry, relaxed-le}
-
--- Arc e leads from v, and the way over it is no longer than v's entry.
-pub record Over (net : Network) (l d : List ℕ) (v e : ℕ) : Type 0 where
-  pub arc : e < arcs net
-  pub from : tail net e ≡ v
-  pub long : over net l d e ≤ getD d v 0
-
--- The entry of t is 0, none is above the cap, and each other node's below the cap is no less than the way over some arc.
-pub record Labels (net : Network) (l d : List ℕ) (t far : ℕ) : Type 0 where
-  pub sink : getD d t 0 ≡ 0
-  pub capped : Capped net d far
-  pub way : (v : ℕ) → Node net v → (v ≡ t → ⊥) → getD d v 0 < far → (e : ℕ) × Over net l d v e
 
 module _ {net : Network} {l d : List ℕ} {t far : ℕ} where
   -- At rest, where no arc shortens, they are the distances.

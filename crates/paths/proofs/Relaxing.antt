@@ -9,8 +9,10 @@ use native.Mathlib.Omega.{arith}
 use lib.ListN.{length, getD, set, length-set}
 use lib.Seq.{getD-set-same}
 use borrow.Author.Tests.{ltb-true, ltb-false}
+use Rattle.arith.proofs.Sums.{sum-lt}
 use Rattle.network.specs.Network.{Network, tail}
 use Rattle.paths.specs.Relax.{over, shortens, relaxed}
+use Rattle.paths.specs.Searching.{total}
 
 -- After a store of x at v an entry is as before, or it is that at v and is x.
 pub set-entry : (d : List ℕ) (v x u : ℕ) → (getD (set d v x) u 0 ≡ getD d u 0) ⊎ ((u ≡ v) × (getD (set d v x) u 0 ≡ x))
@@ -66,7 +68,24 @@ module _ (net : Network) (l d : List ℕ) (e : ℕ) where
   unfolding relaxed
   relaxed-same h = rw h
 
-  -- Where it does, its tail is nearer.
-  pub relaxed-tail : tail net e < length d → shortens net l d e ≡ true → getD (relaxed net l d e) (tail net e) 0 < getD d (tail net e) 0
-  unfolding relaxed shortens
-  relaxed-tail b h = rw h (rw (getD-set-same d (tail net e) (over net l d e) 0 b) (ltb-true _ _ h))
+  -- Afterwards the arc does not shorten the distance that its tail had.
+  pub relaxed-over : tail net e < length d → getD (relaxed net l d e) (tail net e) 0 ≤ over net l d e
+  relaxed-over b =
+      relaxed-cases
+      (λ x. getD x (tail net e) 0 ≤ over net l d e)
+      (λ h. h)
+      (λ h. omega (arith, getD-set-same d (tail net e) (over net l d e) 0 b))
+
+  -- Where the arc shortens, its tail is nearer, and the sum of all entries less.
+  pub relaxed-falls :
+      tail net e ≤ net .nodes → tail net e < length d → shortens net l d e ≡ true → total net (relaxed net l d e) < total net d
+  unfolding shortens total
+  relaxed-falls a b h =
+      sum-lt
+      (suc (net .nodes))
+      (λ v. getD (relaxed net l d e) v 0)
+      (λ v. getD d v 0)
+      (tail net e)
+      (omega arith)
+      (λ v c. relaxed-le v)
+      (omega (arith, relaxed-over b, ltb-true (over net l d e) (getD d (tail net e) 0) h))

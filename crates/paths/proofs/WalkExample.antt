@@ -14,7 +14,7 @@ use Rattle.paths.specs.Far.{far, Bounded}
 use Rattle.paths.specs.Walk.{Walk, stop, step}
 
 -- What holds of 0, 1 and 2 holds below 3.
-three : (P : ℕ → Type 0) → P 0 → P 1 → P 2 → (e : ℕ) → e < 3 → P e
+pub three : (P : ℕ → Type 0) → P 0 → P 1 → P 2 → (e : ℕ) → e < 3 → P e
 three P a b c = below-more P 2 (below-more P 1 (below-more P 0 (below-none P) a) b) c
 
 -- Arcs 1 to 2, 2 to 3 and 1 to 3, and commodities from ss to ts.

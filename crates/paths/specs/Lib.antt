@@ -1,10 +1,12 @@
-pub mod Chose
 pub mod Distances
 pub mod Far
+pub mod Frontier
 pub mod Graph
-pub mod Nearest
+pub mod Labels
+pub mod Links
+pub mod Listing
 pub mod Relax
-pub mod Search
+pub mod Searching
 pub mod Tight
 pub mod Walk
 pub mod Walked

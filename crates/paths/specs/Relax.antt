@@ -1,10 +1,9 @@
--- Relaxation: an arc that leads to a shorter way is taken. Said for the arcs in turn, as a search goes.
+-- Relaxation: an arc that leads to a shorter way is taken.
 use mathlib.Core.Bool.{Bool, cond}
 use mathlib.Core.List.{List}
-use Prim.Native.Nat.{ℕ, zero, suc, _+_}
+use Prim.Native.Nat.{ℕ, _+_}
 use lib.Dec.{ltb}
 use lib.ListN.{getD, set}
-use Rattle.arith.specs.Lists.{exists}
 use Rattle.network.specs.Network.{Network, tail, head}
 
 -- How long the way over arc e is: its length and the distance of its head.
@@ -18,12 +17,3 @@ shortens net l d e = ltb (over net l d e) (getD d (tail net e) 0)
 -- The distances after arc e: its tail has that of the way over it, where that is shorter.
 unfoldable pub relaxed : Network → List ℕ → List ℕ → ℕ → List ℕ
 relaxed net l d e = cond (shortens net l d e) (set d (tail net e) (over net l d e)) d
-
--- The distances after the first k arcs in turn.
-unfoldable pub swept : Network → List ℕ → List ℕ → ℕ → List ℕ
-swept net l d zero = d
-swept net l d (suc k) = relaxed net l (swept net l d k) k
-
--- Some of the first k arcs shortened a distance.
-unfoldable pub changed : Network → List ℕ → List ℕ → ℕ → Bool
-changed net l d k = exists k (λ e. shortens net l (swept net l d e) e)

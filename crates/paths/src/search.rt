@@ -1,13 +1,19 @@
-// Distances to a sink: every arc relaxed in turn, again and again until none shortens a distance.
-// n is the number of nodes: one function reads it, the others take it for their contracts, which speak of the network.
+// Distances to a sink by correcting labels: a node that has come nearer goes onto a list, and the nearest on the list is taken out and the arcs into it
+// relaxed, until the list is empty.
+use crate::fill::fill;
+use crate::frontier::enlist;
+use crate::frontier::nearest;
+use crate::frontier::take_out;
+use crate::relax::relax_into;
 ghost use mathlib.Core.Path.{_≡_};
 ghost use mathlib.Core.List.{_++_};
 ghost use Prim.Native.Nat.{_+_, _≤_, _<_};
 ghost use lib.ListN.{length, set, drop, replicate};
 ghost use Rattle.network.specs.Ends.{Node};
 ghost use Rattle.paths.specs.Far.{far};
-ghost use Rattle.paths.specs.Graph.{graph, Fit, Capped, Table};
-ghost use Rattle.paths.specs.Relax.{shortens, relaxed, swept, changed};
+ghost use Rattle.paths.specs.Frontier.{Frontier};
+ghost use Rattle.paths.specs.Graph.{graph, Fit, Table};
+ghost use Rattle.paths.specs.Links.{Linked};
 
 // No path without a loop is as long: at most 63 arcs of lengths below 2^40.
 pub const FAR: u64 = 0x4000_0000_0000;
@@ -17,56 +23,49 @@ fn reset(n: u64, sink: u64, dist: &mut [u64])
     requires { ⌜ (n < length (now dist)) × (sink ≤ n) ⌝ }
     ensures { λ r. ⌜ now (dist .exit) ≡ set (replicate (n + 1) far ++ drop (n + 1) (now (dist .entry))) sink 0 ⌝ }
 {
-    let mut v = 0;
-    while v <= n as usize {
-        dist[v] = FAR;
-        v += 1;
-    }
+    fill(n, FAR, dist);
     dist[sink as usize] = 0;
 }
 
-// The way over arc e is taken where it is shorter; whether it is.
-fn relax(n: u64, tails: &[u64], heads: &[u64], lengths: &[u64], e: usize, dist: &mut [u64]) -> bool
-    requires fit { ⌜ Fit (graph n (now tails) (now heads)) (now lengths) (length (now dist)) ⌝ }
-    requires arc { ⌜ e < length (now tails) ⌝ }
-    requires capped { ⌜ Capped (graph n (now tails) (now heads)) (now dist) far ⌝ }
-    ensures shortens { λ r. ⌜ r ≡ shortens (graph n (now (tails .entry)) (now (heads .entry))) (now (lengths .entry)) (now (dist .entry)) e ⌝ }
-    ensures relaxed { λ r. ⌜ now (dist .exit) ≡ relaxed (graph n (now (tails .entry)) (now (heads .entry))) (now (lengths .entry)) (now (dist .entry)) e ⌝ }
-{
-    let v = tails[e] as usize;
-    let w = heads[e] as usize;
-    let way = lengths[e] + dist[w];
-    if way < dist[v] {
-        dist[v] = way;
-        return true;
-    }
-    false
-}
-
-// Every arc once; whether some distance changed.
-fn sweep(n: u64, tails: &[u64], heads: &[u64], lengths: &[u64], dist: &mut [u64]) -> bool
-    requires fit { ⌜ Fit (graph n (now tails) (now heads)) (now lengths) (length (now dist)) ⌝ }
-    requires capped { ⌜ Capped (graph n (now tails) (now heads)) (now dist) far ⌝ }
-    ensures changed { λ r. ⌜ r ≡ changed (graph n (now (tails .entry)) (now (heads .entry))) (now (lengths .entry)) (now (dist .entry)) (length (now (tails .entry))) ⌝ }
-    ensures swept { λ r. ⌜ now (dist .exit) ≡ swept (graph n (now (tails .entry)) (now (heads .entry))) (now (lengths .entry)) (now (dist .entry)) (length (now (tails .entry))) ⌝ }
-{
-    let mut changed = false;
-    let mut e = 0;
-    while e < tails.len() {
-        if relax(n, tails, heads, lengths, e, dist) {
-            changed = true;
-        }
-        e += 1;
-    }
-    changed
-}
-
-// The distance of every node to the sink, FAR where it is not reached.
-pub fn distances(n: u64, tails: &[u64], heads: &[u64], lengths: &[u64], sink: u64, dist: &mut [u64])
+// The distance of every node to the sink, FAR where it is not reached. first_in and next_in are the lists of the arcs into each node; front and
+// listed are scratch.
+pub fn distances(
+    n: u64,
+    tails: &[u64],
+    heads: &[u64],
+    lengths: &[u64],
+    first_in: &[u64],
+    next_in: &[u64],
+    sink: u64,
+    dist: &mut [u64],
+    front: &mut [u64],
+    listed: &mut [u64],
+)
     requires fit { ⌜ Fit (graph n (now tails) (now heads)) (now lengths) (length (now dist)) ⌝ }
     requires sink { ⌜ Node (graph n (now tails) (now heads)) sink ⌝ }
+    requires links { ⌜ Linked (now heads) n (now «first_in») (now «next_in») ⌝ }
+    requires room { ⌜ Frontier n (length (now front)) (length (now listed)) ⌝ }
     ensures { λ r. ⌜ Table (graph n (now (tails .entry)) (now (heads .entry))) (now (lengths .entry)) (now (dist .exit)) sink far ⌝ }
 {
     reset(n, sink, dist);
-    while sweep(n, tails, heads, lengths, dist) {}
+    fill(n, 0, listed);
+    let mut size = enlist(n, sink, front, listed, 0);
+    while size > 0 {
+        let at = nearest(front, size, dist);
+        let v = take_out(n, at, front, listed, size);
+        size = relax_into(
+            n,
+            tails,
+            heads,
+            lengths,
+            first_in,
+            next_in,
+            sink,
+            v,
+            dist,
+            front,
+            listed,
+            size - 1,
+        );
+    }
 }

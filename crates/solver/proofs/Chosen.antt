@@ -13,22 +13,28 @@ use Rattle.method.specs.Iteration.{State, advance, iteration}
 use Rattle.method.proofs.Reached.{Reached}
 use Rattle.method.proofs.Sized.{reached-sizes}
 use Rattle.paths.specs.Far.{far}
-use Rattle.paths.specs.Chose.{Picked, Chose}
-use Rattle.paths.specs.Search.{Search}
-use Rattle.paths.specs.declared.Selected.{Selected}
-use Rattle.paths.proofs.Bare.{bareOf, search-bare, chose-net}
-use Rattle.paths.proofs.Ready.{sound-search}
+use Rattle.choice.specs.Chose.{Picked, Chose}
+use Rattle.paths.specs.Frontier.{Frontier}
+use Rattle.choice.specs.Search.{Search}
+use Rattle.choice.specs.declared.Selected.{Selected}
+use Rattle.choice.proofs.Bare.{bareOf, search-bare, chose-net}
+use Rattle.choice.proofs.Ready.{sound-search}
 use Rattle.solver.specs.Runs.{Lent, Space, Chooses}
 
 pub surveyed :
-    (net : Network) (q : ℕ) → Lent net q → (s : State) → Reached net q s → (nodes places : ℕ) → Space nodes places →
+    (net : Network) (q : ℕ) → Lent net q → (s : State) → Reached net q s → {nodes fronts marks places : ℕ} → Space nodes fronts marks places →
     Search (bareOf net) (s .lengths) nodes places
-surveyed net q lent s r nodes places space =
+surveyed net q lent s r space =
     let z = reached-sizes net q (lent .sound) s r in
     let few : net .nodes ≤ 64 = lent .sound .counts .of-nodes .most in
     search-bare
     (sound-search (lent .sound) (λ e l. (z .length-low e l, z .length-high e l)) (le-of-eq (sym (r .valid .lengths))) (omega (arith, space .dist))
     (omega (arith, space .path)))
+
+pub fronted : (net : Network) (q : ℕ) → Lent net q → {nodes fronts marks places : ℕ} → Space nodes fronts marks places → Frontier (net .nodes) fronts marks
+fronted net q lent space =
+    let few : net .nodes ≤ 64 = lent .sound .counts .of-nodes .most in
+    record { front = omega (arith, space .front); listed = omega (arith, space .listed) }
 
 -- Where something is chosen whatever the lengths, the search picks it.
 pub picks : (net : Network) → Chooses net → (l : List ℕ) (r : Selected) (path : List ℕ) → Chose (bareOf net) l r path → Picked net l r path

@@ -1,4 +1,5 @@
 pub mod Chosen
+pub mod Longer
 pub mod OfCapacities
 pub mod Ready
 pub mod Running

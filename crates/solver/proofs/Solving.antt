@@ -25,10 +25,10 @@ abbrev pub firstLengths : List ℕ → List ℕ
 firstLengths capacities = map (λ e. start (getD capacities e 0)) (upTo (length capacities))
 
 pub initial-is :
-    (net : Network) (q : ℕ) → Lent net q → (flow kept loads lengths : List ℕ) → Sized net flow kept loads lengths →
+    (net : Network) (q : ℕ) → Lent net q → (flow kept loads lengths bounds : List ℕ) → Sized net flow kept loads lengths bounds →
     stateOf (firstLengths (net .capacities)) (replicate (length flow) 0) (replicate (length loads) 0) (replicate (length kept) 0) begun ≡ initial net
 unfolding initial
-initial-is net q lent flow kept loads lengths z = rw (lent .capacities, z .flows, z .loadings, z .keeps) refl
+initial-is net q lent flow kept loads lengths bounds z = rw (lent .capacities, z .flows, z .loadings, z .keeps) refl
 
 pub outcome-some : (net : Network) (q : ℕ) (c : Choice) → choice net (initial net .lengths) ≡ some c → outcome net q ≡ outcomeOf net (run net q)
 unfolding outcome
@@ -42,17 +42,17 @@ pub lengths-is : (net : Network) (q : ℕ) → Lent net q → firstLengths (net 
 unfolding initial
 lengths-is net q lent = rw (lent .capacities) refl
 
--- No commodity is joined: the cleared tables are the outcome's.
+-- No commodity is joined: the tables of the start are the outcome's.
 pub solved-none :
-    (net : Network) (q : ℕ) → Lent net q → (flow kept loads lengths : List ℕ) → Sized net flow kept loads lengths →
-    choice net (initial net .lengths) ≡ none → Solved net q noAnswer (replicate (length flow) 0) (replicate (length kept) 0)
-unfolding unjoined
-solved-none net q lent flow kept loads lengths z h =
+    (net : Network) (q : ℕ) → Lent net q → (flow kept : List ℕ) → choice net (initial net .lengths) ≡ none → flow ≡ initial net .flow →
+    kept ≡ initial net .bestLengths → Solved net q noAnswer flow kept
+unfolding unjoined initial
+solved-none net q lent flow kept h f k =
     let e = outcome-none net q h in
     record {
       answers = sym (ap (λ o. o .answer) e);
-      flows = ap (λ n. replicate n 0) (z .flows) ∙ sym (ap (λ o. o .flow) e);
-      lengths = ap (λ n. replicate n 0) (z .keeps) ∙ sym (ap (λ o. o .lengths) e);
+      flows = f ∙ sym (ap (λ o. o .flow) e);
+      lengths = k ∙ sym (ap (λ o. o .lengths) e);
       guarantee = guarantee net q (lent .sound);
     }
 

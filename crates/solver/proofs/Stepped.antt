@@ -21,7 +21,7 @@ use Rattle.tables.proofs.OnPath.{update-from-zero}
 abbrev pub halved : List ℕ → List ℕ
 halved l = cond (exists (length l) (λ e. leb mark (getD l e 0))) (map halving l) l
 
-module _ (caps : List ℕ) (q i : ℕ) (path L F Y K : List ℕ) (p : Progress) (same : length L ≡ length caps) where
+module _ (caps : List ℕ) (q i : ℕ) (path L F Y K : List ℕ) (p : Progress) (marked : Bool) (same : length L ≡ length caps) where
   abbrev g : ℕ
   g = draw caps path
 
@@ -39,7 +39,7 @@ module _ (caps : List ℕ) (q i : ℕ) (path L F Y K : List ℕ) (p : Progress) 
 
   pub stepped :
       stateOf (halved G) (update (λ e x. x + g) (map (λ e. i * length caps + e) path) F) (update (λ e x. x + g) (map (λ e. 0 + e) path) Y)
-      (cond better L K) (counted p g better d a) ≡
+      (cond better L K) (counted p g better d a marked) ≡
       advance (ofCapacities caps) q (choiceOf i path) (stateOf L F Y K p)
   unfolding advance weight grown settled
   stepped =

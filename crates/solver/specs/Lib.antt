@@ -1,3 +1,4 @@
+pub mod Prepared
 pub mod Progress
 pub mod Runs
 pub mod Solved

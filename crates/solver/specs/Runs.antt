@@ -22,9 +22,11 @@ pub record Lent (net : Network) (q : ℕ) : Type 0 where
   pub capacities : length (net .capacities) ≡ arcs net
   pub sinks : length (net .sinks) ≡ commodities net
 
--- Work space: a distance for each node number, and a place for each arc of a path.
-pub record Space (nodes places : ℕ) : Type 0 where
+-- Work space: a distance for each node number, a list of nodes, a mark for each node number, and a place for each arc of a path.
+pub record Space (nodes fronts marks places : ℕ) : Type 0 where
   pub dist : 65 ≤ nodes
+  pub front : 64 ≤ fronts
+  pub listed : 65 ≤ marks
   pub path : 64 ≤ places
 
 -- Some commodity is joined: whatever the lengths, a path is chosen.

@@ -9,12 +9,13 @@ use Rattle.method.specs.Guarantee.{Guarantee}
 use Rattle.method.specs.declared.Answer.{Answer}
 use Rattle.solver.specs.declared.steps.Progress.{Progress}
 
--- Tables of just the size that the outcome has.
-pub record Sized (net : Network) (flow kept loads lengths : List ℕ) : Type 0 where
+-- Tables of just the size that the outcome has, and a bound for each commodity.
+pub record Sized (net : Network) (flow kept loads lengths bounds : List ℕ) : Type 0 where
   pub flows : length flow ≡ commodities net * arcs net
   pub keeps : length kept ≡ arcs net
   pub loadings : length loads ≡ arcs net
   pub lengthens : length lengths ≡ arcs net
+  pub each : length bounds ≡ commodities net
 
 -- The answer of a run that left these loads and numbers.
 abbrev pub answerOf : List ℕ → List ℕ → ℕ → Progress → Answer

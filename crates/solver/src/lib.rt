@@ -1,4 +1,6 @@
 // The solver: the run of the method on lent tables of numbers.
+pub mod iterations;
+pub mod outcomes;
 pub mod runs;
 pub mod solves;
 pub mod steps;

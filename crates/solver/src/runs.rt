@@ -1,55 +1,16 @@
 // The run: iterations until some load is at the threshold, on lent tables of numbers.
-use crate::steps;
+use crate::iterations::iterate;
 use crate::steps::Progress;
 use tables::loads;
 ghost use mathlib.Core.Path.{_≡_};
 ghost use lib.ListN.{length};
-ghost use Rattle.method.specs.Iteration.{initial, iteration};
+ghost use Rattle.method.specs.Iteration.{initial};
 ghost use Rattle.method.specs.Run.{run};
-ghost use Rattle.method.proofs.Reached.{Reached};
+ghost use Rattle.choice.specs.Below.{Below};
+ghost use Rattle.paths.specs.Links.{Linked};
+ghost use Rattle.choice.specs.Search.{bare};
 ghost use Rattle.solver.specs.Progress.{stateOf, begun};
 ghost use Rattle.solver.specs.Runs.{networkOf, Lent, Space, Chooses};
-
-// One iteration: the choice by the lengths, and the step along its path.
-fn iterate(
-    n: u64,
-    q: u64,
-    tails: &[u64],
-    heads: &[u64],
-    capacities: &[u64],
-    sources: &[u64],
-    sinks: &[u64],
-    flow: &mut [u64],
-    loads: &mut [u64],
-    lengths: &mut [u64],
-    kept: &mut [u64],
-    dist: &mut [u64],
-    path: &mut [u64],
-    p: Progress,
-) -> Progress
-    requires lent { ⌜ Lent (networkOf n (now tails) (now heads) (now capacities) (now sources) (now sinks)) q ⌝ }
-    requires space { ⌜ Space (length (now dist)) (length (now path)) ⌝ }
-    requires chooses { ⌜ Chooses (networkOf n (now tails) (now heads) (now capacities) (now sources) (now sinks)) ⌝ }
-    requires reached { ⌜ Reached (networkOf n (now tails) (now heads) (now capacities) (now sources) (now sinks)) q (stateOf (now lengths) (now flow) (now loads) (now kept) p) ⌝ }
-    ensures { λ r. ⌜ stateOf (now (lengths .exit)) (now (flow .exit)) (now (loads .exit)) (now (kept .exit)) r ≡ iteration (networkOf n (now (tails .entry)) (now (heads .entry)) (now (capacities .entry)) (now (sources .entry)) (now (sinks .entry))) q (stateOf (now (lengths .entry)) (now (flow .entry)) (now (loads .entry)) (now (kept .entry)) p) ⌝ }
-{
-    let c = paths::choose(n, tails, heads, lengths, sources, sinks, dist, path);
-    let commodity = c.commodity;
-    let arcs = c.arcs;
-    let alpha = c.distance;
-    steps::step(
-        q,
-        capacities,
-        commodity,
-        &path[..arcs],
-        alpha,
-        flow,
-        loads,
-        lengths,
-        kept,
-        p,
-    )
-}
 
 // Nothing drawn yet, and the least fraction 1 over 0.
 fn begin() -> Progress
@@ -61,6 +22,7 @@ fn begin() -> Progress
         bound: 1,
         alpha: 0,
         best: 0,
+        halved: false,
     }
 }
 
@@ -73,15 +35,25 @@ pub fn run(
     capacities: &[u64],
     sources: &[u64],
     sinks: &[u64],
+    first_in: &[u64],
+    next_in: &[u64],
+    first_out: &[u64],
+    next_out: &[u64],
     flow: &mut [u64],
     loads: &mut [u64],
     lengths: &mut [u64],
     kept: &mut [u64],
+    bounds: &mut [u64],
     dist: &mut [u64],
+    front: &mut [u64],
+    listed: &mut [u64],
     path: &mut [u64],
 ) -> Progress
     requires lent { ⌜ Lent (networkOf n (now tails) (now heads) (now capacities) (now sources) (now sinks)) q ⌝ }
-    requires space { ⌜ Space (length (now dist)) (length (now path)) ⌝ }
+    requires space { ⌜ Space (length (now dist)) (length (now front)) (length (now listed)) (length (now path)) ⌝ }
+    requires into { ⌜ Linked (now heads) n (now «first_in») (now «next_in») ⌝ }
+    requires out { ⌜ Linked (now tails) n (now «first_out») (now «next_out») ⌝ }
+    requires below { ⌜ Below (bare n (now tails) (now heads) (now sources) (now sinks)) (now lengths) (now bounds) ⌝ }
     requires chooses { ⌜ Chooses (networkOf n (now tails) (now heads) (now capacities) (now sources) (now sinks)) ⌝ }
     requires start { ⌜ stateOf (now lengths) (now flow) (now loads) (now kept) begun ≡ initial (networkOf n (now tails) (now heads) (now capacities) (now sources) (now sinks)) ⌝ }
     ensures { λ r. ⌜ stateOf (now (lengths .exit)) (now (flow .exit)) (now (loads .exit)) (now (kept .exit)) r ≡ run (networkOf n (now (tails .entry)) (now (heads .entry)) (now (capacities .entry)) (now (sources .entry)) (now (sinks .entry))) q ⌝ }
@@ -97,11 +69,18 @@ pub fn run(
             capacities,
             sources,
             sinks,
+            first_in,
+            next_in,
+            first_out,
+            next_out,
             flow,
             loads,
             lengths,
             kept,
+            bounds,
             dist,
+            front,
+            listed,
             path,
             p,
         );

@@ -1,52 +1,19 @@
-// The solver: tables cleared, the run, and its answer.
-use crate::runs;
-use crate::steps::Progress;
+// The solver: lists of arcs made, tables cleared, and the outcome.
+use crate::outcomes::outcome;
 use method::Answer;
+use paths::links;
 use tables::lengths;
 use tables::loads;
 ghost use mathlib.Core.Path.{_≡_};
-ghost use Prim.Native.Nat.{_-_, _*_};
+ghost use Prim.Native.Nat.{_*_};
 ghost use lib.ListN.{length};
 ghost use Rattle.network.specs.Network.{arcs, commodities};
-ghost use Rattle.method.specs.Answer.{fullest};
-ghost use Rattle.tables.specs.Calls.{Ranking};
+ghost use Rattle.solver.specs.Prepared.{Lists, Cleared};
 ghost use Rattle.solver.specs.Runs.{networkOf, Lent, Space};
-ghost use Rattle.solver.specs.Solved.{Sized, Solved, answerOf, noAnswer};
+ghost use Rattle.solver.specs.Solved.{Sized, Solved};
 
-// The answer: the fullest arc gives the scale.
-fn answer(capacities: &[u64], loads: &[u64], p: Progress) -> Answer
-    requires { ⌜ Ranking (now loads) (now capacities) ⌝ }
-    ensures { λ r. ⌜ r ≡ answerOf (now (capacities .entry)) (now (loads .entry)) (fullest (now (capacities .entry)) (now (loads .entry)) (length (now (loads .entry)) - 1)) p ⌝ }
-{
-    let b = loads::fullest(loads, capacities);
-    Answer {
-        total: p.total,
-        capacity: capacities[b],
-        load: loads[b],
-        bound: p.bound,
-        alpha: p.alpha,
-        count: p.count,
-        best: p.best,
-    }
-}
-
-// No commodity is joined.
-fn unjoined() -> Answer
-    ensures { λ r. ⌜ r ≡ noAnswer ⌝ }
-{
-    Answer {
-        total: 0,
-        capacity: 1,
-        load: 1,
-        bound: 0,
-        alpha: 1,
-        count: 0,
-        best: 0,
-    }
-}
-
-// The outcome, with work space lent.
-fn solve_in(
+// The tables before the first choice: lengths at their start, zeros in the others. Most of the network is taken for the contract, which speaks of it.
+fn prepare(
     n: u64,
     q: u64,
     tails: &[u64],
@@ -58,24 +25,52 @@ fn solve_in(
     kept: &mut [u64],
     loads: &mut [u64],
     lengths: &mut [u64],
-    dist: &mut [u64],
-    path: &mut [u64],
-) -> Answer
+    bounds: &mut [u64],
+)
     requires lent { ⌜ Lent (networkOf n (now tails) (now heads) (now capacities) (now sources) (now sinks)) q ⌝ }
-    requires sized { ⌜ Sized (networkOf n (now tails) (now heads) (now capacities) (now sources) (now sinks)) (now flow) (now kept) (now loads) (now lengths) ⌝ }
-    requires space { ⌜ Space (length (now dist)) (length (now path)) ⌝ }
-    ensures { λ r. ⌜ Solved (networkOf n (now (tails .entry)) (now (heads .entry)) (now (capacities .entry)) (now (sources .entry)) (now (sinks .entry))) q r (now (flow .exit)) (now (kept .exit)) ⌝ }
+    requires sized { ⌜ Sized (networkOf n (now tails) (now heads) (now capacities) (now sources) (now sinks)) (now flow) (now kept) (now loads) (now lengths) (now bounds) ⌝ }
+    ensures { λ _. ⌜ Cleared (networkOf n (now (tails .entry)) (now (heads .entry)) (now (capacities .entry)) (now (sources .entry)) (now (sinks .entry))) (now (flow .exit)) (now (kept .exit)) (now (loads .exit)) (now (lengths .exit)) (now (bounds .exit)) ⌝ }
 {
     lengths::start(capacities, lengths);
     loads::clear(loads);
     loads::clear(flow);
     loads::clear(kept);
-    let first = paths::choose(n, tails, heads, lengths, sources, sinks, dist, path);
-    let distance = first.distance;
-    if distance >= paths::search::FAR {
-        return unjoined();
-    }
-    let p = runs::run(
+    loads::clear(bounds);
+}
+
+// The outcome, with work space lent: the lists of the arcs into and out of each node are made once.
+fn solve_in(
+    n: u64,
+    q: u64,
+    tails: &[u64],
+    heads: &[u64],
+    capacities: &[u64],
+    sources: &[u64],
+    sinks: &[u64],
+    first_in: &mut [u64],
+    next_in: &mut [u64],
+    first_out: &mut [u64],
+    next_out: &mut [u64],
+    flow: &mut [u64],
+    kept: &mut [u64],
+    loads: &mut [u64],
+    lengths: &mut [u64],
+    bounds: &mut [u64],
+    dist: &mut [u64],
+    front: &mut [u64],
+    listed: &mut [u64],
+    path: &mut [u64],
+) -> Answer
+    requires lent { ⌜ Lent (networkOf n (now tails) (now heads) (now capacities) (now sources) (now sinks)) q ⌝ }
+    requires sized { ⌜ Sized (networkOf n (now tails) (now heads) (now capacities) (now sources) (now sinks)) (now flow) (now kept) (now loads) (now lengths) (now bounds) ⌝ }
+    requires into { ⌜ Lists (length (now «first_in»)) (length (now «next_in»)) ⌝ }
+    requires out { ⌜ Lists (length (now «first_out»)) (length (now «next_out»)) ⌝ }
+    requires space { ⌜ Space (length (now dist)) (length (now front)) (length (now listed)) (length (now path)) ⌝ }
+    ensures { λ r. ⌜ Solved (networkOf n (now (tails .entry)) (now (heads .entry)) (now (capacities .entry)) (now (sources .entry)) (now (sinks .entry))) q r (now (flow .exit)) (now (kept .exit)) ⌝ }
+{
+    links::link(n, heads, first_in, next_in);
+    links::link(n, tails, first_out, next_out);
+    prepare(
         n,
         q,
         tails,
@@ -84,13 +79,33 @@ fn solve_in(
         sources,
         sinks,
         flow,
+        kept,
         loads,
         lengths,
-        kept,
-        dist,
-        path,
+        bounds,
     );
-    answer(capacities, loads, p)
+    outcome(
+        n,
+        q,
+        tails,
+        heads,
+        capacities,
+        sources,
+        sinks,
+        first_in,
+        next_in,
+        first_out,
+        next_out,
+        flow,
+        kept,
+        loads,
+        lengths,
+        bounds,
+        dist,
+        front,
+        listed,
+        path,
+    )
 }
 
 // The outcome of an accepted network, in tables of just its size.
@@ -111,9 +126,17 @@ pub fn solve(
     ensures { λ r. ⌜ Solved (networkOf n (now (tails .entry)) (now (heads .entry)) (now (capacities .entry)) (now (sources .entry)) (now (sinks .entry))) q r (now (flow .exit)) (now (kept .exit)) ⌝ }
 {
     let m = tails.len();
+    let k = sources.len();
+    let mut first_in = [0u64; 65];
+    let mut next_in = [0u64; 256];
+    let mut first_out = [0u64; 65];
+    let mut next_out = [0u64; 256];
     let mut loads = [0u64; 256];
     let mut lengths = [0u64; 256];
+    let mut bounds = [0u64; 32];
     let mut dist = [0u64; 65];
+    let mut front = [0u64; 64];
+    let mut listed = [0u64; 65];
     let mut path = [0u64; 64];
     solve_in(
         n,
@@ -123,11 +146,18 @@ pub fn solve(
         capacities,
         sources,
         sinks,
+        &mut first_in,
+        &mut next_in,
+        &mut first_out,
+        &mut next_out,
         flow,
         kept,
         &mut loads[..m],
         &mut lengths[..m],
+        &mut bounds[..k],
         &mut dist,
+        &mut front,
+        &mut listed,
         &mut path,
     )
 }

@@ -8,15 +8,17 @@ ghost use Prim.Native.Nat.{_+_, _<_, _^_};
 ghost use lib.ListN.{length};
 ghost use Rattle.method.specs.Choice.{choiceOf};
 ghost use Rattle.method.specs.Iteration.{advance};
-ghost use Rattle.solver.specs.Progress.{Stepping, stateOf, ofCapacities, counted};
+ghost use Rattle.solver.specs.Progress.{Stepping, stateOf, ofCapacities, counted, halves};
 
-// The drawn total, the count of iterations, and D, alpha and number of the iteration of the least D / alpha so far.
+// The drawn total, the count of iterations, and D, alpha and number of the iteration of the least D / alpha so far; and whether the last
+// iteration halved the lengths.
 pub struct Progress {
     pub total: u64,
     pub count: u64,
     pub bound: u64,
     pub alpha: u64,
     pub best: u64,
+    pub halved: bool,
 }
 
 // The lengths kept where they gave a better bound.
@@ -30,9 +32,9 @@ fn keep(better: bool, lengths: &[u64], kept: &mut [u64])
 }
 
 // One more iteration, with draw g and fraction d / alpha.
-fn count(p: Progress, g: u64, better: bool, d: u64, alpha: u64) -> Progress
+fn count(p: Progress, g: u64, better: bool, d: u64, alpha: u64, halved: bool) -> Progress
     requires { ⌜ (p .total + g < 2 ^ 64) × (p .count + 1 < 2 ^ 64) ⌝ }
-    ensures { λ r. ⌜ r ≡ counted p g better d alpha ⌝ }
+    ensures { λ r. ⌜ r ≡ counted p g better d alpha halved ⌝ }
 {
     let number = p.count + 1;
     if better {
@@ -42,6 +44,7 @@ fn count(p: Progress, g: u64, better: bool, d: u64, alpha: u64) -> Progress
             bound: d,
             alpha,
             best: number,
+            halved,
         }
     } else {
         Progress {
@@ -50,6 +53,7 @@ fn count(p: Progress, g: u64, better: bool, d: u64, alpha: u64) -> Progress
             bound: p.bound,
             alpha: p.alpha,
             best: p.best,
+            halved,
         }
     }
 }
@@ -68,7 +72,8 @@ pub fn step(
     p: Progress,
 ) -> Progress
     requires { ⌜ Stepping (now capacities) q commodity (now path) alpha (stateOf (now lengths) (now flow) (now loads) (now kept) p) ⌝ }
-    ensures { λ r. ⌜ stateOf (now (lengths .exit)) (now (flow .exit)) (now (loads .exit)) (now (kept .exit)) r ≡ advance (ofCapacities (now (capacities .entry))) q (choiceOf commodity (now (path .entry))) (stateOf (now (lengths .entry)) (now (flow .entry)) (now (loads .entry)) (now (kept .entry)) p) ⌝ }
+    ensures state { λ r. ⌜ stateOf (now (lengths .exit)) (now (flow .exit)) (now (loads .exit)) (now (kept .exit)) r ≡ advance (ofCapacities (now (capacities .entry))) q (choiceOf commodity (now (path .entry))) (stateOf (now (lengths .entry)) (now (flow .entry)) (now (loads .entry)) (now (kept .entry)) p) ⌝ }
+    ensures halved { λ r. ⌜ r .halved ≡ halves (now (capacities .entry)) q (now (path .entry)) (now (lengths .entry)) ⌝ }
 {
     let d = lengths::weight(capacities, lengths);
     let g = draws::draw(capacities, path);
@@ -78,6 +83,6 @@ pub fn step(
     draws::add(flow, row, path, g);
     draws::add(loads, 0, path, g);
     lengths::grow(lengths, capacities, q, g, path);
-    lengths::settle(lengths);
-    count(p, g, better, d, alpha)
+    let halved = lengths::settle(lengths);
+    count(p, g, better, d, alpha, halved)
 }

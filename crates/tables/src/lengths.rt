@@ -67,14 +67,17 @@ pub fn halve(lengths: &mut [u64])
     }
 }
 
-// Every length halved if some length has reached the mark.
-pub fn settle(lengths: &mut [u64])
+// Every length halved if some length has reached the mark; whether they were.
+pub fn settle(lengths: &mut [u64]) -> bool
     requires { ⌜ Under (2 ^ 41) (now lengths) ⌝ }
-    ensures { λ _. ⌜ now (lengths .exit) ≡ cond (exists (length (now (lengths .entry))) (λ e. leb mark (getD (now (lengths .entry)) e 0))) (map halving (now (lengths .entry))) (now (lengths .entry)) ⌝ }
+    ensures marked { λ r. ⌜ r ≡ exists (length (now (lengths .entry))) (λ e. leb mark (getD (now (lengths .entry)) e 0)) ⌝ }
+    ensures settled { λ r. ⌜ now (lengths .exit) ≡ cond (exists (length (now (lengths .entry))) (λ e. leb mark (getD (now (lengths .entry)) e 0))) (map halving (now (lengths .entry))) (now (lengths .entry)) ⌝ }
 {
     if marked(lengths) {
         halve(lengths);
+        return true;
     }
+    false
 }
 
 // D: the sum over all arcs of capacity times length.

@@ -5,9 +5,9 @@ use Prim.Native.Nat.{_-_}
 use native.Mathlib.Omega.{arith}
 use lib.ListN.{length}
 use borrow.Author.Needs.{needs}
+use Rattle.arith.proofs.Until.{scan-within, scan-later, scan-between}
 use Rattle.dimacs.specs.Result.{resultOf}
 use Rattle.dimacs.proofs.LineByLine.{ReadTo, none-read, line-read, all-read, long-file}
-use Rattle.dimacs.proofs.Until.{scan-within, scan-later, scan-between}
 use Rattle.dimacs.proofs.reader.read.Statement.{statement}
 use Rattle.dimacs.proofs.reader.read.Tie as tie
 

@@ -5,8 +5,9 @@ use Prim.Native.Nat.{_-_}
 use native.Mathlib.Omega.{arith}
 use lib.ListN.{length}
 use borrow.Author.Needs.{needs}
-use Rattle.dimacs.specs.Scan.{scan, stops}
-use Rattle.dimacs.proofs.Until.{scan-on, scan-found, scan-ended}
+use Rattle.arith.specs.Lists.{scan}
+use Rattle.arith.proofs.Until.{scan-on, scan-found, scan-ended}
+use Rattle.dimacs.specs.Scan.{stops}
 use Rattle.dimacs.proofs.words.scan.Statement.{statement}
 use Rattle.dimacs.proofs.words.scan.Tie as tie
 

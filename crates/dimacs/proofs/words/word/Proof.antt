@@ -4,10 +4,10 @@ use mathlib.Core.Path.{ap, _∙_}
 use Prim.Native.Nat.{_-_, _≤_}
 use native.Mathlib.Omega.{arith}
 use borrow.Author.Needs.{needs}
+use Rattle.arith.proofs.Until.{scan-within}
 use Rattle.dimacs.specs.Meaning.{word}
 use Rattle.dimacs.specs.Pieces.{wordsOf}
 use Rattle.dimacs.proofs.Split.{WordStart, first-start, word-there, next-start}
-use Rattle.dimacs.proofs.Until.{scan-within}
 use Rattle.dimacs.proofs.words.word.Statement.{statement}
 use Rattle.dimacs.proofs.words.word.Tie as tie
 

@@ -1,91 +1,150 @@
--- `paths::search::distances` meets its contract: the entries stay labels, their sum falls with each sweep that changes one, and at rest they are the distances.
+-- `paths::search::distances` meets its contract: a node is put on the list only where an entry falls, and each turn takes one off; so it ends, with none.
 -- Assumes nothing.
-use mathlib.Core.Path.{_≡_, refl, sym, _∙_}
-use mathlib.Core.Bool.{Bool, true, false}
+use mathlib.Core.Path.{_≡_, refl, sym, ap, _∙_}
 use mathlib.Core.List.{List, _++_}
-use Prim.Native.Nat.{ℕ, _+_, _<_}
+use Prim.Native.Nat.{ℕ, _+_}
+use native.Mathlib.Nat.{le-refl}
 use native.Mathlib.Omega.{arith}
-use lib.ListN.{length, drop, set, replicate}
+use lib.ListN.{length, set, drop, replicate}
 use Rattle.network.specs.Ends.{Node}
 use Rattle.network.specs.Network.{Network, arcs}
 use Rattle.paths.specs.Far.{far}
-use Rattle.paths.specs.Graph.{graph, Fit, Table}
-use Rattle.paths.specs.Relax.{swept, changed}
-use Rattle.paths.proofs.Fars.{labels-start}
-use Rattle.paths.proofs.Labels.{Labels, labels-relaxed, labels-rest}
-use Rattle.paths.proofs.Rests.{swept-same, swept-rest}
-use Rattle.paths.proofs.Sweeps.{total, swept-keeps, swept-size, swept-falls}
+use Rattle.paths.specs.Frontier.{Frontier}
+use Rattle.paths.specs.Graph.{graph, Fit}
+use Rattle.paths.specs.Listing.{Listing, Enlisted}
+use Rattle.paths.specs.Searching.{total, Searching}
+use Rattle.paths.proofs.Fars.{searching-start}
+use Rattle.paths.proofs.Filled.{filled-at}
+use Rattle.paths.proofs.Listings.{listing-empty, listing-within}
+use Rattle.paths.proofs.Searches.{searching-any, searching-out, searching-end}
 use Rattle.paths.proofs.search.distances.Statement.{statement}
 use Rattle.paths.proofs.search.distances.Tie as tie
 
--- the entries are labels, in a table as large as at first, which the slices fit
-record Searching (net : Network) (l old new : List ℕ) (t : ℕ) : Type 0 where
-  size : length new ≡ length old
-  fit : Fit net l (length old)
-  labels : Labels net l new t far
+-- no arc into a node that is not on the list shortens, in tables as large as at first
+record Searched (net : Network) (l : List ℕ) (t : ℕ) (dist₀ front₀ listed₀ dist front listed : List ℕ) (size : ℕ) : Type 0 where
+  searching : Searching net l t t (arcs net) dist front listed size
+  dists : length dist ≡ length dist₀
+  fronts : length front ≡ length front₀
+  flags : length listed ≡ length listed₀
 
 abbrev Inv-loop : tie.InvT-loop
-Inv-loop n tails heads lengths sink dist₀ dist = Searching (graph n tails heads) lengths dist₀ dist sink
+Inv-loop n tails heads lengths first-in next-in sink dist₀ front₀ listed₀ size₀ dist front listed size =
+    Searched (graph n tails heads) lengths sink dist₀ front₀ listed₀ dist front listed size
 
 abbrev μ-loop : tie.MeasureT-loop
-μ-loop n tails heads lengths sink dist₀ dist = total (graph n tails heads) dist
+μ-loop n tails heads lengths first-in next-in sink dist₀ front₀ listed₀ size₀ dist front listed size = total (graph n tails heads) dist + size
 
-started :
-    {net : Network} {l new : List ℕ} {t : ℕ} (old : List ℕ) → Fit net l (length old) → Node net t → length new ≡ length old →
-    new ≡ set (replicate (net .nodes + 1) far ++ drop (net .nodes + 1) old) t 0 → Searching net l new new t
-started {net} {l} {t = t} old f node s q =
-    record { size = refl; fit = rw s f; labels = rw q (labels-start net l (drop (net .nodes + 1) old) t far (node .1)) }
+begun :
+    {net : Network} {l new : List ℕ} {t : ℕ} (old : List ℕ) {flags front listed : List ℕ} {size r : ℕ} → Fit net l (length old) → Node net t →
+    length new ≡ length old → new ≡ set (replicate (net .nodes + 1) far ++ drop (net .nodes + 1) old) t 0 →
+    Enlisted (net .nodes) flags size t front listed r → Searching net l t t (arcs net) new front listed r
+begun {net} {l} {t = t} old f node s q E =
+    rw q (searching-start net l (drop (net .nodes + 1) old) t (node .1) (rw (sym (ap length q) ∙ s) f) E)
 
-module _ {net : Network} {l old new x : List ℕ} {t : ℕ} (S : Searching net l old new t) (w : x ≡ swept net l new (arcs net)) where
-  swept-on : Searching net l old x t
-  swept-on =
-      rw w
-      (record {
-        size = swept-size net l new (arcs net) ∙ S .size;
-        fit = S .fit;
-        labels = swept-keeps net l new (λ y. Labels net l y t far) (arcs net) (λ y e b. labels-relaxed net l y e b) (S .labels);
-      })
+cleared :
+    {n : ℕ} {front new : List ℕ} (old : List ℕ) → Frontier n (length front) (length old) → length new ≡ length old →
+    new ≡ replicate (n + 1) 0 ++ drop (n + 1) old → Listing n front new 0
+cleared {n} {front} old F s q =
+    listing-empty (rw s F) (rw q (filled-at n 0 (drop (n + 1) old)))
 
-  sum-less : {r : Bool} → r ≡ changed net l new (arcs net) → r ≡ true → total net x < total net new
-  sum-less c h =
-      rw w
-      (swept-falls net l new (arcs net) (λ e b. S .fit .ends .tails e b .1) (omega (arith, S .size, S .fit .room)) (sym c ∙ h))
+-- from each call back to the one before it, and from the first to the function's entry
+abbrev entry : tie.After-reset Inv-loop μ-loop → tie.Start Inv-loop μ-loop
+entry c = c .before .before .before .before .before .before .before .before .before .before
 
-  at-rest : {r : Bool} → r ≡ changed net l new (arcs net) → r ≡ false → Table net l x t far
-  at-rest c h =
-      rw (w ∙ swept-same net l new (arcs net) (sym c ∙ h))
-      (record { distances = labels-rest (S .labels) (swept-rest net l new (arcs net) (sym c ∙ h)); capped = S .labels .capped })
+abbrev reset-at : tie.After-fill Inv-loop μ-loop → tie.After-reset Inv-loop μ-loop
+reset-at c = c .before .before .before .before
+
+abbrev fill-at : tie.After-enlist Inv-loop μ-loop → tie.After-fill Inv-loop μ-loop
+fill-at c = c .before .before .before .before .before
+
+abbrev enlist-at : tie.At-loop Inv-loop μ-loop → tie.After-enlist Inv-loop μ-loop
+enlist-at c = c .before .before .before .before .before
+
+abbrev turn : tie.After-take-out Inv-loop μ-loop → tie.In-loop Inv-loop μ-loop
+turn c = c .before .before .before .before .before .before
+
+abbrev take-out-at : tie.After-relax-into Inv-loop μ-loop → tie.After-take-out Inv-loop μ-loop
+take-out-at c = c .before .before .before .before .before .before .before .before
 
 reset-requires : tie.Need-reset-requires Inv-loop μ-loop
-reset-requires c κs = let s : tie.Start Inv-loop μ-loop = c .before .before .before .before .before in (s .pre .0 .room, s .pre .1 .1)
+reset-requires c κs = let s = c .before .before .before .before .before .before .before .before .before in (s .pre .0 .room, s .pre .1 .0 .1)
+
+fill-requires : tie.Need-fill-requires Inv-loop μ-loop
+fill-requires c κs = entry (c .before .before .before) .pre .1 .1 .1 .listed
+
+enlist-requires : tie.Need-enlist-requires Inv-loop μ-loop
+enlist-requires c κs =
+    let F = c .before .before .before .before in
+    let s = entry (reset-at F) in
+    (cleared (s .args .listed .now) (s .pre .1 .1 .1) (F .fill .kept .1 .1 .0) (F .fill .ensures), s .pre .1 .0)
 
 loop-holds : tie.Need-loop-holds Inv-loop μ-loop
 loop-holds c =
-    let s : tie.Start Inv-loop μ-loop = c .before .before .before .before .before .before .before .before in
-    let r = c .before .before .reset in
-    started (s .args .dist .now) (s .pre .0) (s .pre .1) (r .kept .1 .1 .0) (r .ensures)
+    let E = c .before .before .before .before in
+    let R = reset-at (fill-at E) in
+    let s = entry R in
+    record {
+      searching = begun (s .args .dist .now) (s .pre .0) (s .pre .1 .0) (R .reset .kept .1 .1 .0) (R .reset .ensures) (E .enlist .ensures);
+      dists = refl;
+      fronts = refl;
+      flags = refl;
+    }
 
-sweep-requires : tie.Need-sweep-requires Inv-loop μ-loop
-sweep-requires c κs = let S = c .before .loop .inv in (rw (S .size) (S .fit), S .labels .capped)
+nearest-requires : tie.Need-nearest-requires Inv-loop μ-loop
+nearest-requires c κs =
+    let t = c .before .before in
+    let S = t .before .loop .inv .searching in (
+      omega (arith, t .loop-test .taken),
+      (
+        omega (arith, listing-within (S .listing), S .listing .room .front),
+        λ i b. omega (arith, S .listing .nodes i b, S .fit .room),
+      ),
+    )
+
+take-out-requires : tie.Need-take-out-requires Inv-loop μ-loop
+take-out-requires c κs = (c .before .before .before .before .before .before .loop .inv .searching .listing, c .before .before .nearest .ensures)
+
+sub-relax-into : tie.Need-sub-relax-into Inv-loop μ-loop
+sub-relax-into c = omega (arith, turn (c .before .before .before .before .before .before .before) .loop-test .taken)
+
+relax-into-requires : tie.Need-relax-into-requires Inv-loop μ-loop
+relax-into-requires c κs =
+    let T = c .before .before .before .before .before .before .before in
+    let t = turn T in
+    let s = entry (reset-at (fill-at (enlist-at (t .before)))) in
+    (searching-out (t .before .loop .inv .searching) (le-refl _) (T .take-out .ensures), (s .pre .1 .1 .0, T .take-out .ensures .node .1))
 
 loop-less : tie.Need-loop-less Inv-loop μ-loop
 loop-less c =
-    let r = c .before .before .before .sweep in
-    sum-less (c .before .before .before .before .before .loop .inv) (r .ensures .1) (r .ensures .0) (c .if1 .taken)
+    let R = c .before .before .before .before .before .before in
+    omega (arith, R .relax-into .ensures .weight, turn (take-out-at R) .loop-test .taken)
 
 loop-again : tie.Need-loop-again Inv-loop μ-loop
-loop-again c = swept-on (c .before .before .before .before .before .loop .inv) (c .before .before .before .sweep .ensures .1)
+loop-again c =
+    let R = c .before .before .before .before .before .before in
+    let T = take-out-at R in
+    let I = turn T .before .loop .inv in
+    let k = R .relax-into .kept in
+    record {
+      searching = searching-any (R .relax-into .ensures .searching) (le-refl _) _;
+      dists = k .1 .1 .1 .1 .1 .1 .1 .1 .0 ∙ I .dists;
+      fronts = k .1 .1 .1 .1 .1 .1 .1 .1 .1 .0 ∙ (T .take-out .kept .1 .1 .0 ∙ I .fronts);
+      flags = k .1 .1 .1 .1 .1 .1 .1 .1 .1 .1 .0 ∙ (T .take-out .kept .1 .1 .1 .0 ∙ I .flags);
+    }
 
 same-length : tie.Need-same-length Inv-loop μ-loop
-same-length c =
-    c .before .before .before .sweep .kept .1 .1 .1 .1 .0 ∙
-    (c .before .before .before .before .before .loop .inv .size ∙
-    c .before .before .before .before .before .before .before .before .reset .kept .1 .1 .0)
+same-length c = c .before .loop .inv .dists ∙ reset-at (fill-at (enlist-at (c .before))) .reset .kept .1 .1 .0
+
+same-length-2 : tie.Need-same-length-2 Inv-loop μ-loop
+same-length-2 c = c .before .loop .inv .fronts ∙ enlist-at (c .before) .enlist .kept .1 .1 .0
+
+same-length-3 : tie.Need-same-length-3 Inv-loop μ-loop
+same-length-3 c =
+    let E = enlist-at (c .before) in
+    c .before .loop .inv .flags ∙ (E .enlist .kept .1 .1 .1 .0 ∙ fill-at E .fill .kept .1 .1 .0)
 
 returns : tie.Need-returns Inv-loop μ-loop
-returns c =
-    let r = c .before .before .before .sweep in
-    at-rest (c .before .before .before .before .before .loop .inv) (r .ensures .1) (r .ensures .0) (c .if1 .left)
+returns c = searching-end (c .before .loop .inv .searching) (le-refl _) (c .loop-test .left)
 
 pub distances-spec : {M : Type 1} → statement M
 distances-spec =
@@ -94,9 +153,16 @@ distances-spec =
     Inv-loop
     μ-loop
     reset-requires
+    fill-requires
+    enlist-requires
     loop-holds
-    sweep-requires
+    nearest-requires
+    take-out-requires
+    sub-relax-into
+    relax-into-requires
     loop-less
     loop-again
     same-length
+    same-length-2
+    same-length-3
     returns)

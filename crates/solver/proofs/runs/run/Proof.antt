@@ -10,6 +10,8 @@ use Rattle.length.proofs.Bounds.{threshold-most}
 use Rattle.network.specs.Network.{Network, arcs}
 use Rattle.method.specs.Iteration.{State, iteration}
 use Rattle.method.specs.Run.{ended, run}
+use Rattle.choice.specs.Below.{Below}
+use Rattle.choice.specs.Search.{bare}
 use Rattle.solver.specs.Progress.{stateOf}
 use Rattle.solver.specs.Runs.{networkOf}
 use Rattle.solver.proofs.Running.{left, Running, running-start, running-less, running-last, running-next, ended-is}
@@ -18,12 +20,13 @@ use Rattle.solver.proofs.runs.run.Statement.{statement}
 use Rattle.solver.proofs.runs.run.Tie as tie
 
 abbrev Inv-loop : tie.InvT-loop
-Inv-loop n q tails heads capacities sources sinks flow₀ loads₀ lengths₀ kept₀ dist₀ path₀ threshold p₀ flow loads lengths kept dist path p =
+Inv-loop n q tails heads capacities sources sinks first-in next-in first-out next-out flow₀ loads₀ lengths₀ kept₀ bounds₀ dist₀ front₀ listed₀ path₀ threshold p₀ flow loads lengths kept bounds dist front listed path p =
     Running (networkOf n tails heads capacities sources sinks) q (stateOf lengths flow loads kept p) ×
-    Same flow₀ loads₀ lengths₀ kept₀ dist₀ path₀ flow loads lengths kept dist path
+    (Below (bare n tails heads sources sinks) lengths bounds ×
+    Same flow₀ loads₀ lengths₀ kept₀ dist₀ front₀ listed₀ path₀ flow loads lengths kept dist front listed path)
 
 abbrev μ-loop : tie.MeasureT-loop
-μ-loop n q tails heads capacities sources sinks flow₀ loads₀ lengths₀ kept₀ dist₀ path₀ threshold p₀ flow loads lengths kept dist path p =
+μ-loop n q tails heads capacities sources sinks first-in next-in first-out next-out flow₀ loads₀ lengths₀ kept₀ bounds₀ dist₀ front₀ listed₀ path₀ threshold p₀ flow loads lengths kept bounds dist front listed path p =
     left (networkOf n tails heads capacities sources sinks) q (stateOf lengths flow loads kept p)
 
 -- the network at entry
@@ -34,7 +37,7 @@ net s =
 
 threshold-requires : tie.Need-threshold-requires Inv-loop μ-loop
 threshold-requires c κs =
-    let k = c .before .before .before .before .before .before .before .before .before .before .before .pre .0 .sound .counts in
+    let k = c .before .before .before .before .before .before .before .before .before .before .before .before .before .before .before .before .before .before .pre .0 .sound .counts in
     (k .of-arcs .least, k .of-arcs .most, k .precision .least, k .precision .most)
 
 begin-requires : tie.Need-begin-requires Inv-loop μ-loop
@@ -42,100 +45,118 @@ begin-requires c κs = tt
 
 loop-holds : tie.Need-loop-holds Inv-loop μ-loop
 loop-holds c =
-    let s = c .before .before .before .before .before .before .before .before .before .before .before .before .before in (
-      rw (c .begin .ensures, s .pre .1 .1 .1) (running-start (net s) (s .args .q) (s .pre .0 .sound)),
-      record { flows = refl; loadings = refl; lengthens = refl; keeps = refl; dists = refl; paths = refl },
+    let s = c .before .before .before .before .before .before .before .before .before .before .before .before .before .before .before .before .before .before .before .before in (
+      rw (c .begin .ensures, s .pre .1 .1 .1 .1 .1 .1) (running-start (net s) (s .args .q) (s .pre .0 .sound)),
+      (
+        s .pre .1 .1 .1 .1 .0,
+        record { flows = refl; loadings = refl; lengthens = refl; keeps = refl; dists = refl; fronts = refl; listings = refl; paths = refl },
+      ),
     )
 
 iterate-requires : tie.Need-iterate-requires Inv-loop μ-loop
 iterate-requires c κs =
-    let s = c .before .before .before .before .before .before .before .before .before .before .before .before .before .before .before .before .before .before .before .before in
-    let i = c .before .before .before .before .before .before .loop .inv in (
-      s .pre .0,
+    let p = c .before .before .before .before .before .before .before .before .before .before .before .before .before .before .before .before .before .before .before .before .before .before .before .before .before .before .before .before .before .before .pre in
+    let i = c .before .before .before .before .before .before .before .before .before .loop .inv in
+    let same = i .1 .1 in (
+      p .0,
       (
-        record { dist = omega (arith, i .1 .dists, s .pre .1 .0 .dist); path = omega (arith, i .1 .paths, s .pre .1 .0 .path) },
-        (s .pre .1 .1 .0, i .0 .reached),
+        record {
+          dist = omega (arith, same .dists, p .1 .0 .dist);
+          front = omega (arith, same .fronts, p .1 .0 .front);
+          listed = omega (arith, same .listings, p .1 .0 .listed);
+          path = omega (arith, same .paths, p .1 .0 .path);
+        },
+        (p .1 .1 .0, (p .1 .1 .1 .0, (i .1 .0, (p .1 .1 .1 .1 .1 .0, i .0 .reached)))),
       ),
     )
 
--- the state before an iteration, and after it
-abbrev old : (c : tie.After-iterate Inv-loop μ-loop) → State
-old c = let l = c .before .before .before .before .before .before .before .loop in stateOf (l .lengths) (l .flow) (l .loads) (l .kept) (l .p)
+-- behind an iteration: the function's entry, the loop's beginning, the threshold; the state before the iteration, and after it
+abbrev entry : tie.After-iterate Inv-loop μ-loop → tie.Start Inv-loop μ-loop
+entry c = c .before .before .before .before .before .before .before .before .before .before .before .before .before .before .before .before .before .before .before .before .before .before .before .before .before .before .before .before .before .before .before
 
-abbrev new : (c : tie.After-iterate Inv-loop μ-loop) → State
-new c =
-    let l = c .iterate .last in
-    stateOf (l .1 .1 .1 .1 .1 .1 .1 .1 .1 .0) (l .1 .1 .1 .1 .1 .1 .1 .0) (l .1 .1 .1 .1 .1 .1 .1 .1 .0) (l .1 .1 .1 .1 .1 .1 .1 .1 .1 .1 .0) (c .iterate .result)
+abbrev turn : tie.After-iterate Inv-loop μ-loop → tie.At-loop Inv-loop μ-loop
+turn c = c .before .before .before .before .before .before .before .before .before .before
 
-is-next : (c : tie.After-iterate Inv-loop μ-loop) → new c ≡ iteration (net (c .before .before .before .before .before .before .before .before .before .before .before .before .before .before .before .before .before .before .before .before .before)) (c .before .before .before .before .before .before .before .before .before .before .before .before .before .before .before .before .before .before .before .before .before .args .q) (old c)
-is-next c = c .iterate .ensures
+abbrev mark : tie.After-iterate Inv-loop μ-loop → tie.After-threshold Inv-loop μ-loop
+mark c = c .before .before .before .before .before .before .before .before .before .before .before .before
 
-loaded : (c : tie.After-iterate Inv-loop μ-loop) → length (new c .loads) ≡ arcs (net (c .before .before .before .before .before .before .before .before .before .before .before .before .before .before .before .before .before .before .before .before .before))
-loaded c = c .iterate .kept .1 .1 .1 .1 .1 .1 .1 .1 .0 ∙ c .before .before .before .before .before .before .before .loop .inv .0 .reached .valid .table .places
+abbrev old : tie.After-iterate Inv-loop μ-loop → State
+old c = let l = turn c .loop in stateOf (l .lengths) (l .flow) (l .loads) (l .kept) (l .p)
 
-marked : (c : tie.After-iterate Inv-loop μ-loop) → c .before .before .before .before .before .before .before .before .before .threshold .result ≤ 1472
+abbrev new : tie.After-iterate Inv-loop μ-loop → State
+new c = let l = c .iterate .last in stateOf (l .1 .1 .1 .1 .1 .1 .1 .1 .1 .1 .1 .1 .1 .0) (l .1 .1 .1 .1 .1 .1 .1 .1 .1 .1 .1 .0) (l .1 .1 .1 .1 .1 .1 .1 .1 .1 .1 .1 .1 .0) (l .1 .1 .1 .1 .1 .1 .1 .1 .1 .1 .1 .1 .1 .1 .0) (c .iterate .result)
+
+is-next : (c : tie.After-iterate Inv-loop μ-loop) → new c ≡ iteration (net (entry c)) (entry c .args .q) (old c)
+is-next c = c .iterate .ensures .0
+
+loaded : (c : tie.After-iterate Inv-loop μ-loop) → length (new c .loads) ≡ arcs (net (entry c))
+loaded c = c .iterate .kept .1 .1 .1 .1 .1 .1 .1 .1 .1 .1 .1 .1 .0 ∙ turn c .loop .inv .0 .reached .valid .table .places
+
+marked : (c : tie.After-iterate Inv-loop μ-loop) → mark c .threshold .result ≤ 1472
 marked c =
-    let k = c .before .before .before .before .before .before .before .before .before .before .before .before .before .before .before .before .before .before .before .before .before .pre .0 .sound .counts in
-    rw (c .before .before .before .before .before .before .before .before .before .threshold .ensures)
-    (threshold-most (arcs (net (c .before .before .before .before .before .before .before .before .before .before .before .before .before .before .before .before .before .before .before .before .before))) (c .before .before .before .before .before .before .before .before .before .before .before .before .before .before .before .before .before .before .before .before .before .args .q) (k .of-arcs .least) (k .of-arcs .most) (k .precision .least) (k .precision .most))
+    let s = entry c in
+    let k = s .pre .0 .sound .counts in
+    rw (mark c .threshold .ensures)
+    (threshold-most (arcs (net s)) (s .args .q) (k .of-arcs .least) (k .of-arcs .most) (k .precision .least) (k .precision .most))
 
 ended-requires : tie.Need-ended-requires Inv-loop μ-loop
 ended-requires c κs =
-    let f = c .before .before .before .before .before .before .before .before .before .before .before .before .before in
-    let a = c .before .before .before .before .before .before .before .before .before .before .before .before .before .before .before .before .before .before .before .before .before .before .before .before .before .before .before .before .before .before .before .before .before .before .pre .0 in
+    let f = c .before .before .before .before .before .before .before .before .before .before .before .before .before .before .before .before .before .before .before in
+    let a = entry f .pre .0 in
     record {
       same = loaded f ∙ sym (a .capacities);
       small = omega (arith, marked f);
       sizes = λ e l. a .sound .arc-capacity e (omega (arith, a .capacities)) .most;
     }
 
--- what the test of the loads says of the next state
-tested : (c : tie.After-ended Inv-loop μ-loop) → ended (net (c .before .before .before .before .before .before .before .before .before .before .before .before .before .before .before .before .before .before .before .before .before .before .before .before .before .before .before .before .before .before .before .before .before .before .before)) (c .before .before .before .before .before .before .before .before .before .before .before .before .before .before .before .before .before .before .before .before .before .before .before .before .before .before .before .before .before .before .before .before .before .before .before .args .q) (iteration (net (c .before .before .before .before .before .before .before .before .before .before .before .before .before .before .before .before .before .before .before .before .before .before .before .before .before .before .before .before .before .before .before .before .before .before .before)) (c .before .before .before .before .before .before .before .before .before .before .before .before .before .before .before .before .before .before .before .before .before .before .before .before .before .before .before .before .before .before .before .before .before .before .before .args .q) (old (c .before .before .before .before .before .before .before .before .before .before .before .before .before .before))) ≡ c .ended .result
-tested c =
-    let s = c .before .before .before .before .before .before .before .before .before .before .before .before .before .before .before .before .before .before .before .before .before .before .before .before .before .before .before .before .before .before .before .before .before .before .before in
-    let f = c .before .before .before .before .before .before .before .before .before .before .before .before .before .before in
-    rw (← (is-next f)) (sym (c .ended .ensures ∙ ended-is (net s) (s .args .q) (new f) (c .before .before .before .before .before .before .before .before .before .before .before .before .before .before .before .before .before .before .before .before .before .before .before .threshold .result) (loaded f) (c .before .before .before .before .before .before .before .before .before .before .before .before .before .before .before .before .before .before .before .before .before .before .before .threshold .ensures)))
-
 module _ (c : tie.After-ended Inv-loop μ-loop) where
+  abbrev f : tie.After-iterate Inv-loop μ-loop
+  f = c .before .before .before .before .before .before .before .before .before .before .before .before .before .before .before .before .before .before .before .before
+
   abbrev s : tie.Start Inv-loop μ-loop
-  s = c .before .before .before .before .before .before .before .before .before .before .before .before .before .before .before .before .before .before .before .before .before .before .before .before .before .before .before .before .before .before .before .before .before .before .before
+  s = entry f
 
-  running : Running (net s) (s .args .q) (old (c .before .before .before .before .before .before .before .before .before .before .before .before .before .before))
-  running = c .before .before .before .before .before .before .before .before .before .before .before .before .before .before .before .before .before .before .before .before .before .loop .inv .0
+  -- what the test of the loads says of the next state
+  tested : ended (net s) (s .args .q) (iteration (net s) (s .args .q) (old f)) ≡ c .ended .result
+  tested =
+      rw (← (is-next f))
+      (sym (c .ended .ensures ∙ ended-is (net s) (s .args .q) (new f) (mark f .threshold .result) (loaded f) (mark f .threshold .ensures)))
 
-  less : left (net s) (s .args .q) (new (c .before .before .before .before .before .before .before .before .before .before .before .before .before .before)) < left (net s) (s .args .q) (old (c .before .before .before .before .before .before .before .before .before .before .before .before .before .before))
-  less = rw (is-next (c .before .before .before .before .before .before .before .before .before .before .before .before .before .before)) (running-less (net s) (s .args .q) (s .pre .0 .sound) (s .pre .1 .1 .0) (old (c .before .before .before .before .before .before .before .before .before .before .before .before .before .before)) running)
+  running : Running (net s) (s .args .q) (old f)
+  running = turn f .loop .inv .0
 
-  again : c .ended .result ≡ false → Running (net s) (s .args .q) (new (c .before .before .before .before .before .before .before .before .before .before .before .before .before .before))
+  less : left (net s) (s .args .q) (new f) < left (net s) (s .args .q) (old f)
+  less = rw (is-next f) (running-less (net s) (s .args .q) (s .pre .0 .sound) (s .pre .1 .1 .1 .1 .1 .0) (old f) running)
+
+  again : c .ended .result ≡ false → Running (net s) (s .args .q) (new f)
   again h =
-      rw (is-next (c .before .before .before .before .before .before .before .before .before .before .before .before .before .before))
-      (running-next (net s) (s .args .q) (s .pre .0 .sound) (s .pre .1 .1 .0) (old (c .before .before .before .before .before .before .before .before .before .before .before .before .before .before)) running (tested c ∙ h))
+      rw (is-next f) (running-next (net s) (s .args .q) (s .pre .0 .sound) (s .pre .1 .1 .1 .1 .1 .0) (old f) running (tested ∙ h))
 
-  last : c .ended .result ≡ true → new (c .before .before .before .before .before .before .before .before .before .before .before .before .before .before) ≡ run (net s) (s .args .q)
-  last h =
-      is-next (c .before .before .before .before .before .before .before .before .before .before .before .before .before .before) ∙
-      running-last (net s) (s .args .q) (s .pre .0 .sound) (s .pre .1 .1 .0) (old (c .before .before .before .before .before .before .before .before .before .before .before .before .before .before)) running (tested c ∙ h)
+  last : c .ended .result ≡ true → new f ≡ run (net s) (s .args .q)
+  last h = is-next f ∙ running-last (net s) (s .args .q) (s .pre .0 .sound) (s .pre .1 .1 .1 .1 .1 .0) (old f) running (tested ∙ h)
 
-  sizes : let z = s .args in let l = c .before .before .before .before .before .before .before .before .before .before .before .before .before .before .iterate .last in
-      Same (now (z .flow)) (now (z .loads)) (now (z .lengths)) (now (z .kept)) (now (z .dist)) (now (z .path)) (l .1 .1 .1 .1 .1 .1 .1 .0) (l .1 .1 .1 .1 .1 .1 .1 .1 .0) (l .1 .1 .1 .1 .1 .1 .1 .1 .1 .0)
-      (l .1 .1 .1 .1 .1 .1 .1 .1 .1 .1 .0) (l .1 .1 .1 .1 .1 .1 .1 .1 .1 .1 .1 .0) (l .1 .1 .1 .1 .1 .1 .1 .1 .1 .1 .1 .1 .0)
+  sizes : let z = s .args in let l = f .iterate .last in
+      Same (now (z .flow)) (now (z .loads)) (now (z .lengths)) (now (z .kept)) (now (z .dist)) (now (z .front)) (now (z .listed)) (now (z .path))
+      (l .1 .1 .1 .1 .1 .1 .1 .1 .1 .1 .1 .0) (l .1 .1 .1 .1 .1 .1 .1 .1 .1 .1 .1 .1 .0) (l .1 .1 .1 .1 .1 .1 .1 .1 .1 .1 .1 .1 .1 .0) (l .1 .1 .1 .1 .1 .1 .1 .1 .1 .1 .1 .1 .1 .1 .0) (l .1 .1 .1 .1 .1 .1 .1 .1 .1 .1 .1 .1 .1 .1 .1 .1 .0) (l .1 .1 .1 .1 .1 .1 .1 .1 .1 .1 .1 .1 .1 .1 .1 .1 .1 .0) (l .1 .1 .1 .1 .1 .1 .1 .1 .1 .1 .1 .1 .1 .1 .1 .1 .1 .1 .0) (l .1 .1 .1 .1 .1 .1 .1 .1 .1 .1 .1 .1 .1 .1 .1 .1 .1 .1 .1 .0)
   sizes =
-      let k = c .before .before .before .before .before .before .before .before .before .before .before .before .before .before .iterate .kept in
-      let i = c .before .before .before .before .before .before .before .before .before .before .before .before .before .before .before .before .before .before .before .before .before .loop .inv .1 in
+      let k = f .iterate .kept in
+      let i = turn f .loop .inv .1 .1 in
       record {
-        flows = k .1 .1 .1 .1 .1 .1 .1 .0 ∙ i .flows;
-        loadings = k .1 .1 .1 .1 .1 .1 .1 .1 .0 ∙ i .loadings;
-        lengthens = k .1 .1 .1 .1 .1 .1 .1 .1 .1 .0 ∙ i .lengthens;
-        keeps = k .1 .1 .1 .1 .1 .1 .1 .1 .1 .1 .0 ∙ i .keeps;
-        dists = k .1 .1 .1 .1 .1 .1 .1 .1 .1 .1 .1 .0 ∙ i .dists;
-        paths = k .1 .1 .1 .1 .1 .1 .1 .1 .1 .1 .1 .1 .0 ∙ i .paths;
+        flows = k .1 .1 .1 .1 .1 .1 .1 .1 .1 .1 .1 .0 ∙ i .flows;
+        loadings = k .1 .1 .1 .1 .1 .1 .1 .1 .1 .1 .1 .1 .0 ∙ i .loadings;
+        lengthens = k .1 .1 .1 .1 .1 .1 .1 .1 .1 .1 .1 .1 .1 .0 ∙ i .lengthens;
+        keeps = k .1 .1 .1 .1 .1 .1 .1 .1 .1 .1 .1 .1 .1 .1 .0 ∙ i .keeps;
+        dists = k .1 .1 .1 .1 .1 .1 .1 .1 .1 .1 .1 .1 .1 .1 .1 .1 .0 ∙ i .dists;
+        fronts = k .1 .1 .1 .1 .1 .1 .1 .1 .1 .1 .1 .1 .1 .1 .1 .1 .1 .0 ∙ i .fronts;
+        listings = k .1 .1 .1 .1 .1 .1 .1 .1 .1 .1 .1 .1 .1 .1 .1 .1 .1 .1 .0 ∙ i .listings;
+        paths = k .1 .1 .1 .1 .1 .1 .1 .1 .1 .1 .1 .1 .1 .1 .1 .1 .1 .1 .1 .0 ∙ i .paths;
       }
 
 loop-less : tie.Need-loop-less Inv-loop μ-loop
 loop-less c = less (c .before)
 
 loop-again : tie.Need-loop-again Inv-loop μ-loop
-loop-again c = (again (c .before) (c .if1 .left), sizes (c .before))
+loop-again c = (again (c .before) (c .if1 .left), (f (c .before) .iterate .ensures .1, sizes (c .before)))
 
 same-length : tie.Need-same-length Inv-loop μ-loop
 same-length c = sizes (c .before) .flows
@@ -150,10 +171,19 @@ same-length-4 : tie.Need-same-length-4 Inv-loop μ-loop
 same-length-4 c = sizes (c .before) .keeps
 
 same-length-5 : tie.Need-same-length-5 Inv-loop μ-loop
-same-length-5 c = sizes (c .before) .dists
+same-length-5 c = f (c .before) .iterate .ensures .1 .each ∙ sym (s (c .before) .pre .1 .1 .1 .1 .0 .each)
 
 same-length-6 : tie.Need-same-length-6 Inv-loop μ-loop
-same-length-6 c = sizes (c .before) .paths
+same-length-6 c = sizes (c .before) .dists
+
+same-length-7 : tie.Need-same-length-7 Inv-loop μ-loop
+same-length-7 c = sizes (c .before) .fronts
+
+same-length-8 : tie.Need-same-length-8 Inv-loop μ-loop
+same-length-8 c = sizes (c .before) .listings
+
+same-length-9 : tie.Need-same-length-9 Inv-loop μ-loop
+same-length-9 c = sizes (c .before) .paths
 
 returns : tie.Need-returns Inv-loop μ-loop
 returns c = last (c .before) (c .if1 .taken)
@@ -177,4 +207,7 @@ run-spec =
     same-length-4
     same-length-5
     same-length-6
+    same-length-7
+    same-length-8
+    same-length-9
     returns)

@@ -1,6 +1,7 @@
 -- `solver::steps::step` meets its contract: its parts are those of the method's step. Assumes nothing.
 use borrow.Author.Needs.{needs}
 use denote.Ref.{now}
+use mathlib.Core.Path.{refl, ap, _∙_}
 use native.Mathlib.Omega.{arith}
 use Rattle.solver.proofs.Stepped.{stepped}
 use Rattle.solver.proofs.steps.step.Statement.{statement}
@@ -51,20 +52,24 @@ same-length-4 c = search needs
 returns : tie.Need-returns
 returns c =
     let s = c .before .before .before .before .before .before .before .before .before .before .before .before .before .before .before .before .before .before .before .before .before .before .before .before .before .before .before .before .before .before .before .before in
-    rw (
-      c .count .ensures,
-      c .before .before .before .settle .ensures,
-      c .before .before .before .before .before .before .before .grow .ensures,
-      c .before .before .before .before .before .before .before .before .before .before .before .add2 .ensures,
-      c .before .before .before .before .before .before .before .before .before .before .before .before .before .before .before .add .ensures,
-      c .before .before .before .before .before .before .before .before .before .before .before .before .before .before .before .before .before .before .before .keep .ensures,
-      c .before .before .before .before .before .before .before .before .before .before .before .before .before .before .before .before .before .before .before .before .before .before .less-product .ensures,
-      c .before .before .before .before .before .before .before .before .before .before .before .before .before .before .before .before .before .before .before .before .before .before .before .draw .ensures,
-      c .before .before .before .before .before .before .before .before .before .before .before .before .before .before .before .before .before .before .before .before .before .before .before .before .weight .ensures .0,
-      s .pre .alpha,
+    let drawn = c .before .before .before .before .before .before .before .before .before .before .before .before .before .before .before .before .before .before .before .before .before .before .before .draw .ensures in
+    let grown = c .before .before .before .before .before .before .before .grow .ensures in (
+      rw (
+        c .count .ensures,
+        c .before .before .before .settle .ensures .1,
+        grown,
+        c .before .before .before .before .before .before .before .before .before .before .before .add2 .ensures,
+        c .before .before .before .before .before .before .before .before .before .before .before .before .before .before .before .add .ensures,
+        c .before .before .before .before .before .before .before .before .before .before .before .before .before .before .before .before .before .before .before .keep .ensures,
+        c .before .before .before .before .before .before .before .before .before .before .before .before .before .before .before .before .before .before .before .before .before .before .less-product .ensures,
+        drawn,
+        c .before .before .before .before .before .before .before .before .before .before .before .before .before .before .before .before .before .before .before .before .before .before .before .before .weight .ensures .0,
+        s .pre .alpha,
+      )
+          (stepped (now (s .args .capacities)) (s .args .q) (s .args .commodity) (now (s .args .path)) (now (s .args .lengths)) (now (s .args .flow))
+          (now (s .args .loads)) (now (s .args .kept)) (s .args .p) (c .before .before .before .settle .result) (s .pre .weighing .same)),
+      ap (λ p. p .halved) (c .count .ensures) ∙ (c .before .before .before .settle .ensures .0 ∙ rw (grown, drawn) refl),
     )
-    (stepped (now (s .args .capacities)) (s .args .q) (s .args .commodity) (now (s .args .path)) (now (s .args .lengths)) (now (s .args .flow))
-    (now (s .args .loads)) (now (s .args .kept)) (s .args .p) (s .pre .weighing .same))
 
 pub step-spec : {M : Type 1} → statement M
 step-spec =

@@ -1,0 +1,131 @@
+-- A search in which the rule for tied commodities decides, and one that finds none joined: so what the laws of the search ask for exists.
+-- Assumes nothing.
+use mathlib.Core.Path.{_≡_, refl}
+use mathlib.Core.Option.{none, some}
+use mathlib.Core.List.{[], _∷_}
+use Prim.Native.Nat.{ℕ, zero, suc, _≤_, _<_}
+use native.Mathlib.Omega.{arith}
+use lib.ListN.{getD}
+use borrow.Author.Count.{below-none, below-more}
+use Rattle.arith.specs.Lists.{upFrom, upTo, flat}
+use Rattle.network.specs.Ends.{Ends}
+use Rattle.network.specs.Network.{Network}
+use Rattle.network.specs.Path.{pathLength}
+use Rattle.network.specs.Verdict.{firstRow, outside, loose, short, sizeRows, arcRows, commodityRows, itemRows, rows, verdict}
+use Rattle.network.specs.declared.Tables.{Tables}
+use Rattle.network.specs.declared.Verdict.the-variants.{Accepted}
+use Rattle.network.proofs.Accepted.{accepted-sound}
+use Rattle.network.proofs.Sounds.{sound-ends}
+use Rattle.method.specs.Choice.{choiceOf, choice}
+use Rattle.choice.specs.Closest.{Closest}
+use Rattle.paths.specs.Far.{far}
+use Rattle.paths.specs.Graph.{Table}
+use Rattle.choice.specs.Raised.{Raised}
+use Rattle.choice.proofs.Bounds.{below-zero, below-raised}
+use Rattle.choice.proofs.Found.{closest-none, closest-choice}
+use Rattle.choice.proofs.Graphs.{graphOf, distances-graph}
+use Rattle.paths.proofs.WalkExample.{floor, lengths, near, away, bounded, to-3, to-1, walk}
+
+-- Tables with just enough room for the larger of the two networks below.
+abbrev tables : Tables
+tables = record { flow = 6; length = 3; answer = 7; count = 1 }
+
+-- Twice the commodity from 1 to 3.
+abbrev twice : Network
+twice = floor (1 ∷ 1 ∷ []) (3 ∷ 3 ∷ [])
+
+-- The commodity from 3 to 1, for which there is no path.
+abbrev parted : Network
+parted = floor (3 ∷ []) (1 ∷ [])
+
+accepted : (verdict twice 4 tables 0 ≡ Accepted) × (verdict parted 4 tables 0 ≡ Accepted)
+unfolding upFrom upTo flat firstRow outside loose short sizeRows arcRows commodityRows itemRows rows verdict
+accepted = (refl, refl)
+
+ends : (net : Network) → verdict net 4 tables 0 ≡ Accepted → Ends net
+ends net h = sound-ends net 4 (accepted-sound net 4 tables 0 h .0)
+
+-- What holds of 0, and of 0 and 1, and of 0 to 3, holds below 1, 2 and 4.
+one : (P : ℕ → Type 0) → P 0 → (i : ℕ) → i < 1 → P i
+one P a = below-more P 0 (below-none P) a
+
+two : (P : ℕ → Type 0) → P 0 → P 1 → (i : ℕ) → i < 2 → P i
+two P a b = below-more P 1 (one P a) b
+
+four : (P : ℕ → Type 0) → P 0 → P 1 → P 2 → P 3 → (i : ℕ) → i < 4 → P i
+four P a b c d = below-more P 3 (below-more P 2 (two P a b) c) d
+
+-- The distances to 3, and to 1.
+table-3 : Table (graphOf twice) lengths near 3 far
+table-3 =
+    record {
+      distances = distances-graph (to-3 [] []);
+      capped = λ v b. four (λ v. getD near v 0 ≤ far) (omega arith) (omega arith) (omega arith) (omega arith) v (omega arith);
+    }
+
+table-1 : Table (graphOf parted) lengths away 1 far
+table-1 =
+    record {
+      distances = distances-graph (to-1 [] []);
+      capped = λ v b. four (λ v. getD away v 0 ≤ far) (omega arith) (omega arith) (omega arith) (omega arith) v (omega arith);
+    }
+
+-- Bounds of 0, raised: one search serves both commodities.
+raised-3 : Raised (1 ∷ 1 ∷ []) (3 ∷ 3 ∷ []) 3 near (0 ∷ 0 ∷ []) (2 ∷ 2 ∷ []) 2
+raised-3 =
+    record {
+      size = refl;
+      shared = two (λ i. _≡_ {A = ℕ} (getD (3 ∷ 3 ∷ []) i 0) 3 → _≡_ {A = ℕ} (getD (2 ∷ 2 ∷ []) i 0) (getD near (getD (1 ∷ 1 ∷ []) i 0) 0)) (λ q. refl) (λ q. refl);
+      others = others;
+    }
+  where
+    others : (i : ℕ) → (_≡_ {A = ℕ} (getD (3 ∷ 3 ∷ []) i 0) 3 → ⊥) → _≡_ {A = ℕ} (getD (2 ∷ 2 ∷ []) i 0) (getD (0 ∷ 0 ∷ []) i 0)
+    others zero n = absurd (n refl)
+    others (suc zero) n = absurd (n refl)
+    others (suc (suc i)) n = refl
+
+raised-1 : Raised (3 ∷ []) (1 ∷ []) 1 away (0 ∷ []) (far ∷ []) 1
+raised-1 =
+    record {
+      size = refl;
+      shared = one (λ i. _≡_ {A = ℕ} (getD (1 ∷ []) i 0) 1 → _≡_ {A = ℕ} (getD (far ∷ []) i 0) (getD away (getD (3 ∷ []) i 0) 0)) (λ q. refl);
+      others = others;
+    }
+  where
+    others : (i : ℕ) → (_≡_ {A = ℕ} (getD (1 ∷ []) i 0) 1 → ⊥) → _≡_ {A = ℕ} (getD (far ∷ []) i 0) (getD (0 ∷ []) i 0)
+    others zero n = absurd (n refl)
+    others (suc i) n = refl
+
+-- The first commodity is the lowest-numbered of the two equal bounds,
+closest : Closest twice lengths (2 ∷ 2 ∷ []) near 0
+closest =
+    record {
+      least =
+          record {
+            among = omega arith;
+            least = two (λ j. 2 ≤ getD (2 ∷ 2 ∷ []) j 0) (omega arith) (omega arith);
+            lowest = λ j b. absurd (omega arith);
+          };
+      below = below-raised (ends twice (accepted .0)) (λ e b. bounded e b .0) table-3 (below-zero twice lengths {n = 2} refl) raised-3;
+      table = table-3;
+      own = refl;
+    }
+
+-- and it is chosen, with the path whose first arc is lower.
+found : (choice twice lengths ≡ some (choiceOf 0 (0 ∷ 1 ∷ []))) × (pathLength lengths (0 ∷ 1 ∷ []) ≡ 2)
+found = closest-choice closest (ends twice (accepted .0)) (λ e b. bounded e b .0) (walk _ _)
+
+-- The only bound is far,
+alone : Closest parted lengths (far ∷ []) away 0
+alone =
+    record {
+      least =
+          record { among = omega arith; least = one (λ j. far ≤ getD (far ∷ []) j 0) (omega arith); lowest = λ j b. absurd (omega arith) };
+      below = below-raised (ends parted (accepted .1)) (λ e b. bounded e b .0) table-1 (below-zero parted lengths {n = 1} refl) raised-1;
+      table = table-1;
+      own = refl;
+    }
+
+-- so nothing is chosen.
+not-found : choice parted lengths ≡ none
+not-found = closest-none alone (ends parted (accepted .1)) bounded (omega arith) (omega arith)

@@ -1,0 +1,12 @@
+pub mod Bare
+pub mod Bounds
+pub mod Found
+pub mod FoundExample
+pub mod Graphs
+pub mod Leasts
+pub mod Raises
+pub mod Reach
+pub mod Ready
+pub mod Selects
+pub mod Slack
+pub mod Turns

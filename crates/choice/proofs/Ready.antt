@@ -1,0 +1,64 @@
+-- An accepted network meets what the choice asks, with lengths of a run and tables that are large enough; and one such network.
+-- Assumes nothing.
+use mathlib.Core.Path.{_≡_}
+use mathlib.Core.List.{List, [], _∷_}
+use Prim.Native.Nat.{ℕ, _^_, _≤_, _<_}
+use native.Mathlib.Omega.{arith}
+use lib.ListN.{length, getD}
+use borrow.Author.Count.{below-none, below-more}
+use Rattle.network.specs.Ends.{Node}
+use Rattle.network.specs.Network.{Network, arcs, tail, head, source, sink}
+use Rattle.network.specs.Sound.{Sound}
+use Rattle.network.proofs.Sounds.{sound-ends}
+use Rattle.paths.specs.Far.{Bounded}
+use Rattle.choice.specs.Search.{Search}
+
+-- Rows 1, 6 and 8 of document 01, "Turned down", give what the choice asks of the network.
+pub sound-search :
+    {net : Network} {q : ℕ} {l : List ℕ} {size room : ℕ} → Sound net q → Bounded net l → arcs net ≤ length l → net .nodes < size → net .nodes ≤ room →
+    Search net l size room
+sound-search {net} {q} sound bounds long b c =
+    record {
+      survey =
+          record {
+            fit = record { ends = sound-ends net q sound; lengths = long; small = λ e h. bounds e h .1; room = b };
+            positive = λ e h. bounds e h .0;
+            few = omega (arith, sound .counts .of-nodes .most);
+          };
+      places = c;
+    }
+
+-- One arc and one commodity, from 1 to 2.
+pair : Network
+pair = record { nodes = 2; tails = 1 ∷ []; heads = 2 ∷ []; capacities = 1 ∷ []; sources = 1 ∷ []; sinks = 2 ∷ [] }
+
+-- What holds of 0 holds below 1.
+only : (P : ℕ → Type 0) → P 0 → (i : ℕ) → i < 1 → P i
+only P a = below-more P 0 (below-none P) a
+
+-- It meets all that is asked.
+pair-search : Search pair (1 ∷ []) 3 2
+unfolding pair
+pair-search =
+    record {
+      survey =
+          record {
+            fit =
+                record {
+                  ends =
+                      record {
+                        tails = only (λ e. Node pair (tail pair e)) (omega arith);
+                        heads = only (λ e. Node pair (head pair e)) (omega arith);
+                        sources = only (λ i. Node pair (source pair i)) (omega arith);
+                        sinks = only (λ i. Node pair (sink pair i)) (omega arith);
+                        apart = only (λ i. source pair i ≡ sink pair i → ⊥) (λ q. omega arith);
+                      };
+                  lengths = omega arith;
+                  small = only (λ e. getD (1 ∷ []) e 0 < 2 ^ 40) (omega arith);
+                  room = omega arith;
+                };
+            positive = only (λ e. 1 ≤ getD (1 ∷ []) e 0) (omega arith);
+            few = omega arith;
+          };
+      places = omega arith;
+    }

@@ -1,0 +1,115 @@
+-- `paths::choose` meets its contract: the nearest commodity is found, and its walk is the choice.
+-- Assumes nothing.
+use Prim.Native.Nat.{_<_}
+use native.Mathlib.Omega.{arith}
+use lib.ListN.{length}
+use borrow.Author.Needs.{needs}
+use Rattle.paths.proofs.Rooms.{sink-listed}
+use Rattle.choice.proofs.Selects.{selects-nothing, selects-walkable, selects-walk}
+use Rattle.choice.proofs.choose.Statement.{statement}
+use Rattle.choice.proofs.choose.Tie as tie
+
+-- behind the test: the search for the nearest commodity, and the function's entry
+abbrev search-at : tie.Else1 → tie.After-nearest
+search-at c = c .before .before .before .before .before .before .before .before .before .before
+
+abbrev entry : tie.After-nearest → tie.Start
+entry c = c .before .before .before .before .before .before .before .before .before .before .before .before .before .before .before .before .before .before .before
+
+among : (c : tie.After-nearest) → c .nearest .result < length (entry c .args .sources .now)
+among c = c .nearest .ensures .least .among
+
+nearest-requires : tie.Need-nearest-requires
+nearest-requires c κs =
+    let p = c .before .before .before .before .before .before .before .before .before .before .before .before .before .before .before .before .before .before .pre in
+    (p .0 .survey, (p .1 .0, (p .1 .1 .0, (p .1 .1 .1 .1 .0, p .1 .1 .1 .1 .1))))
+
+mul-distance : tie.Need-mul-distance
+mul-distance c = let s = c .before .before .before .before .before .before .before .before in omega (arith, entry s .good, among s)
+
+slice-read-distance : tie.Need-slice-read-distance
+slice-read-distance c = search needs
+
+same-length : tie.Need-same-length
+same-length c = search needs
+
+same-length-2 : tie.Need-same-length-2
+same-length-2 c = search needs
+
+same-length-3 : tie.Need-same-length-3
+same-length-3 c = search needs
+
+same-length-4 : tie.Need-same-length-4
+same-length-4 c = search needs
+
+returns : tie.Need-returns
+returns c =
+    let s = c .before .before .before .before .before .before .before .before .before .before in
+    (selects-nothing (entry s .pre .0) (s .nearest .ensures) _ _ (c .if1 .taken), s .nearest .ensures .below)
+
+mul-source : tie.Need-mul-source
+mul-source c = let s = search-at c in omega (arith, entry s .good, among s)
+
+shared-slice-read-source : tie.Need-shared-slice-read-source
+shared-slice-read-source c = search needs
+
+mul-sink : tie.Need-mul-sink
+mul-sink c = let s = search-at (c .before) in omega (arith, entry s .good, among s)
+
+shared-slice-read-sink : tie.Need-shared-slice-read-sink
+shared-slice-read-sink c =
+    let s = search-at (c .before .before) in
+    sink-listed (entry s .pre .0 .survey .fit) (s .nearest .result) (among s)
+
+walk-requires : tie.Need-walk-requires
+walk-requires c κs =
+    let t = c .before .before .before .before in
+    let s = search-at t in (
+      selects-walkable (entry s .pre .0) (s .nearest .ensures) (t .if1 .left) (s .nearest .kept .1 .1 .1 .1 .1 .1 .1 .1 .1 .0),
+      entry s .pre .1 .1 .1 .0,
+    )
+
+same-length-5 : tie.Need-same-length-5
+same-length-5 c = search needs
+
+same-length-6 : tie.Need-same-length-6
+same-length-6 c = search needs
+
+same-length-7 : tie.Need-same-length-7
+same-length-7 c = search needs
+
+same-length-8 : tie.Need-same-length-8
+same-length-8 c = search needs
+
+same-length-9 : tie.Need-same-length-9
+same-length-9 c = search needs
+
+returns-2 : tie.Need-returns-2
+returns-2 c =
+    let t = c .before .before .before .before .before .before .before in
+    let s = search-at t in
+    (selects-walk (entry s .pre .0) (s .nearest .ensures) (t .if1 .left) _ _ (c .before .before .walk .ensures), s .nearest .ensures .below)
+
+pub choose-spec : {M : Type 1} → statement M
+choose-spec =
+    tie.close
+    (tie.spec
+    nearest-requires
+    mul-distance
+    slice-read-distance
+    same-length
+    same-length-2
+    same-length-3
+    same-length-4
+    returns
+    mul-source
+    shared-slice-read-source
+    mul-sink
+    shared-slice-read-sink
+    walk-requires
+    same-length-5
+    same-length-6
+    same-length-7
+    same-length-8
+    same-length-9
+    returns-2)

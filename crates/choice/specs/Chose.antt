@@ -1,0 +1,24 @@
+-- What the choice leaves. Document 01, "One choice of route".
+use mathlib.Core.Path.{_≡_}
+use mathlib.Core.Option.{none, some}
+use mathlib.Core.List.{List}
+use Prim.Native.Nat.{ℕ, _≤_, _<_}
+use lib.ListN.{take}
+use Rattle.network.specs.Network.{Network}
+use Rattle.network.specs.Path.{pathLength}
+use Rattle.method.specs.Choice.{choiceOf, choice}
+use Rattle.paths.specs.Far.{far}
+use Rattle.choice.specs.declared.Selected.{Selected}
+
+-- The commodity and the first entries of the table of arcs are the choice, from 1 to 63 arcs, and the distance is alpha, their length.
+pub record Picked (net : Network) (l : List ℕ) (r : Selected) (path : List ℕ) : Type 0 where
+  pub chosen : choice net l ≡ some (choiceOf (r .commodity) (take (r .arcs) path))
+  pub alpha : pathLength l (take (r .arcs) path) ≡ r .distance
+  pub some-arc : 1 ≤ r .arcs
+  pub few-arcs : r .arcs ≤ 63
+
+-- The distance tells: far where no commodity is joined, below far where one is chosen.
+pub record Chose (net : Network) (l : List ℕ) (r : Selected) (path : List ℕ) : Type 0 where
+  pub capped : r .distance ≤ far
+  pub nothing : r .distance ≡ far → choice net l ≡ none
+  pub something : r .distance < far → Picked net l r path

@@ -1,0 +1,6 @@
+pub mod Below
+pub mod Chose
+pub mod Closest
+pub mod Least
+pub mod Raised
+pub mod Search

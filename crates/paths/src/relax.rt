@@ -1,0 +1,94 @@
+// Relaxation: of one arc, and of all arcs into a node.
+// n, the number of nodes, and the sink are taken for the contracts, which speak of the network and of the search.
+use crate::frontier::enlist;
+ghost use mathlib.Core.Path.{_≡_};
+ghost use Prim.Native.Nat.{_+_, _≤_, _<_};
+ghost use lib.ListN.{length};
+ghost use Rattle.paths.specs.Far.{far};
+ghost use Rattle.paths.specs.Graph.{graph, Fit, Capped};
+ghost use Rattle.paths.specs.Links.{Linked};
+ghost use Rattle.paths.specs.Relax.{shortens, relaxed};
+ghost use Rattle.paths.specs.Searching.{Searching, Spread};
+
+// The way over arc e is taken where it is shorter; whether it is.
+fn relax(n: u64, tails: &[u64], heads: &[u64], lengths: &[u64], e: usize, dist: &mut [u64]) -> bool
+    requires fit { ⌜ Fit (graph n (now tails) (now heads)) (now lengths) (length (now dist)) ⌝ }
+    requires arc { ⌜ e < length (now tails) ⌝ }
+    requires capped { ⌜ Capped (graph n (now tails) (now heads)) (now dist) far ⌝ }
+    ensures shortens { λ r. ⌜ r ≡ shortens (graph n (now (tails .entry)) (now (heads .entry))) (now (lengths .entry)) (now (dist .entry)) e ⌝ }
+    ensures relaxed { λ r. ⌜ now (dist .exit) ≡ relaxed (graph n (now (tails .entry)) (now (heads .entry))) (now (lengths .entry)) (now (dist .entry)) e ⌝ }
+{
+    let v = tails[e] as usize;
+    let w = heads[e] as usize;
+    let way = lengths[e] + dist[w];
+    if way < dist[v] {
+        dist[v] = way;
+        return true;
+    }
+    false
+}
+
+// Arc e, one of those into v, is relaxed, and its tail goes onto the list if that brings it nearer. How many are on the list now.
+fn reach(
+    n: u64,
+    tails: &[u64],
+    heads: &[u64],
+    lengths: &[u64],
+    sink: u64,
+    v: u64,
+    e: usize,
+    dist: &mut [u64],
+    front: &mut [u64],
+    listed: &mut [u64],
+    size: usize,
+) -> usize
+    requires searching { ⌜ Searching (graph n (now tails) (now heads)) (now lengths) sink v e (now dist) (now front) (now listed) size ⌝ }
+    requires arc { ⌜ e < length (now tails) ⌝ }
+    ensures { λ r. ⌜ Spread (graph n (now (tails .entry)) (now (heads .entry))) (now (lengths .entry)) sink v (e + 1) (now (dist .entry)) size (now (dist .exit)) (now (front .exit)) (now (listed .exit)) r ⌝ }
+{
+    if relax(n, tails, heads, lengths, e, dist) {
+        return enlist(n, tails[e], front, listed, size);
+    }
+    size
+}
+
+// Every arc into v is relaxed, one after the other along their list. How many are on the search's list now.
+pub fn relax_into(
+    n: u64,
+    tails: &[u64],
+    heads: &[u64],
+    lengths: &[u64],
+    first_in: &[u64],
+    next_in: &[u64],
+    sink: u64,
+    v: u64,
+    dist: &mut [u64],
+    front: &mut [u64],
+    listed: &mut [u64],
+    size: usize,
+) -> usize
+    requires searching { ⌜ Searching (graph n (now tails) (now heads)) (now lengths) sink v 0 (now dist) (now front) (now listed) size ⌝ }
+    requires links { ⌜ Linked (now heads) n (now «first_in») (now «next_in») ⌝ }
+    requires node { ⌜ v ≤ n ⌝ }
+    ensures { λ r. ⌜ Spread (graph n (now (tails .entry)) (now (heads .entry))) (now (lengths .entry)) sink v (length (now (tails .entry))) (now (dist .entry)) size (now (dist .exit)) (now (front .exit)) (now (listed .exit)) r ⌝ }
+{
+    let mut count = size;
+    let mut e = first_in[v as usize] as usize;
+    while e < tails.len() {
+        count = reach(
+            n,
+            tails,
+            heads,
+            lengths,
+            sink,
+            v,
+            e,
+            dist,
+            front,
+            listed,
+            count,
+        );
+        e = next_in[e] as usize;
+    }
+    count
+}

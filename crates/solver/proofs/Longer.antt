@@ -1,0 +1,50 @@
+-- Lengths that an iteration has not halved have only grown, so bounds below the distances stay below them. Assumes nothing.
+use mathlib.Core.Path.{_≡_, refl, sym, ap, _∙_}
+use mathlib.Core.Bool.{Bool, true, false, cond}
+use mathlib.Core.List.{List, [], _∷_}
+use Prim.Native.Nat.{ℕ, zero, suc, _≤_}
+use native.Mathlib.Nat.{le-refl}
+use native.Mathlib.Omega.{arith}
+use lib.ListN.{length, getD, set, replicate}
+use Rattle.length.proofs.Size.{growth-least}
+use Rattle.network.specs.Network.{Network}
+use Rattle.method.specs.Choice.{choiceOf}
+use Rattle.method.specs.Iteration.{State, draw, update, grown, settled, advance}
+use Rattle.length.specs.Length.{growth}
+use Rattle.method.proofs.Times.{update-length}
+use Rattle.choice.specs.Below.{Below}
+use Rattle.choice.proofs.Bounds.{below-grown, below-zero}
+use Rattle.solver.specs.Progress.{ofCapacities, longer, halves}
+
+-- A store of no less leaves no number less,
+set-least : (xs : List ℕ) (e v j : ℕ) → getD xs e 0 ≤ v → getD xs j 0 ≤ getD (set xs e v) j 0
+set-least [] e v j h = le-refl _
+set-least (x ∷ xs) zero v zero h = h
+set-least (x ∷ xs) zero v (suc j) h = le-refl _
+set-least (x ∷ xs) (suc e) v zero h = le-refl _
+set-least (x ∷ xs) (suc e) v (suc j) h = set-least xs e v j h
+
+-- nor do stores along a path.
+update-least : (f : ℕ → ℕ → ℕ) → ((e x : ℕ) → x ≤ f e x) → (p xs : List ℕ) (j : ℕ) → getD xs j 0 ≤ getD (update f p xs) j 0
+unfolding update
+update-least f h [] xs j = le-refl _
+update-least f h (e ∷ p) xs j =
+    omega (arith, set-least xs e (f e (getD xs e 0)) j (h e (getD xs e 0)), update-least f h p (set xs e (f e (getD xs e 0))) j)
+
+module _ (caps : List ℕ) (q i : ℕ) (path : List ℕ) (s : State) (same : length (s .lengths) ≡ length caps) where
+  -- Where no length is at the mark the lengths are those that have grown.
+  unhalved : halves caps q path (s .lengths) ≡ false → advance (ofCapacities caps) q (choiceOf i path) s .lengths ≡ longer caps q path (s .lengths)
+  unfolding advance grown settled
+  unhalved h =
+      rw (← (update-length (λ e x. growth q (draw caps path) (getD caps e 0) x) path (s .lengths) ∙ same), h) refl
+
+  -- The bounds after the iteration: kept, or 0 where it halved.
+  pub below-next :
+      {net : Network} {l bounds : List ℕ} (halved : Bool) → Below net (s .lengths) bounds → halved ≡ halves caps q path (s .lengths) →
+      l ≡ advance (ofCapacities caps) q (choiceOf i path) s .lengths → Below net l (cond halved (replicate (length bounds) 0) bounds)
+  below-next {net} {l} true B h e = below-zero net l (B .each)
+  below-next {net} {l} {bounds} false B h e =
+      below-grown
+      (λ j. rw (e ∙ unhalved (sym h))
+      (update-least (λ e x. growth q (draw caps path) (getD caps e 0) x) (λ e x. growth-least q (draw caps path) (getD caps e 0) x) path (s .lengths) j))
+      B

@@ -1,0 +1,136 @@
+-- `solver::iterations::iterate` meets its contract: the search gives the method's choice, and the step follows it. Assumes nothing.
+use borrow.Author.Needs.{needs}
+use denote.Ref.{now}
+use mathlib.Core.Path.{sym, ap, _∙_}
+use mathlib.Core.List.{List}
+use Prim.Native.Nat.{ℕ, _≤_}
+use native.Mathlib.Omega.{arith}
+use lib.ListN.{length, take}
+use lib.Seq.{length-take-le}
+use Rattle.network.specs.Network.{Network}
+use Rattle.method.specs.Choice.{choiceOf}
+use Rattle.method.specs.Iteration.{State}
+use Rattle.choice.specs.Chose.{Picked}
+use Rattle.solver.specs.Progress.{stateOf}
+use Rattle.solver.specs.Runs.{networkOf}
+use Rattle.solver.proofs.Chosen.{surveyed, fronted, picks, iteration-is}
+use Rattle.solver.proofs.Longer.{below-next}
+use Rattle.solver.proofs.OfCapacities.{advance-same}
+use Rattle.solver.proofs.Ready.{ready}
+use Rattle.solver.proofs.iterations.iterate.Statement.{statement}
+use Rattle.solver.proofs.iterations.iterate.Tie as tie
+
+-- the network and the state at entry
+abbrev net : (s : tie.Start) → Network
+net s =
+    networkOf (s .args .n) (now (s .args .tails)) (now (s .args .heads)) (now (s .args .capacities)) (now (s .args .sources))
+    (now (s .args .sinks))
+
+abbrev state : (s : tie.Start) → State
+state s = stateOf (now (s .args .lengths)) (now (s .args .flow)) (now (s .args .loads)) (now (s .args .kept)) (s .args .p)
+
+choose-requires : tie.Need-choose-requires
+choose-requires c κs =
+    let s = c .before .before .before .before .before .before .before .before .before .before .before .before .before .before .before .before .before .before .before .before .before .before .before .before in
+    let p = s .pre in (
+      surveyed (net s) (s .args .q) (p .0) (state s) (p .1 .1 .1 .1 .1 .1) (p .1 .0),
+      (
+        p .0 .sound .counts .of-commodities .least,
+        (p .1 .1 .0, (p .1 .1 .1 .0, (fronted (net s) (s .args .q) (p .0) (p .1 .0), p .1 .1 .1 .1 .0))),
+      ),
+    )
+
+-- the function's entry, seen from behind the search; what was found, and the table of arcs then
+abbrev entry : tie.After-choose → tie.Start
+entry c = c .before .before .before .before .before .before .before .before .before .before .before .before .before .before .before .before .before .before .before .before .before .before .before .before .before
+
+abbrev arcs : (c : tie.After-choose) → List ℕ
+arcs c = c .choose .last .1 .1 .1 .1 .1 .1 .1 .1 .1 .1 .1 .1 .1 .1 .0
+
+picked : (c : tie.After-choose) → Picked (net (entry c)) (now (entry c .args .lengths)) (c .choose .result) (arcs c)
+picked c =
+    let s = entry c in
+    picks (net s) (s .pre .1 .1 .1 .1 .1 .0) (now (s .args .lengths)) (c .choose .result) (arcs c) (c .choose .ensures .0)
+
+room : (c : tie.After-choose) → c .choose .result .arcs ≤ length (arcs c)
+room c = omega (arith, picked c .few-arcs, c .choose .kept .1 .1 .1 .1 .1 .1 .1 .1 .1 .1 .1 .1 .1 .1 .0, entry c .pre .1 .0 .path)
+
+slice-reshare-prefix-step : tie.Need-slice-reshare-prefix-step
+slice-reshare-prefix-step c = room (c .before .before .before .before .before .before .before .before .before .before)
+
+slice-aggregate-step : tie.Need-slice-aggregate-step
+slice-aggregate-step c = let f = c .before .before .before .before .before .before .before .before .before .before .before in sym (length-take-le (f .choose .result .arcs) (arcs f) (room f))
+
+step-requires : tie.Need-step-requires
+step-requires c κs =
+    let f = c .before .before .before .before .before .before .before .before .before .before .before .before .before .before .before in
+    let s = entry f in
+    rw (← (picked f .alpha))
+    (ready (net s) (s .args .q) (s .pre .0) (state s) (s .pre .1 .1 .1 .1 .1 .1) (f .choose .result .commodity)
+    (take (f .choose .result .arcs) (arcs f)) (picked f .chosen))
+
+forget-requires : tie.Need-forget-requires
+forget-requires c κs = search needs
+
+same-length : tie.Need-same-length
+same-length c = search needs
+
+same-length-2 : tie.Need-same-length-2
+same-length-2 c = search needs
+
+same-length-3 : tie.Need-same-length-3
+same-length-3 c = search needs
+
+same-length-4 : tie.Need-same-length-4
+same-length-4 c = search needs
+
+same-length-5 : tie.Need-same-length-5
+same-length-5 c = search needs
+
+same-length-6 : tie.Need-same-length-6
+same-length-6 c = search needs
+
+same-length-7 : tie.Need-same-length-7
+same-length-7 c = search needs
+
+same-length-8 : tie.Need-same-length-8
+same-length-8 c = search needs
+
+same-length-9 : tie.Need-same-length-9
+same-length-9 c = search needs
+
+returns : tie.Need-returns
+returns c =
+    let f = c .before .before .before .before .before .before .before .before .before .before .before .before .before .before .before .before .before .before .before .before .before .before .before .before .before .before .before .before in
+    let s = entry f in
+    let caps = now (s .args .capacities) in
+    let i = f .choose .result .commodity in
+    let path = take (f .choose .result .arcs) (arcs f) in
+    let stepped = c .before .before .before .before .before .before .before .before .before .before .before .before .step in (
+      stepped .ensures .0 ∙
+          (advance-same (net s) (s .args .q) (choiceOf i path) (state s) (s .pre .0 .capacities) ∙
+          sym (iteration-is (net s) (s .args .q) (state s) (choiceOf i path) (picked f .chosen))),
+      rw (c .before .before .forget .ensures)
+          (below-next caps (s .args .q) i path (state s) (s .pre .1 .1 .1 .1 .1 .1 .valid .lengths ∙ sym (s .pre .0 .capacities))
+          (stepped .result .halved) (f .choose .ensures .1) (stepped .ensures .1) (ap (λ t. t .lengths) (stepped .ensures .0))),
+    )
+
+pub iterate-spec : {M : Type 1} → statement M
+iterate-spec =
+    tie.close
+    (tie.spec
+    choose-requires
+    slice-reshare-prefix-step
+    slice-aggregate-step
+    step-requires
+    forget-requires
+    same-length
+    same-length-2
+    same-length-3
+    same-length-4
+    same-length-5
+    same-length-6
+    same-length-7
+    same-length-8
+    same-length-9
+    returns)

@@ -1,0 +1,93 @@
+// One iteration on the lent tables of numbers.
+use crate::steps;
+use crate::steps::Progress;
+use tables::loads;
+ghost use mathlib.Core.Bool.{cond};
+ghost use mathlib.Core.Path.{_≡_};
+ghost use lib.ListN.{length, replicate};
+ghost use Rattle.method.specs.Iteration.{iteration};
+ghost use Rattle.method.proofs.Reached.{Reached};
+ghost use Rattle.choice.specs.Below.{Below};
+ghost use Rattle.paths.specs.Links.{Linked};
+ghost use Rattle.choice.specs.Search.{bare};
+ghost use Rattle.solver.specs.Progress.{stateOf};
+ghost use Rattle.solver.specs.Runs.{networkOf, Lent, Space, Chooses};
+
+// The bounds of the distances, 0 again where the lengths were halved: only then can a distance fall.
+fn forget(halved: bool, bounds: &mut [u64])
+    ensures { λ _. ⌜ now (bounds .exit) ≡ cond halved (replicate (length (now (bounds .entry))) 0) (now (bounds .entry)) ⌝ }
+{
+    if halved {
+        loads::clear(bounds);
+    }
+}
+
+// One iteration: the choice by the lengths, and the step along its path.
+pub fn iterate(
+    n: u64,
+    q: u64,
+    tails: &[u64],
+    heads: &[u64],
+    capacities: &[u64],
+    sources: &[u64],
+    sinks: &[u64],
+    first_in: &[u64],
+    next_in: &[u64],
+    first_out: &[u64],
+    next_out: &[u64],
+    flow: &mut [u64],
+    loads: &mut [u64],
+    lengths: &mut [u64],
+    kept: &mut [u64],
+    bounds: &mut [u64],
+    dist: &mut [u64],
+    front: &mut [u64],
+    listed: &mut [u64],
+    path: &mut [u64],
+    p: Progress,
+) -> Progress
+    requires lent { ⌜ Lent (networkOf n (now tails) (now heads) (now capacities) (now sources) (now sinks)) q ⌝ }
+    requires space { ⌜ Space (length (now dist)) (length (now front)) (length (now listed)) (length (now path)) ⌝ }
+    requires into { ⌜ Linked (now heads) n (now «first_in») (now «next_in») ⌝ }
+    requires out { ⌜ Linked (now tails) n (now «first_out») (now «next_out») ⌝ }
+    requires below { ⌜ Below (bare n (now tails) (now heads) (now sources) (now sinks)) (now lengths) (now bounds) ⌝ }
+    requires chooses { ⌜ Chooses (networkOf n (now tails) (now heads) (now capacities) (now sources) (now sinks)) ⌝ }
+    requires reached { ⌜ Reached (networkOf n (now tails) (now heads) (now capacities) (now sources) (now sinks)) q (stateOf (now lengths) (now flow) (now loads) (now kept) p) ⌝ }
+    ensures state { λ r. ⌜ stateOf (now (lengths .exit)) (now (flow .exit)) (now (loads .exit)) (now (kept .exit)) r ≡ iteration (networkOf n (now (tails .entry)) (now (heads .entry)) (now (capacities .entry)) (now (sources .entry)) (now (sinks .entry))) q (stateOf (now (lengths .entry)) (now (flow .entry)) (now (loads .entry)) (now (kept .entry)) p) ⌝ }
+    ensures below { λ r. ⌜ Below (bare n (now (tails .entry)) (now (heads .entry)) (now (sources .entry)) (now (sinks .entry))) (now (lengths .exit)) (now (bounds .exit)) ⌝ }
+{
+    let c = choice::choose(
+        n,
+        tails,
+        heads,
+        lengths,
+        sources,
+        sinks,
+        first_in,
+        next_in,
+        first_out,
+        next_out,
+        bounds,
+        dist,
+        front,
+        listed,
+        path,
+    );
+    let commodity = c.commodity;
+    let arcs = c.arcs;
+    let alpha = c.distance;
+    let r = steps::step(
+        q,
+        capacities,
+        commodity,
+        &path[..arcs],
+        alpha,
+        flow,
+        loads,
+        lengths,
+        kept,
+        p,
+    );
+    forget(r.halved, bounds);
+    r
+}
