@@ -1,11 +1,13 @@
--- The test over an index: what it says when it passes, and when it does not.
+-- The test over an index: what it says when it passes, and when it does not; and its change when the test changes at one place.
 -- Assumes nothing.
 use mathlib.Core.Path.{_≡_, refl, sym, ap, _∙_}
 use mathlib.Core.Logic.{⊎-elim}
-use mathlib.Core.Bool.{Bool, true, false, _||_, false≢true, or-true}
+use mathlib.Core.Bool.{Bool, true, false, _||_, false≢true, or-true, or-false}
 use Prim.Native.Nat.{ℕ, zero, suc, _<_}
 use native.Mathlib.Nat.{le-refl, eq-or-lt-of-le, le-of-suc-le-suc}
 use native.Mathlib.Omega.{arith}
+use borrow.Author.Tests.{eqb-true, eqb-false}
+use lib.Dec.{eqb}
 use Rattle.arith.specs.Lists.{exists}
 
 -- one more index, by the values of the test below it and at it
@@ -35,3 +37,33 @@ exists-false n f t i l = by-value (f i) refl
     by-value : (b : Bool) → f i ≡ b → f i ≡ false
     by-value true e = e ∙ (sym (true-exists n f i l e) ∙ t)
     by-value false e = e
+
+-- No index passes.
+pub none-exists : (n : ℕ) (f : ℕ → Bool) → ((i : ℕ) → i < n → f i ≡ false) → exists n f ≡ false
+unfolding exists
+none-exists zero f h = refl
+none-exists (suc n) f h = rw (none-exists n f (λ i l. h i (omega arith)), h n (le-refl (suc n)))
+
+-- Equal tests.
+pub exists-cong : (n : ℕ) (f g : ℕ → Bool) → ((i : ℕ) → i < n → f i ≡ g i) → exists n f ≡ exists n g
+unfolding exists
+exists-cong zero f g h = refl
+exists-cong (suc n) f g h = rw (exists-cong n f g (λ i l. h i (omega arith)), h n (le-refl (suc n)))
+
+-- Two tests that agree but at one place k, where the second passes if the first does.
+pub exists-change :
+    (n : ℕ) (f g : ℕ → Bool) (k : ℕ) → k < n → ((i : ℕ) → i < n → (i ≡ k → ⊥) → g i ≡ f i) → (f k ≡ true → g k ≡ true) →
+    exists n g ≡ (exists n f || g k)
+exists-change n f g k l h up = by-value (g k) refl
+  where
+    lost : (b : Bool) → f k ≡ b → g k ≡ false → b ≡ false
+    lost true e z = sym (up e) ∙ z
+    lost false e z = refl
+
+    agree : g k ≡ false → (i : ℕ) (b : Bool) → eqb i k ≡ b → i < n → g i ≡ f i
+    agree z i true e b = let q : i ≡ k = eqb-true i k e in ap g q ∙ (z ∙ sym (ap f q ∙ lost (f k) refl z))
+    agree z i false e b = h i b (eqb-false i k e)
+
+    by-value : (b : Bool) → g k ≡ b → exists n g ≡ (exists n f || b)
+    by-value true e = true-exists n g k l e ∙ sym (or-true (exists n f))
+    by-value false e = exists-cong n g f (λ i b. agree e i (eqb i k) refl b) ∙ sym (or-false (exists n f))

@@ -23,10 +23,11 @@ use Rattle.method.proofs.Reached.{Reached, Valid, chosen-at, fair}
 use Rattle.method.proofs.Sized.{reached-sizes, grown-sizes}
 use Rattle.method.proofs.Table.{Table}
 use Rattle.method.proofs.Times.{update-length}
-use Rattle.tables.specs.Calls.{Growing, Weighing, Adding}
-use Rattle.solver.specs.Progress.{Stepping}
+use Rattle.tables.specs.Calls.{Growing, Settling, Adding}
+use Rattle.solver.specs.Progress.{longer}
+use Rattle.solver.specs.Steps.{Stepping}
 use Rattle.solver.specs.Runs.{Lent}
-use Rattle.tables.specs.Tables.{Under, Within, Capacities}
+use Rattle.tables.specs.Tables.{Under, Capacities}
 use Rattle.tables.proofs.OnPath.{draw-at, draw-most, below-under}
 
 module _ (net : Network) (q : ℕ) (lent : Lent net q) (s : State) (r : Reached net q s) (i : ℕ) (p : List ℕ)
@@ -92,19 +93,25 @@ module _ (net : Network) (q : ℕ) (lent : Lent net q) (s : State) (r : Reached 
   row-place : (j : ℕ) → j < length p → i * length caps + getD p j 0 < length (s .flow)
   row-place j l = omega (arith, places j l, mul-le-mul-right (length caps) listed, v .table .rows, ap (λ t. commodities net * t) (lent .capacities))
 
-  grown-under : Under (2 ^ 41) (update (λ e x. growth q (draw caps p) (getD caps e 0) x) p (s .lengths))
+  arcs-few : length caps ≤ 256
+  arcs-few = omega (arith, lent .capacities, lent .sound .counts .of-arcs .most)
+
+  grown-settling : Settling caps (longer caps q p (s .lengths))
   unfolding grown
-  grown-under e l =
-      grown-sizes net q (lent .sound) s v (choiceOf i p) h e
-      (omega (arith, update-length (λ e x. growth q (draw caps p) (getD caps e 0) x) p (s .lengths), v .lengths))
+  grown-settling =
+      let long = update-length (λ e x. growth q (draw caps p) (getD caps e 0) x) p (s .lengths) in
+      record {
+        same = long ∙ same;
+        arcs = arcs-few;
+        sizes = capacities .most;
+        grown = λ e l. grown-sizes net q (lent .sound) s v (choiceOf i p) h e (omega (arith, long, v .lengths));
+      }
 
   pub ready : Stepping caps q i p (pathLength (s .lengths) p) s
   ready =
       record {
         arcs = arc;
-        few = few;
         alpha = refl;
-        weighing = record { same = same; few = omega (arith, lent .capacities, lent .sound .counts .of-arcs .most); sizes = capacities .most; short = short };
         growing =
             record {
               same = same;
@@ -113,10 +120,12 @@ module _ (net : Network) (q : ℕ) (lent : Lent net q) (s : State) (r : Reached 
               places = places;
               once = fair net q (lent .sound) s v (choiceOf i p) h .once;
               drawn = draw-at caps p;
+              few = few;
+              arcs = arcs-few;
               sizes = capacities;
               short = short;
             };
-        grown = grown-under;
+        grown = grown-settling;
         flow = record { places = row-place; amounts = amount; small = small; few = few };
         loads =
             record {

@@ -5,11 +5,11 @@ use tables::loads;
 ghost use mathlib.Core.Bool.{cond};
 ghost use mathlib.Core.Path.{_≡_};
 ghost use lib.ListN.{length, replicate};
-ghost use Rattle.method.specs.Iteration.{iteration};
 ghost use Rattle.method.proofs.Reached.{Reached};
 ghost use Rattle.choice.specs.Below.{Below};
 ghost use Rattle.paths.specs.Links.{Linked};
 ghost use Rattle.choice.specs.Search.{bare};
+ghost use Rattle.solver.specs.Noted.{Noted, Iterated};
 ghost use Rattle.solver.specs.Progress.{stateOf};
 ghost use Rattle.solver.specs.Runs.{networkOf, Lent, Space, Chooses};
 
@@ -26,6 +26,7 @@ fn forget(halved: bool, bounds: &mut [u64])
 pub fn iterate(
     n: u64,
     q: u64,
+    threshold: u64,
     tails: &[u64],
     heads: &[u64],
     capacities: &[u64],
@@ -53,7 +54,8 @@ pub fn iterate(
     requires below { ⌜ Below (bare n (now tails) (now heads) (now sources) (now sinks)) (now lengths) (now bounds) ⌝ }
     requires chooses { ⌜ Chooses (networkOf n (now tails) (now heads) (now capacities) (now sources) (now sinks)) ⌝ }
     requires reached { ⌜ Reached (networkOf n (now tails) (now heads) (now capacities) (now sources) (now sinks)) q (stateOf (now lengths) (now flow) (now loads) (now kept) p) ⌝ }
-    ensures state { λ r. ⌜ stateOf (now (lengths .exit)) (now (flow .exit)) (now (loads .exit)) (now (kept .exit)) r ≡ iteration (networkOf n (now (tails .entry)) (now (heads .entry)) (now (capacities .entry)) (now (sources .entry)) (now (sinks .entry))) q (stateOf (now (lengths .entry)) (now (flow .entry)) (now (loads .entry)) (now (kept .entry)) p) ⌝ }
+    requires noted { ⌜ Noted (networkOf n (now tails) (now heads) (now capacities) (now sources) (now sinks)) q threshold (now lengths) p ⌝ }
+    ensures iterated { λ r. ⌜ Iterated (networkOf n (now (tails .entry)) (now (heads .entry)) (now (capacities .entry)) (now (sources .entry)) (now (sinks .entry))) q (stateOf (now (lengths .entry)) (now (flow .entry)) (now (loads .entry)) (now (kept .entry)) p) (now (lengths .exit)) (now (flow .exit)) (now (loads .exit)) (now (kept .exit)) r ⌝ }
     ensures below { λ r. ⌜ Below (bare n (now (tails .entry)) (now (heads .entry)) (now (sources .entry)) (now (sinks .entry))) (now (lengths .exit)) (now (bounds .exit)) ⌝ }
 {
     let c = choice::choose(
@@ -78,6 +80,7 @@ pub fn iterate(
     let alpha = c.distance;
     let r = steps::step(
         q,
+        threshold,
         capacities,
         commodity,
         &path[..arcs],

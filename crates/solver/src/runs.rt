@@ -1,7 +1,7 @@
 // The run: iterations until some load is at the threshold, on lent tables of numbers.
 use crate::iterations::iterate;
 use crate::steps::Progress;
-use tables::loads;
+use tables::lengths;
 ghost use mathlib.Core.Path.{_≡_};
 ghost use lib.ListN.{length};
 ghost use Rattle.method.specs.Iteration.{initial};
@@ -9,20 +9,26 @@ ghost use Rattle.method.specs.Run.{run};
 ghost use Rattle.choice.specs.Below.{Below};
 ghost use Rattle.paths.specs.Links.{Linked};
 ghost use Rattle.choice.specs.Search.{bare};
-ghost use Rattle.solver.specs.Progress.{stateOf, begun};
+ghost use Rattle.tables.specs.Calls.{Weighing};
+ghost use Rattle.tables.specs.Tables.{weightOf};
+ghost use Rattle.solver.specs.Progress.{stateOf, begun, begunWith};
 ghost use Rattle.solver.specs.Runs.{networkOf, Lent, Space, Chooses};
 
-// Nothing drawn yet, and the least fraction 1 over 0.
-fn begin() -> Progress
-    ensures { λ r. ⌜ r ≡ begun ⌝ }
+// Nothing drawn yet, the least fraction 1 over 0, and D of the first lengths.
+fn begin(capacities: &[u64], lengths: &[u64]) -> Progress
+    requires { ⌜ Weighing (now capacities) (now lengths) ⌝ }
+    ensures { λ r. ⌜ r ≡ begunWith (weightOf (now (capacities .entry)) (now (lengths .entry))) ⌝ }
 {
+    let d = lengths::weight(capacities, lengths);
     Progress {
         total: 0,
         count: 0,
         bound: 1,
         alpha: 0,
         best: 0,
+        weight: d,
         halved: false,
+        ended: false,
     }
 }
 
@@ -59,11 +65,12 @@ pub fn run(
     ensures { λ r. ⌜ stateOf (now (lengths .exit)) (now (flow .exit)) (now (loads .exit)) (now (kept .exit)) r ≡ run (networkOf n (now (tails .entry)) (now (heads .entry)) (now (capacities .entry)) (now (sources .entry)) (now (sinks .entry))) q ⌝ }
 {
     let threshold = length::threshold(tails.len() as u64, q);
-    let mut p = begin();
+    let mut p = begin(capacities, lengths);
     loop {
         p = iterate(
             n,
             q,
+            threshold,
             tails,
             heads,
             capacities,
@@ -84,7 +91,7 @@ pub fn run(
             path,
             p,
         );
-        if loads::ended(loads, capacities, threshold) {
+        if p.ended {
             break;
         }
     }

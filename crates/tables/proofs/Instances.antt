@@ -8,9 +8,10 @@ use native.Mathlib.Nat.{le-of-suc-le-suc, not-suc-le-zero}
 use native.Mathlib.Omega.{arith}
 use lib.Dec.{eqb}
 use lib.ListN.{length, getD}
+use Rattle.arith.specs.Lists.{exists}
 use Rattle.method.proofs.Times.{times}
 use Rattle.tables.specs.Tables.{Capacities}
-use Rattle.tables.specs.Calls.{Growing, Weighing, Adding, Ending, Ranking}
+use Rattle.tables.specs.Calls.{Growing, Weighing, Settling, Adding, Ending, Loading, Ranking}
 
 -- What holds of x holds at every place of the list of x alone.
 alone : (P : ℕ → Type 0) (x : ℕ) → P x → (j : ℕ) → j < length (x ∷ []) → P (getD (x ∷ []) j 0)
@@ -28,6 +29,9 @@ one-arc e = at-most-one (eqb 0 e)
 capacities : Capacities (5 ∷ [])
 capacities = record { least = λ e l. omega (arith, alone (λ x. 1 ≤ x) 5 (omega arith) e l); most = alone (λ x. x ≤ 1000) 5 (omega arith) }
 
+length-seven : (e : ℕ) → e < length {A = ℕ} (7 ∷ []) → getD {A = ℕ} (7 ∷ []) e 0 ≤ 7
+length-seven = alone (λ x. x ≤ 7) 7 (omega arith)
+
 pub growing : Growing (7 ∷ []) (5 ∷ []) 4 5 (0 ∷ [])
 growing =
     record {
@@ -37,12 +41,17 @@ growing =
       places = alone (λ x. x < 1) 0 (omega arith);
       once = λ e. omega (arith, one-arc e);
       drawn = alone (λ x. 5 ≤ getD (5 ∷ []) x 0) 0 (omega arith);
+      few = omega arith;
+      arcs = omega arith;
       sizes = capacities;
-      short = alone (λ x. x < 2 ^ 40) 7 (omega arith);
+      short = λ e l. omega (arith, length-seven e l);
     }
 
 pub weighing : Weighing (5 ∷ []) (7 ∷ [])
-weighing = record { same = refl; few = omega arith; sizes = capacities .most; short = alone (λ x. x < 2 ^ 40) 7 (omega arith) }
+weighing = record { same = refl; few = omega arith; sizes = capacities .most; short = λ e l. omega (arith, length-seven e l) }
+
+pub settling : Settling (5 ∷ []) (7 ∷ [])
+settling = record { same = refl; arcs = omega arith; sizes = capacities .most; grown = λ e l. omega (arith, length-seven e l) }
 
 pub adding : Adding (3 ∷ []) 0 (0 ∷ []) 5
 adding =
@@ -55,6 +64,11 @@ adding =
 
 pub ending : Ending (3 ∷ []) (5 ∷ []) 4
 ending = record { same = refl; small = omega arith; sizes = capacities .most }
+
+-- 3 is below 4 times 5.
+pub loading : Loading (3 ∷ []) (5 ∷ []) 4 (0 ∷ []) 5
+unfolding exists
+loading = record { adding = adding; ending = ending; none = refl }
 
 pub ranking : Ranking (3 ∷ []) (5 ∷ [])
 ranking = record { some = omega arith; same = refl; amounts = alone (λ x. x < 2 ^ 32) 3 (omega arith); sizes = capacities .most }

@@ -3,8 +3,11 @@ pub mod Counted
 pub mod Filled
 pub mod Followed
 pub mod Fuller
+pub mod Halved
 pub mod Instances
+pub mod Lengthened
+pub mod Loadings
 pub mod Lowered
 pub mod OnPath
-pub mod Passed
+pub mod Stored
 pub mod Weighed

@@ -1,12 +1,12 @@
 -- The arcs of a path by their places on it: how often the path has them, what an update has done to them on the way, and the draw among them.
 -- Assumes nothing.
-use mathlib.Core.Path.{_≡_, refl, ap}
-use mathlib.Core.List.{List, [], _∷_, map}
-use Prim.Native.Nat.{ℕ, zero, suc, _+_, _≤_, _<_}
-use native.Mathlib.Nat.{le-of-suc-le-suc, not-suc-le-zero, le-trans, zero-add}
+use mathlib.Core.Path.{_≡_, refl}
+use mathlib.Core.List.{List, [], _∷_}
+use Prim.Native.Nat.{ℕ, zero, suc, _≤_, _<_}
+use native.Mathlib.Nat.{le-of-suc-le-suc, not-suc-le-zero, le-trans}
 use native.Mathlib.Omega.{arith}
 use lib.ListN.{length, getD, take}
-use Rattle.method.specs.Iteration.{draw, update}
+use Rattle.method.specs.Iteration.{draw}
 use Rattle.method.proofs.Changed.{update-other}
 use Rattle.method.proofs.Draws.{draw-within}
 use Rattle.method.proofs.Times.{times, once-same, Below, none, also}
@@ -47,11 +47,3 @@ pub below-under : {n : ℕ} {p : List ℕ} → Below n p → Under n p
 below-under none j l = absurd (not-suc-le-zero l)
 below-under (also h b) zero l = h
 below-under (also h b) (suc j) l = below-under b j (le-of-suc-le-suc l)
-
--- Places counted from 0 are the places.
-from-zero : (p : List ℕ) → map (λ e. 0 + e) p ≡ p
-from-zero [] = refl
-from-zero (e ∷ p) = rw (from-zero p, zero-add)
-
-pub update-from-zero : (f : ℕ → ℕ → ℕ) (p xs : List ℕ) → update f (map (λ e. 0 + e) p) xs ≡ update f p xs
-update-from-zero f p xs = ap (λ (q : List ℕ). update f q xs) (from-zero p)

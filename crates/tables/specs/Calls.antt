@@ -1,11 +1,12 @@
 -- What the steps of an iteration ask of their arguments, so that every index is within its table and every product and sum within 64 bits.
 -- Assumes nothing.
 use mathlib.Core.Path.{_≡_}
+use mathlib.Core.Bool.{false}
 use mathlib.Core.List.{List}
 use Prim.Native.Nat.{ℕ, _+_, _^_, _≤_, _<_}
 use lib.ListN.{length, getD}
 use Rattle.method.proofs.Times.{times}
-use Rattle.tables.specs.Tables.{Under, Within, Capacities}
+use Rattle.tables.specs.Tables.{Under, Within, Capacities, atThreshold}
 
 -- Growth along a path at precision q by the draw g, no more than the capacities on it. The path has no arc twice, so that each length is below
 -- the mark, document 01's 2^40, when it grows.
@@ -16,6 +17,8 @@ pub record Growing (lengths capacities : List ℕ) (q g : ℕ) (path : List ℕ)
   pub places : Under (length capacities) path
   pub once : (e : ℕ) → times e path ≤ 1
   pub drawn : (j : ℕ) → j < length path → g ≤ getD capacities (getD path j 0) 0
+  pub few : length path ≤ 64
+  pub arcs : length capacities ≤ 256
   pub sizes : Capacities capacities
   pub short : Under (2 ^ 40) lengths
 
@@ -24,7 +27,14 @@ pub record Weighing (capacities lengths : List ℕ) : Type 0 where
   pub same : length lengths ≡ length capacities
   pub few : length capacities ≤ 256
   pub sizes : Within 1000 capacities
-  pub short : Under (2 ^ 40) lengths
+  pub short : Within (2 ^ 40) lengths
+
+-- Grown lengths, to be halved if one is at the mark.
+pub record Settling (capacities lengths : List ℕ) : Type 0 where
+  pub same : length lengths ≡ length capacities
+  pub arcs : length capacities ≤ 256
+  pub sizes : Within 1000 capacities
+  pub grown : Under (2 ^ 41) lengths
 
 -- A draw g added at each place of a path, counted from base. Amounts stay far below 2^32, and a path has fewer arcs than there are nodes.
 pub record Adding (table : List ℕ) (base : ℕ) (path : List ℕ) (g : ℕ) : Type 0 where
@@ -38,6 +48,12 @@ pub record Ending (loads capacities : List ℕ) (threshold : ℕ) : Type 0 where
   pub same : length loads ≡ length capacities
   pub small : threshold ≤ 2 ^ 20
   pub sizes : Within 1000 capacities
+
+-- A draw g added to the loads along a path, while no load is at the threshold.
+pub record Loading (loads capacities : List ℕ) (threshold : ℕ) (path : List ℕ) (g : ℕ) : Type 0 where
+  pub adding : Adding loads 0 path g
+  pub ending : Ending loads capacities threshold
+  pub none : atThreshold threshold capacities loads ≡ false
 
 -- Loads over capacities compared with each other.
 pub record Ranking (loads capacities : List ℕ) : Type 0 where

@@ -1,8 +1,13 @@
--- What is asked of all numbers of a table.
+-- What is asked of all numbers of a table, and what is read off all of them.
 -- Assumes nothing.
+use mathlib.Core.Bool.{Bool}
 use mathlib.Core.List.{List}
-use Prim.Native.Nat.{ℕ, _≤_, _<_}
+use Prim.Native.Nat.{ℕ, _*_, _≤_, _<_}
+use lib.Dec.{leb}
 use lib.ListN.{length, getD}
+use Rattle.arith.specs.Lists.{exists}
+use Rattle.arith.specs.Sum.{sum}
+use Rattle.length.specs.Length.{mark}
 
 -- Every number of the table is less than b. Of a path: its arcs are among b arcs.
 abbrev pub Under : ℕ → List ℕ → Type 0
@@ -16,3 +21,15 @@ Within b xs = (e : ℕ) → e < length xs → getD xs e 0 ≤ b
 pub record Capacities (capacities : List ℕ) : Type 0 where
   pub least : (e : ℕ) → e < length capacities → 1 ≤ getD capacities e 0
   pub most : Within 1000 capacities
+
+-- D: the sum over all arcs of capacity times length.
+abbrev pub weightOf : List ℕ → List ℕ → ℕ
+weightOf capacities lengths = sum (length capacities) (λ e. getD capacities e 0 * getD lengths e 0)
+
+-- Some length is at the mark.
+abbrev pub atMark : List ℕ → Bool
+atMark lengths = exists (length lengths) (λ e. leb mark (getD lengths e 0))
+
+-- Some load is at least the threshold times the arc's capacity.
+abbrev pub atThreshold : ℕ → List ℕ → List ℕ → Bool
+atThreshold threshold capacities loads = exists (length loads) (λ e. leb (threshold * getD capacities e 0) (getD loads e 0))

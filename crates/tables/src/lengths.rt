@@ -1,17 +1,14 @@
 // The lengths of all arcs: their start, their growth along a path, their halving, and the bound's D.
 use length::Length;
 ghost use mathlib.Core.Path.{_≡_};
-ghost use mathlib.Core.Bool.{cond};
 ghost use mathlib.Core.List.{map};
-ghost use Prim.Native.Nat.{_*_, _^_, _<_};
-ghost use lib.Dec.{leb};
+ghost use Prim.Native.Nat.{_^_, _<_};
 ghost use lib.ListN.{length, getD};
-ghost use Rattle.arith.specs.Lists.{exists, upTo};
-ghost use Rattle.arith.specs.Sum.{sum};
-ghost use Rattle.length.specs.Length.{mark, start, growth, halving};
-ghost use Rattle.method.specs.Iteration.{update};
-ghost use Rattle.tables.specs.Tables.{Under, Capacities};
-ghost use Rattle.tables.specs.Calls.{Growing, Weighing};
+ghost use Rattle.arith.specs.Lists.{upTo};
+ghost use Rattle.length.specs.Length.{start, halving};
+ghost use Rattle.tables.specs.Tables.{Under, Capacities, weightOf};
+ghost use Rattle.tables.specs.Calls.{Growing, Weighing, Settling};
+ghost use Rattle.tables.specs.Results.{Grew, Settled};
 
 // Every length at its arc's start.
 pub fn start(capacities: &[u64], lengths: &mut [u64])
@@ -25,33 +22,44 @@ pub fn start(capacities: &[u64], lengths: &mut [u64])
     }
 }
 
-// The lengths of the path's arcs grown by the draw g.
-pub fn grow(lengths: &mut [u64], capacities: &[u64], q: u64, g: u64, path: &[u64])
-    requires { ⌜ Growing (now lengths) (now capacities) q g (now path) ⌝ }
-    ensures { λ _. ⌜ now (lengths .exit) ≡ update (λ e x. growth q g (getD (now (capacities .entry)) e 0) x) (now (path .entry)) (now (lengths .entry)) ⌝ }
+// D of grown lengths, and whether some length is at the mark.
+pub struct Grown {
+    pub weight: u64,
+    pub marked: bool,
+}
+
+// The lengths of the path's arcs grown by the draw g. Only they change: their growth carries D over from the weight before, and only they can
+// have reached the mark.
+pub fn grow(
+    lengths: &mut [u64],
+    capacities: &[u64],
+    q: u64,
+    g: u64,
+    path: &[u64],
+    weight: u64,
+) -> Grown
+    requires growing { ⌜ Growing (now lengths) (now capacities) q g (now path) ⌝ }
+    requires weight { ⌜ weight ≡ weightOf (now capacities) (now lengths) ⌝ }
+    ensures { λ r. ⌜ Grew (now (lengths .entry)) (now (capacities .entry)) q g (now (path .entry)) (now (lengths .exit)) r ⌝ }
 {
+    let mut d = weight;
+    let mut marked = false;
     let mut j = 0;
     while j < path.len() {
         let e = path[j] as usize;
-        let l = Length { value: lengths[e] };
-        lengths[e] = l.growth(q, g, capacities[e]).value;
+        let capacity = capacities[e];
+        let old = lengths[e];
+        let l = Length { value: old };
+        let longer = l.growth(q, g, capacity);
+        let new = longer.value;
+        lengths[e] = new;
+        d += capacity * (new - old);
+        if longer.marked() {
+            marked = true;
+        }
         j += 1;
     }
-}
-
-// Whether some length has reached the mark.
-pub fn marked(lengths: &[u64]) -> bool
-    ensures { λ r. ⌜ r ≡ exists (length (now (lengths .entry))) (λ e. leb mark (getD (now (lengths .entry)) e 0)) ⌝ }
-{
-    let mut e = 0;
-    while e < lengths.len() {
-        let l = Length { value: lengths[e] };
-        if l.marked() {
-            return true;
-        }
-        e += 1;
-    }
-    false
+    Grown { weight: d, marked }
 }
 
 // Every length halved.
@@ -67,23 +75,10 @@ pub fn halve(lengths: &mut [u64])
     }
 }
 
-// Every length halved if some length has reached the mark; whether they were.
-pub fn settle(lengths: &mut [u64]) -> bool
-    requires { ⌜ Under (2 ^ 41) (now lengths) ⌝ }
-    ensures marked { λ r. ⌜ r ≡ exists (length (now (lengths .entry))) (λ e. leb mark (getD (now (lengths .entry)) e 0)) ⌝ }
-    ensures settled { λ r. ⌜ now (lengths .exit) ≡ cond (exists (length (now (lengths .entry))) (λ e. leb mark (getD (now (lengths .entry)) e 0))) (map halving (now (lengths .entry))) (now (lengths .entry)) ⌝ }
-{
-    if marked(lengths) {
-        halve(lengths);
-        return true;
-    }
-    false
-}
-
 // D: the sum over all arcs of capacity times length.
 pub fn weight(capacities: &[u64], lengths: &[u64]) -> u64
     requires { ⌜ Weighing (now capacities) (now lengths) ⌝ }
-    ensures { λ r. ⌜ (r ≡ sum (length (now (capacities .entry))) (λ e. getD (now (capacities .entry)) e 0 * getD (now (lengths .entry)) e 0)) × (r < 2 ^ 58) ⌝ }
+    ensures { λ r. ⌜ (r ≡ weightOf (now (capacities .entry)) (now (lengths .entry))) × (r < 2 ^ 58) ⌝ }
 {
     let mut d = 0;
     let mut e = 0;
@@ -92,4 +87,18 @@ pub fn weight(capacities: &[u64], lengths: &[u64]) -> u64
         e += 1;
     }
     d
+}
+
+// Every length halved if one has grown to the mark; D, summed anew only then.
+pub fn settle(lengths: &mut [u64], capacities: &[u64], grown: Grown) -> u64
+    requires settling { ⌜ Settling (now capacities) (now lengths) ⌝ }
+    requires weight { ⌜ grown .weight ≡ weightOf (now capacities) (now lengths) ⌝ }
+    ensures { λ r. ⌜ Settled (now (lengths .entry)) (now (capacities .entry)) (grown .marked) (now (lengths .exit)) r ⌝ }
+{
+    if grown.marked {
+        halve(lengths);
+        weight(capacities, lengths)
+    } else {
+        grown.weight
+    }
 }

@@ -1,25 +1,29 @@
 // The loads of all arcs: when they end the run, which arc is fullest, and tables of numbers cleared and copied.
 ghost use mathlib.Core.Path.{_≡_};
-ghost use Prim.Native.Nat.{_-_, _*_, _<_};
-ghost use lib.Dec.{leb};
-ghost use lib.ListN.{length, getD, replicate};
-ghost use Rattle.arith.specs.Lists.{exists};
+ghost use Prim.Native.Nat.{_-_, _<_};
+ghost use lib.ListN.{length, replicate};
 ghost use Rattle.method.specs.Answer.{fullest};
-ghost use Rattle.tables.specs.Calls.{Ending, Ranking};
+ghost use Rattle.tables.specs.Calls.{Loading, Ranking};
+ghost use Rattle.tables.specs.Results.{Loaded};
 
-// Whether some load is at least the threshold times the arc's capacity.
-pub fn ended(loads: &[u64], capacities: &[u64], threshold: u64) -> bool
-    requires { ⌜ Ending (now loads) (now capacities) threshold ⌝ }
-    ensures { λ r. ⌜ r ≡ exists (length (now (loads .entry))) (λ e. leb (threshold * getD (now (capacities .entry)) e 0) (getD (now (loads .entry)) e 0)) ⌝ }
+// The draw g added to the loads of the path's arcs: whether some load is now at least the threshold times the arc's capacity. None was before,
+// so that only these arcs are looked at.
+pub fn load(loads: &mut [u64], capacities: &[u64], threshold: u64, path: &[u64], g: u64) -> bool
+    requires { ⌜ Loading (now loads) (now capacities) threshold (now path) g ⌝ }
+    ensures { λ r. ⌜ Loaded (now (loads .entry)) (now (capacities .entry)) threshold (now (path .entry)) g (now (loads .exit)) r ⌝ }
 {
-    let mut e = 0;
-    while e < loads.len() {
-        if threshold * capacities[e] <= loads[e] {
-            return true;
+    let mut full = false;
+    let mut j = 0;
+    while j < path.len() {
+        let e = path[j] as usize;
+        let y = loads[e] + g;
+        loads[e] = y;
+        if threshold * capacities[e] <= y {
+            full = true;
         }
-        e += 1;
+        j += 1;
     }
-    false
+    full
 }
 
 // The lowest-numbered arc of the greatest load over capacity.

@@ -8,14 +8,14 @@ use native.Mathlib.Omega.{arith}
 use lib.ListN.{length, take}
 use lib.Seq.{length-take-le}
 use Rattle.network.specs.Network.{Network}
-use Rattle.method.specs.Choice.{choiceOf}
 use Rattle.method.specs.Iteration.{State}
 use Rattle.choice.specs.Chose.{Picked}
 use Rattle.solver.specs.Progress.{stateOf}
 use Rattle.solver.specs.Runs.{networkOf}
-use Rattle.solver.proofs.Chosen.{surveyed, fronted, picks, iteration-is}
+use Rattle.solver.proofs.Chosen.{surveyed, fronted, picks}
+use Rattle.solver.proofs.Iterated.{iterated}
 use Rattle.solver.proofs.Longer.{below-next}
-use Rattle.solver.proofs.OfCapacities.{advance-same}
+use Rattle.solver.proofs.Noted.{kept-ready}
 use Rattle.solver.proofs.Ready.{ready}
 use Rattle.solver.proofs.iterations.iterate.Statement.{statement}
 use Rattle.solver.proofs.iterations.iterate.Tie as tie
@@ -33,7 +33,7 @@ choose-requires : tie.Need-choose-requires
 choose-requires c κs =
     let s = c .before .before .before .before .before .before .before .before .before .before .before .before .before .before .before .before .before .before .before .before .before .before .before .before in
     let p = s .pre in (
-      surveyed (net s) (s .args .q) (p .0) (state s) (p .1 .1 .1 .1 .1 .1) (p .1 .0),
+      surveyed (net s) (s .args .q) (p .0) (state s) (p .1 .1 .1 .1 .1 .1 .0) (p .1 .0),
       (
         p .0 .sound .counts .of-commodities .least,
         (p .1 .1 .0, (p .1 .1 .1 .0, (fronted (net s) (s .args .q) (p .0) (p .1 .0), p .1 .1 .1 .1 .0))),
@@ -65,9 +65,11 @@ step-requires : tie.Need-step-requires
 step-requires c κs =
     let f = c .before .before .before .before .before .before .before .before .before .before .before .before .before .before .before in
     let s = entry f in
-    rw (← (picked f .alpha))
-    (ready (net s) (s .args .q) (s .pre .0) (state s) (s .pre .1 .1 .1 .1 .1 .1) (f .choose .result .commodity)
-    (take (f .choose .result .arcs) (arcs f)) (picked f .chosen))
+    let r = s .pre .1 .1 .1 .1 .1 .1 in (
+      rw (← (picked f .alpha))
+          (ready (net s) (s .args .q) (s .pre .0) (state s) (r .0) (f .choose .result .commodity) (take (f .choose .result .arcs) (arcs f)) (picked f .chosen)),
+      kept-ready (net s) (s .args .q) (s .pre .0) (state s) (r .0) (s .args .threshold) (s .args .p) (r .1),
+    )
 
 forget-requires : tie.Need-forget-requires
 forget-requires c κs = search needs
@@ -103,16 +105,16 @@ returns : tie.Need-returns
 returns c =
     let f = c .before .before .before .before .before .before .before .before .before .before .before .before .before .before .before .before .before .before .before .before .before .before .before .before .before .before .before .before in
     let s = entry f in
+    let r = s .pre .1 .1 .1 .1 .1 .1 in
     let caps = now (s .args .capacities) in
     let i = f .choose .result .commodity in
     let path = take (f .choose .result .arcs) (arcs f) in
     let stepped = c .before .before .before .before .before .before .before .before .before .before .before .before .step in (
-      stepped .ensures .0 ∙
-          (advance-same (net s) (s .args .q) (choiceOf i path) (state s) (s .pre .0 .capacities) ∙
-          sym (iteration-is (net s) (s .args .q) (state s) (choiceOf i path) (picked f .chosen))),
+      iterated (net s) (s .args .q) (s .pre .0) (s .args .threshold) (r .1 .threshold) (state s) (r .0 .valid .table .places) i path (picked f .chosen)
+          _ _ _ _ _ (stepped .ensures),
       rw (c .before .before .forget .ensures)
-          (below-next caps (s .args .q) i path (state s) (s .pre .1 .1 .1 .1 .1 .1 .valid .lengths ∙ sym (s .pre .0 .capacities))
-          (stepped .result .halved) (f .choose .ensures .1) (stepped .ensures .1) (ap (λ t. t .lengths) (stepped .ensures .0))),
+          (below-next caps (s .args .q) i path (state s) (r .0 .valid .lengths ∙ sym (s .pre .0 .capacities)) (stepped .result .halved)
+          (f .choose .ensures .1) (stepped .ensures .halved) (ap (λ t. t .lengths) (stepped .ensures .state))),
     )
 
 pub iterate-spec : {M : Type 1} → statement M

@@ -1,14 +1,11 @@
 -- `solver::steps::step` meets its contract: its parts are those of the method's step. Assumes nothing.
 use borrow.Author.Needs.{needs}
 use denote.Ref.{now}
-use mathlib.Core.Path.{refl, ap, _∙_}
 use native.Mathlib.Omega.{arith}
-use Rattle.solver.proofs.Stepped.{stepped}
+use Rattle.method.specs.Iteration.{weight}
+use Rattle.solver.proofs.Stepped.{put-together}
 use Rattle.solver.proofs.steps.step.Statement.{statement}
 use Rattle.solver.proofs.steps.step.Tie as tie
-
-weight-requires : tie.Need-weight-requires
-weight-requires c κs = search needs
 
 draw-requires : tie.Need-draw-requires
 draw-requires c κs = search needs
@@ -25,17 +22,27 @@ mul-row c = search needs
 add-requires : tie.Need-add-requires
 add-requires c κs = search needs
 
-add-requires-2 : tie.Need-add-requires-2
-add-requires-2 c κs = search needs
+load-requires : tie.Need-load-requires
+load-requires c κs =
+    let s = c .before .before .before .before .before .before .before .before .before .before .before .before .before .before .before .before .before .before in
+    rw (c .before .before .before .before .before .before .before .before .before .before .before .draw .ensures) (record { adding = s .pre .0 .loads; ending = s .pre .1 .ending; none = s .pre .1 .none })
 
 grow-requires : tie.Need-grow-requires
-grow-requires c κs = rw (c .before .before .before .before .before .before .before .before .before .before .before .before .before .before .before .draw .ensures) (c .before .before .before .before .before .before .before .before .before .before .before .before .before .before .before .before .before .before .before .before .before .before .before .before .pre .growing)
+unfolding weight
+grow-requires c κs =
+    let s = c .before .before .before .before .before .before .before .before .before .before .before .before .before .before .before .before .before .before .before .before .before .before in
+    (rw (c .before .before .before .before .before .before .before .before .before .before .before .before .before .before .before .draw .ensures) (s .pre .0 .growing), s .pre .1 .weight)
 
 settle-requires : tie.Need-settle-requires
-settle-requires c κs = rw (c .before .before .before .grow .ensures, c .before .before .before .before .before .before .before .before .before .before .before .before .before .before .before .before .before .before .before .draw .ensures) (c .before .before .before .before .before .before .before .before .before .before .before .before .before .before .before .before .before .before .before .before .before .before .before .before .before .before .before .before .pre .grown)
+settle-requires c κs =
+    let s = c .before .before .before .before .before .before .before .before .before .before .before .before .before .before .before .before .before .before .before .before .before .before .before .before .before .before in
+    let f = c .before .before .before .grow .ensures in
+    (rw (f .lengths, c .before .before .before .before .before .before .before .before .before .before .before .before .before .before .before .before .before .before .before .draw .ensures) (s .pre .0 .grown), f .weight)
 
 count-requires : tie.Need-count-requires
-count-requires c κs = omega (arith, c .before .before .before .before .before .before .before .before .before .before .before .before .before .before .before .before .before .before .before .before .before .before .before .before .before .before .before .before .before .before .before .pre .total, c .before .before .before .before .before .before .before .before .before .before .before .before .before .before .before .before .before .before .before .before .before .before .before .before .before .before .before .before .before .before .before .pre .count, c .before .before .before .before .before .before .before .before .before .before .before .before .before .before .before .before .before .before .before .before .before .before .draw .ensures, c .before .before .before .before .before .before .before .before .before .before .before .before .before .before .before .before .before .before .before .before .before .before .before .before .before .before .before .before .before .before .before .pre .loads .small)
+count-requires c κs =
+    let s = c .before .before .before .before .before .before .before .before .before .before .before .before .before .before .before .before .before .before .before .before .before .before .before .before .before .before .before .before .before in
+    omega (arith, s .pre .0 .total, s .pre .0 .count, c .before .before .before .before .before .before .before .before .before .before .before .before .before .before .before .before .before .before .before .before .before .before .draw .ensures, s .pre .0 .loads .small)
 
 same-length : tie.Need-same-length
 same-length c = search needs
@@ -47,41 +54,32 @@ same-length-3 : tie.Need-same-length-3
 same-length-3 c = search needs
 
 same-length-4 : tie.Need-same-length-4
-same-length-4 c = search needs
+same-length-4 c = c .before .before .before .before .before .before .before .before .before .before .before .before .before .before .before .before .before .before .before .keep .kept .1 .1 .0
 
 returns : tie.Need-returns
 returns c =
-    let s = c .before .before .before .before .before .before .before .before .before .before .before .before .before .before .before .before .before .before .before .before .before .before .before .before .before .before .before .before .before .before .before .before in
-    let drawn = c .before .before .before .before .before .before .before .before .before .before .before .before .before .before .before .before .before .before .before .before .before .before .before .draw .ensures in
-    let grown = c .before .before .before .before .before .before .before .grow .ensures in (
-      rw (
-        c .count .ensures,
-        c .before .before .before .settle .ensures .1,
-        grown,
-        c .before .before .before .before .before .before .before .before .before .before .before .add2 .ensures,
-        c .before .before .before .before .before .before .before .before .before .before .before .before .before .before .before .add .ensures,
-        c .before .before .before .before .before .before .before .before .before .before .before .before .before .before .before .before .before .before .before .keep .ensures,
-        c .before .before .before .before .before .before .before .before .before .before .before .before .before .before .before .before .before .before .before .before .before .before .less-product .ensures,
-        drawn,
-        c .before .before .before .before .before .before .before .before .before .before .before .before .before .before .before .before .before .before .before .before .before .before .before .before .weight .ensures .0,
-        s .pre .alpha,
-      )
-          (stepped (now (s .args .capacities)) (s .args .q) (s .args .commodity) (now (s .args .path)) (now (s .args .lengths)) (now (s .args .flow))
-          (now (s .args .loads)) (now (s .args .kept)) (s .args .p) (c .before .before .before .settle .result) (s .pre .weighing .same)),
-      ap (λ p. p .halved) (c .count .ensures) ∙ (c .before .before .before .settle .ensures .0 ∙ rw (grown, drawn) refl),
-    )
+    let s = c .before .before .before .before .before .before .before .before .before .before .before .before .before .before .before .before .before .before .before .before .before .before .before .before .before .before .before .before .before .before in
+    put-together (now (s .args .capacities)) (s .args .q) (s .args .threshold) (s .args .commodity) (now (s .args .path)) (now (s .args .lengths))
+    (now (s .args .flow)) (now (s .args .loads)) (now (s .args .kept)) (s .args .p) (s .pre .0 .growing .same) (s .pre .1 .weight) (s .pre .0 .alpha)
+    (c .before .before .before .before .before .before .before .before .before .before .before .before .before .before .before .before .before .before .before .before .before .before .before .draw .ensures)
+    (c .before .before .before .before .before .before .before .before .before .before .before .before .before .before .before .before .before .before .before .before .before .before .less-product .ensures)
+    (c .before .before .before .before .before .before .before .before .before .before .before .before .before .before .before .before .before .before .before .keep .ensures)
+    (c .before .before .before .before .before .before .before .before .before .before .before .before .before .before .before .add .ensures)
+    (c .before .before .before .before .before .before .before .before .before .before .before .load .ensures)
+    (c .before .before .before .before .before .before .before .grow .ensures)
+    (c .before .before .before .settle .ensures)
+    (c .count .ensures)
 
 pub step-spec : {M : Type 1} → statement M
 step-spec =
     tie.close
     (tie.spec
-    weight-requires
     draw-requires
     less-product-requires
     keep-requires
     mul-row
     add-requires
-    add-requires-2
+    load-requires
     grow-requires
     settle-requires
     count-requires

@@ -1,21 +1,23 @@
--- `solver::lengths::grow` meets its contract: after j turns the lengths are updated along the first j arcs of the path. The arc at place j has not
--- had its turn, so its length is still below the mark.
+-- `tables::lengths::grow` meets its contract: after j turns the lengths are grown along the first j arcs of the path, with D and the test of the
+-- mark carried along. The arc at place j has not had its turn, so its length is still below the mark.
 -- Assumes nothing.
-use mathlib.Core.Path.{refl}
-use Prim.Native.Nat.{ℕ, _-_, _^_, _<_}
+use borrow.Author.Needs.{needs}
+use mathlib.Core.Path.{sym, ap, _∙_}
+use mathlib.Core.Bool.{_||_, or-true, or-false}
+use mathlib.Core.Logic.{⊎-elim}
+use Prim.Native.Nat.{ℕ, _*_, _-_, _^_, _≤_, _<_}
 use native.Mathlib.Omega.{arith}
 use lib.ListN.{length, getD}
-use Rattle.length.specs.Length.{growth}
-use Rattle.tables.proofs.Followed.{Following, follow-none, follow-more, follow-all}
-use Rattle.tables.proofs.OnPath.{follow-next}
+use Rattle.tables.specs.Calls.{Growing}
+use Rattle.tables.proofs.Lengthened.{Lengthened, lengthen-none, lengthen-more, lengthen-all, next-place, next-short, next-longer, next-rise}
 use Rattle.tables.proofs.lengths.grow.Statement.{statement}
 use Rattle.tables.proofs.lengths.grow.Tie as tie
 
 abbrev Inv-loop : tie.InvT-loop
-Inv-loop lengths₀ capacities q g path j₀ lengths j = Following (λ e x. growth q g (getD capacities e 0) x) path j lengths₀ lengths
+Inv-loop lengths₀ capacities q g path weight d₀ marked₀ j₀ lengths d marked j = Lengthened capacities lengths₀ q g path j lengths d marked
 
 abbrev μ-loop : tie.MeasureT-loop
-μ-loop lengths₀ capacities q g path j₀ lengths j = length path - j
+μ-loop lengths₀ capacities q g path weight d₀ marked₀ j₀ lengths d marked j = length path - j
 
 abbrev entry : tie.In-loop Inv-loop μ-loop → tie.Start Inv-loop μ-loop
 entry c = c .before .before .before .before .before
@@ -25,15 +27,27 @@ abbrev arc : tie.In-loop Inv-loop μ-loop → ℕ
 arc c = getD (entry c .args .path .now) (c .before .loop .j) 0
 
 place : (c : tie.In-loop Inv-loop μ-loop) → arc c < length (entry c .args .capacities .now)
-place c = entry c .pre .places (c .before .loop .j) (omega arith)
+place c = next-place (entry c .pre .0) (c .before .loop .inv) (c .loop-test .taken)
 
-unmarked : (c : tie.In-loop Inv-loop μ-loop) → getD (c .before .loop .lengths) (arc c) 0 < 2 ^ 40
-unmarked c =
-    let p = entry c .pre in
-    rw (follow-next (c .before .loop .inv) (omega arith) (omega (arith, p .once (arc c)))) (p .short _ (omega (arith, place c)))
+short : (c : tie.In-loop Inv-loop μ-loop) → getD (c .before .loop .lengths) (arc c) 0 < 2 ^ 40
+short c = next-short (entry c .pre .0) (c .before .loop .inv) (c .loop-test .taken)
+
+-- how much D grows by this arc
+module _ (c : tie.After-growth Inv-loop μ-loop) where
+  abbrev turn : tie.In-loop Inv-loop μ-loop
+  turn = c .before .before .before .before
+
+  abbrev old : ℕ
+  old = getD (turn .before .loop .lengths) (arc turn) 0
+
+  longer : old ≤ c .growth .result .value
+  longer = next-longer (entry turn .pre .0) (turn .before .loop .inv) (turn .loop-test .taken) _ (c .growth .ensures)
+
+  rise : getD (entry turn .args .capacities .now) (arc turn) 0 * (c .growth .result .value - old) ≤ 2 ^ 51
+  rise = next-rise (entry turn .pre .0) (turn .before .loop .inv) (turn .loop-test .taken) _ (c .growth .ensures)
 
 loop-holds : tie.Need-loop-holds Inv-loop μ-loop
-loop-holds c = follow-none _ _ _
+loop-holds c = lengthen-none (c .before .before .before .pre .0) _ (c .before .before .before .pre .1)
 
 mul-e : tie.Need-mul-e Inv-loop μ-loop
 mul-e c = omega arith
@@ -41,28 +55,28 @@ mul-e c = omega arith
 shared-slice-read-e : tie.Need-shared-slice-read-e Inv-loop μ-loop
 shared-slice-read-e c = omega arith
 
-mul-growth : tie.Need-mul-growth Inv-loop μ-loop
-mul-growth c = omega (arith, place (c .before))
+mul-capacity : tie.Need-mul-capacity Inv-loop μ-loop
+mul-capacity c = omega (arith, place (c .before))
 
-slice-read-growth : tie.Need-slice-read-growth Inv-loop μ-loop
-slice-read-growth c = omega (arith, place (c .before .before))
+shared-slice-read-capacity : tie.Need-shared-slice-read-capacity Inv-loop μ-loop
+shared-slice-read-capacity c = omega (arith, place (c .before .before))
 
-mul-growth-2 : tie.Need-mul-growth-2 Inv-loop μ-loop
-mul-growth-2 c = omega (arith, place (c .before .before))
+mul-old : tie.Need-mul-old Inv-loop μ-loop
+mul-old c = omega (arith, place (c .before .before))
 
-shared-slice-read-growth : tie.Need-shared-slice-read-growth Inv-loop μ-loop
-shared-slice-read-growth c = omega (arith, place (c .before .before .before))
+slice-read-old : tie.Need-slice-read-old Inv-loop μ-loop
+slice-read-old c = omega (arith, place (c .before .before .before))
 
 growth-requires : tie.Need-growth-requires Inv-loop μ-loop
 growth-requires c κs =
     let turn = c .before .before .before in
-    let p = entry turn .pre in (
+    let p : Growing _ _ _ _ _ = entry turn .pre .0 in (
       omega arith,
       omega arith,
-      omega (arith, p .drawn (turn .before .loop .j) (omega arith)),
+      omega (arith, p .drawn (turn .before .loop .j) (turn .loop-test .taken)),
       omega (arith, p .sizes .least (arc turn) (place turn)),
       omega (arith, p .sizes .most (arc turn) (place turn)),
-      unmarked turn,
+      short turn,
     )
 
 mul-lengths : tie.Need-mul-lengths Inv-loop μ-loop
@@ -71,6 +85,18 @@ mul-lengths c = omega (arith, place (c .before .before .before .before))
 slice-write-lengths : tie.Need-slice-write-lengths Inv-loop μ-loop
 slice-write-lengths c = omega (arith, place (c .before .before .before .before))
 
+sub-d : tie.Need-sub-d Inv-loop μ-loop
+sub-d c = omega (arith, longer c)
+
+mul-d : tie.Need-mul-d Inv-loop μ-loop
+mul-d c = omega (arith, rise c)
+
+add-d : tie.Need-add-d Inv-loop μ-loop
+add-d c = omega (arith, rise c, turn c .before .loop .inv .most, entry (turn c) .pre .0 .few)
+
+marked-requires : tie.Need-marked-requires Inv-loop μ-loop
+marked-requires c κs = search needs
+
 add-j : tie.Need-add-j Inv-loop μ-loop
 add-j c = omega arith
 
@@ -78,13 +104,18 @@ loop-less : tie.Need-loop-less Inv-loop μ-loop
 loop-less c = omega arith
 
 loop-again : tie.Need-loop-again Inv-loop μ-loop
-loop-again c = follow-more _ _ (c .before .before .before .before .before .loop .inv) (omega arith) refl (c .growth .ensures)
+loop-again c =
+    let s = c .before .before in
+    let b = turn s .before .loop .marked in
+    lengthen-more (entry (turn s) .pre .0) (turn s .before .loop .inv) (turn s .loop-test .taken) (s .growth .result .value) (s .growth .ensures) (c .if1 .marked)
+    (⊎-elim (λ w. w .1 ∙ (sym (or-true b) ∙ ap (λ x. b || x) (sym (w .0 .taken) ∙ c .before .marked .ensures .0)))
+    (λ w. w .1 ∙ (sym (or-false b) ∙ ap (λ x. b || x) (sym (w .0 .left) ∙ c .before .marked .ensures .0))) (c .if1 .came))
 
 same-length : tie.Need-same-length Inv-loop μ-loop
 same-length c = omega arith
 
 returns : tie.Need-returns Inv-loop μ-loop
-returns c = follow-all (c .before .loop .inv) (omega arith)
+returns c = lengthen-all (c .before .loop .inv) (omega arith)
 
 pub grow-spec : {M : Type 1} → statement M
 grow-spec =
@@ -95,13 +126,17 @@ grow-spec =
     loop-holds
     mul-e
     shared-slice-read-e
-    mul-growth
-    slice-read-growth
-    mul-growth-2
-    shared-slice-read-growth
+    mul-capacity
+    shared-slice-read-capacity
+    mul-old
+    slice-read-old
     growth-requires
     mul-lengths
     slice-write-lengths
+    sub-d
+    mul-d
+    add-d
+    marked-requires
     add-j
     loop-less
     loop-again

@@ -1,30 +1,27 @@
--- `tables::lengths::settle` meets its contract: the test is the definition's.
--- Assumes nothing.
-use mathlib.Core.Path.{refl, sym, _∙_}
+-- `tables::lengths::settle` meets its contract: halved lengths are no longer, so that D can be summed anew. Assumes nothing.
 use borrow.Author.Needs.{needs}
+use mathlib.Core.Path.{refl}
+use Rattle.tables.proofs.Halved.{halved-weighing}
 use Rattle.tables.proofs.lengths.settle.Statement.{statement}
 use Rattle.tables.proofs.lengths.settle.Tie as tie
 
-marked-requires : tie.Need-marked-requires
-marked-requires c κs = search needs
-
 halve-requires : tie.Need-halve-requires
 halve-requires c κs = search needs
+
+weight-requires : tie.Need-weight-requires
+weight-requires c κs = rw (c .before .before .before .halve .ensures) (halved-weighing (c .before .before .before .before .before .before .before .before .pre .0))
 
 same-length : tie.Need-same-length
 same-length c = search needs
 
 returns : tie.Need-returns
 returns c =
-    let at-if = c .before .before .before .before in
-    let t = sym (at-if .before .marked .ensures) ∙ at-if .if1 .taken in
-    (sym t, rw t (c .before .before .halve .ensures))
-
-same-length-2 : tie.Need-same-length-2
-same-length-2 c = search needs
+    let halved = c .before .before .before .before .halve .ensures in
+    let told = c .before .before .before .before .before .before .if1 .taken in
+    record { lengths = rw told halved; weight = c .weight .ensures .0 }
 
 returns-2 : tie.Need-returns-2
-returns-2 c = let t = sym (c .before .marked .ensures) ∙ c .if1 .left in (sym t, rw t refl)
+returns-2 c = record { lengths = rw (c .if1 .left) refl; weight = c .before .before .before .pre .1 }
 
 pub settle-spec : {M : Type 1} → statement M
-settle-spec = tie.close (tie.spec marked-requires halve-requires same-length returns same-length-2 returns-2)
+settle-spec = tie.close (tie.spec halve-requires weight-requires same-length returns returns-2)

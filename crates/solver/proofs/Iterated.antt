@@ -1,0 +1,40 @@
+-- A step along the chosen path is an iteration, and what it notes beside the state is so of the network. Assumes nothing.
+use mathlib.Core.Path.{_≡_, sym, ap, _∙_}
+use mathlib.Core.Option.{some}
+use mathlib.Core.List.{List}
+use Prim.Native.Nat.{ℕ}
+use lib.ListN.{length}
+use Rattle.length.specs.Level.{threshold}
+use Rattle.network.specs.Network.{Network, arcs}
+use Rattle.method.specs.Choice.{choice, choiceOf}
+use Rattle.method.specs.Iteration.{State, iteration, advance}
+use Rattle.method.specs.Run.{ended}
+use Rattle.method.proofs.Times.{update-length}
+use Rattle.solver.specs.declared.steps.Progress.{Progress}
+use Rattle.solver.specs.Progress.{stateOf}
+use Rattle.solver.specs.Noted.{Iterated}
+use Rattle.solver.specs.Runs.{Lent}
+use Rattle.solver.specs.Steps.{Stepped}
+use Rattle.solver.proofs.Chosen.{iteration-is}
+use Rattle.solver.proofs.Noted.{weight-same}
+use Rattle.solver.proofs.OfCapacities.{advance-same}
+use Rattle.solver.proofs.Running.{ended-is}
+
+module _ (net : Network) (q : ℕ) (lent : Lent net q) (t : ℕ) (e : t ≡ threshold (arcs net) q) (s : State) (places : length (s .loads) ≡ arcs net)
+    (i : ℕ) (path : List ℕ) (h : choice net (s .lengths) ≡ some (choiceOf i path)) (lengths flow loads kept : List ℕ) (r : Progress)
+    (w : Stepped (net .capacities) q t i path s lengths flow loads kept r) where
+  state : stateOf lengths flow loads kept r ≡ iteration net q s
+  state =
+      w .state ∙ (advance-same net q (choiceOf i path) s (lent .capacities) ∙ sym (iteration-is net q s (choiceOf i path) h))
+
+  loaded : length loads ≡ arcs net
+  unfolding advance
+  loaded = ap (λ x. length (x .loads)) (w .state) ∙ (update-length _ path (s .loads) ∙ places)
+
+  pub iterated : Iterated net q s lengths flow loads kept r
+  iterated =
+      record {
+        state = state;
+        weight = w .weight ∙ weight-same net lengths (lent .capacities);
+        ended = w .ended ∙ (ended-is net q (stateOf lengths flow loads kept r) t loaded e ∙ ap (ended net q) state);
+      }

@@ -1,0 +1,50 @@
+-- At every state that the run reaches, no load is at the threshold, so that a step may be made with the numbers beside the state.
+-- Assumes nothing.
+use mathlib.Core.Path.{_≡_, refl, sym, _∙_}
+use mathlib.Core.Bool.{false}
+use mathlib.Core.List.{List}
+use Prim.Native.Nat.{ℕ, _*_}
+use native.Mathlib.Omega.{arith}
+use borrow.Author.Tests.{lt-leb}
+use lib.Dec.{leb}
+use lib.ListN.{length, getD}
+use Rattle.arith.proofs.Exists.{none-exists}
+use Rattle.length.specs.Level.{threshold}
+use Rattle.length.proofs.Bounds.{threshold-most}
+use Rattle.network.specs.Network.{Network, arcs, capacity}
+use Rattle.method.specs.Iteration.{State, weight}
+use Rattle.method.specs.Run.{ended}
+use Rattle.method.proofs.Instance.{seen}
+use Rattle.method.proofs.Reached.{Reached}
+use Rattle.solver.specs.declared.steps.Progress.{Progress}
+use Rattle.solver.specs.Progress.{ofCapacities}
+use Rattle.solver.specs.Noted.{Noted}
+use Rattle.solver.specs.Runs.{Lent}
+use Rattle.solver.specs.Steps.{Kept}
+use Rattle.solver.proofs.Running.{ended-is}
+
+-- D by the capacities alone.
+pub weight-same : (net : Network) (l : List ℕ) → length (net .capacities) ≡ arcs net → weight (ofCapacities (net .capacities)) l ≡ weight net l
+unfolding weight
+weight-same net l h = rw h refl
+
+module _ (net : Network) (q : ℕ) (lent : Lent net q) (s : State) (r : Reached net q s) where
+  -- The run has not ended.
+  not-full : ended net q s ≡ false
+  unfolding ended threshold seen
+  not-full = none-exists (arcs net) (λ e. leb (threshold (arcs net) q * capacity net e) (getD (s .loads) e 0)) (λ e l. lt-leb _ _ (r .below e l))
+
+  pub kept-ready : (t : ℕ) (p : Progress) → Noted net q t (s .lengths) p → Kept (net .capacities) t s p
+  kept-ready t p n =
+      let m = lent .sound .counts .of-arcs in
+      let x = lent .sound .counts .precision in
+      record {
+        weight = n .weight ∙ sym (weight-same net (s .lengths) (lent .capacities));
+        ending =
+            record {
+              same = r .valid .table .places ∙ sym (lent .capacities);
+              small = omega (arith, n .threshold, threshold-most (arcs net) q (m .least) (m .most) (x .least) (x .most));
+              sizes = λ e l. lent .sound .arc-capacity e (omega (arith, lent .capacities)) .most;
+            };
+        none = ended-is net q s t (r .valid .table .places) (n .threshold) ∙ not-full;
+      }

@@ -1,0 +1,26 @@
+-- What the steps of an iteration that look along the path only say of whole tables.
+use mathlib.Core.Path.{_≡_}
+use mathlib.Core.Bool.{Bool, cond}
+use mathlib.Core.List.{List, map}
+use Prim.Native.Nat.{ℕ, _+_}
+use lib.ListN.{getD}
+use Rattle.length.specs.Length.{growth, halving}
+use Rattle.method.specs.Iteration.{update}
+use Rattle.tables.specs.declared.lengths.Grown.{Grown}
+use Rattle.tables.specs.Tables.{weightOf, atMark, atThreshold}
+
+-- The lengths of the path's arcs are grown by the draw g; their D, and whether some length is at the mark.
+pub record Grew (old capacities : List ℕ) (q g : ℕ) (path new : List ℕ) (r : Grown) : Type 0 where
+  pub lengths : new ≡ update (λ e x. growth q g (getD capacities e 0) x) path old
+  pub weight : r .weight ≡ weightOf capacities new
+  pub marked : r .marked ≡ atMark new
+
+-- The lengths are halved if so told; D of what they are then.
+pub record Settled (old capacities : List ℕ) (marked : Bool) (new : List ℕ) (d : ℕ) : Type 0 where
+  pub lengths : new ≡ cond marked (map halving old) old
+  pub weight : d ≡ weightOf capacities new
+
+-- The loads of the path's arcs are raised by the draw g; whether some load is at the threshold.
+pub record Loaded (old capacities : List ℕ) (threshold : ℕ) (path : List ℕ) (g : ℕ) (new : List ℕ) (r : Bool) : Type 0 where
+  pub loads : new ≡ update (λ e x. x + g) path old
+  pub ended : r ≡ atThreshold threshold capacities new
