@@ -21,31 +21,21 @@ static uint8_t count[VITHMORK_COUNT_BYTES];
 static void fill(void)
 {
     for (size_t e = 0; e < BELTS; e++)
-        for (size_t i = 0; i < VITHMORK_BELT_NUMBERS; i++)
-            vithmork_put(belts, e * VITHMORK_BELT_NUMBERS + i, belt[e][i]);
+        vithmork_put_belt(belts, e, belt[e][0], belt[e][1], belt[e][2]);
     for (size_t p = 0; p < PAIRS; p++)
-        for (size_t i = 0; i < VITHMORK_PAIR_NUMBERS; i++)
-            vithmork_put(pairs, p * VITHMORK_PAIR_NUMBERS + i, pair[p][i]);
-}
-
-/* A number of the flow table, or the sum of some, in totes an hour. */
-static double scaled(uint64_t amount)
-{
-    return (double)(amount * vithmork_get(answer, VITHMORK_SCALE_CAPACITY)) /
-           (double)vithmork_get(answer, VITHMORK_SCALE_LOAD);
+        vithmork_put_pair(pairs, p, pair[p][0], pair[p][1]);
 }
 
 static void print(void)
 {
-    printf("total %.3f\n", scaled(vithmork_get(answer, VITHMORK_DRAWN)));
-    printf("bound %.3f\n", (double)vithmork_get(answer, VITHMORK_BOUND_D) /
-                               (double)vithmork_get(answer, VITHMORK_BOUND_ALPHA));
+    printf("total %.3f\n", vithmork_scaled(answer, vithmork_get(answer, VITHMORK_DRAWN)));
+    printf("bound %.3f\n", vithmork_bound(answer));
     for (size_t e = 0; e < BELTS; e++) {
         uint64_t load = 0;
         for (size_t p = 0; p < PAIRS; p++)
             load += vithmork_get(flow, p * BELTS + e);
         printf("belt %u to %u carries %.3f of %u\n", (unsigned)belt[e][0],
-               (unsigned)belt[e][1], scaled(load), (unsigned)belt[e][2]);
+               (unsigned)belt[e][1], vithmork_scaled(answer, load), (unsigned)belt[e][2]);
     }
     printf("choices %u, so far %u\n", (unsigned)vithmork_get(answer, VITHMORK_CHOICES),
            (unsigned)vithmork_get(count, 0));

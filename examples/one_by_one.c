@@ -22,18 +22,9 @@ static uint8_t count[VITHMORK_COUNT_BYTES];
 static void fill(void)
 {
     for (size_t e = 0; e < BELTS; e++)
-        for (size_t i = 0; i < VITHMORK_BELT_NUMBERS; i++)
-            vithmork_put(belts, e * VITHMORK_BELT_NUMBERS + i, belt[e][i]);
+        vithmork_put_belt(belts, e, belt[e][0], belt[e][1], belt[e][2]);
     for (size_t p = 0; p < PAIRS; p++)
-        for (size_t i = 0; i < VITHMORK_PAIR_NUMBERS; i++)
-            vithmork_put(pairs, p * VITHMORK_PAIR_NUMBERS + i, pair[p][i]);
-}
-
-/* A number of the flow table, or the sum of some, in totes an hour. */
-static double scaled(uint64_t amount)
-{
-    return (double)(amount * vithmork_get(answer, VITHMORK_SCALE_CAPACITY)) /
-           (double)vithmork_get(answer, VITHMORK_SCALE_LOAD);
+        vithmork_put_pair(pairs, p, pair[p][0], pair[p][1]);
 }
 
 /* Solves for some pairs, adds each belt's amounts to carried, returns the total. */
@@ -50,8 +41,8 @@ static double solve(size_t first, size_t number, double *carried)
     }
     for (size_t p = 0; p < number; p++)
         for (size_t e = 0; e < BELTS; e++)
-            carried[e] += scaled(vithmork_get(flow, p * BELTS + e));
-    return scaled(vithmork_get(answer, VITHMORK_DRAWN));
+            carried[e] += vithmork_scaled(answer, vithmork_get(flow, p * BELTS + e));
+    return vithmork_scaled(answer, vithmork_get(answer, VITHMORK_DRAWN));
 }
 
 static void print(const char *what, double total, const double *carried)
@@ -73,7 +64,6 @@ int main(void)
     }
     print("added up", sum, apart);
     print("in one call", solve(0, PAIRS, shared), shared);
-    printf("bound %.3f\n", (double)vithmork_get(answer, VITHMORK_BOUND_D) /
-                               (double)vithmork_get(answer, VITHMORK_BOUND_ALPHA));
+    printf("bound %.3f\n", vithmork_bound(answer));
     return 0;
 }

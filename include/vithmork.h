@@ -125,6 +125,37 @@ static inline void vithmork_put(uint8_t *table, size_t place, uint64_t number)
         table[place * VITHMORK_NUMBER_BYTES + i] = (uint8_t)(number >> 8 * i);
 }
 
+/* Belt e and pair p, from 0, written into their slices. */
+static inline void vithmork_put_belt(uint8_t *belts, size_t e, uint64_t tail, uint64_t head,
+                                     uint64_t capacity)
+{
+    uint8_t *item = belts + VITHMORK_BELTS_BYTES(e);
+    vithmork_put(item, 0, tail);
+    vithmork_put(item, 1, head);
+    vithmork_put(item, 2, capacity);
+}
+
+static inline void vithmork_put_pair(uint8_t *pairs, size_t p, uint64_t source, uint64_t sink)
+{
+    uint8_t *item = pairs + VITHMORK_PAIRS_BYTES(p);
+    vithmork_put(item, 0, source);
+    vithmork_put(item, 1, sink);
+}
+
+/* A number of the flow table, or the sum of some, in totes an hour: times the
+ * scale, and rounded as a double is. The exact fraction is in the answer. */
+static inline double vithmork_scaled(const uint8_t *answer, uint64_t amount)
+{
+    return (double)(amount * vithmork_get(answer, VITHMORK_SCALE_CAPACITY)) /
+           (double)vithmork_get(answer, VITHMORK_SCALE_LOAD);
+}
+
+static inline double vithmork_bound(const uint8_t *answer)
+{
+    return (double)vithmork_get(answer, VITHMORK_BOUND_D) /
+           (double)vithmork_get(answer, VITHMORK_BOUND_ALPHA);
+}
+
 #ifdef __cplusplus
 }
 #endif
