@@ -13,6 +13,7 @@ mod call;
 mod fast;
 #[path = "../tests/second/floors.rs"]
 mod floors;
+mod lend;
 #[path = "../tests/second/library.rs"]
 mod library;
 #[path = "../tests/second/method.rs"]
@@ -135,15 +136,7 @@ fn measure(call: &Call, plain: bool) -> (Times, bool, u64) {
 }
 
 fn solve(mut call: Call) -> Call {
-    let lent = library::Lent {
-        belts: &mut call.belts,
-        pairs: &mut call.pairs,
-        flow: &mut call.flow,
-        length: &mut call.length,
-        answer: &mut call.answer,
-        count: &mut call.count,
-    };
-    library::solve(call.n, call.q, lent);
+    lend::solve_in(&mut call);
     call
 }
 

@@ -9,6 +9,7 @@
 mod call;
 #[path = "../tests/second/floors.rs"]
 mod floors;
+mod lend;
 #[path = "../tests/second/library.rs"]
 mod library;
 #[path = "../tests/second/network.rs"]
@@ -89,18 +90,7 @@ fn timed(call: &Call) -> (f64, u64) {
     for _ in 0..3 {
         let mut call = call.clone();
         let began = Instant::now();
-        library::solve(
-            call.n,
-            call.q,
-            library::Lent {
-                belts: &mut call.belts,
-                pairs: &mut call.pairs,
-                flow: &mut call.flow,
-                length: &mut call.length,
-                answer: &mut call.answer,
-                count: &mut call.count,
-            },
-        );
+        lend::solve_in(&mut call);
         best = best.min(began.elapsed().as_secs_f64() * 1000.0);
         choices = get(&call.answer, 5);
     }

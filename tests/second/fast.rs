@@ -2,16 +2,11 @@
 //! finds them; here D and the tests that end or halve look only at the arcs just
 //! drawn over.
 
-use crate::method::{fraction_below, fullest, grown, halved, start, threshold, weight, MARK};
+use crate::method::{
+    fraction_below, fullest, grown, halved, start, threshold, weight, Bound, MARK,
+};
 use crate::network::{Network, Solution};
 use crate::search::Search;
-
-struct Bound {
-    weight: u64,
-    alpha: u64,
-    iteration: u64,
-    lengths: Vec<u64>,
-}
 
 struct Run<'a> {
     net: &'a Network,

@@ -7,6 +7,15 @@ use std::cmp::Ordering;
 pub const SCALE: u64 = 1 << 36;
 pub const MARK: u64 = 1 << 40;
 
+/// The least D over alpha of the choices so far: which choice, from 1, gave it and
+/// by which lengths.
+pub struct Bound {
+    pub weight: u64,
+    pub alpha: u64,
+    pub iteration: u64,
+    pub lengths: Vec<u64>,
+}
+
 /// Powers of 17 up to 17^92 and their multiples by 256 stay below 2^512.
 type Wide = [u32; 16];
 

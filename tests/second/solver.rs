@@ -1,7 +1,9 @@
 //! The second solver, plain form: written from document 01, step by step, with
 //! a Bellman-Ford search for every commodity at every iteration.
 
-use crate::method::{fraction_below, fullest, grown, halved, start, threshold, weight, MARK};
+use crate::method::{
+    fraction_below, fullest, grown, halved, start, threshold, weight, Bound, MARK,
+};
 use crate::network::{Network, Solution};
 
 pub const UNREACHED: u64 = u64::MAX;
@@ -15,13 +17,6 @@ pub struct Choice {
     pub commodity: usize,
     pub path: Vec<usize>,
     pub alpha: u64,
-}
-
-struct Bound {
-    weight: u64,
-    alpha: u64,
-    iteration: u64,
-    lengths: Vec<u64>,
 }
 
 struct Run<'a> {

@@ -1,7 +1,7 @@
 -- Laws of the rounded-up quotient: b times it is at least a, and less than b more than a.
 -- Assumes nothing.
 use mathlib.Core.Path.{_≡_}
-use Prim.Native.Nat.{ℕ, _+_, _*_, _-_, _/_, _≤_, _<_}
+use Prim.Native.Nat.{ℕ, _+_, _*_, _-_, _≤_, _<_}
 use native.Mathlib.Nat.{div-add-mod, mod-lt, lt-of-mul-lt-mul-left}
 use native.Mathlib.Omega.{arith}
 use Rattle.arith.specs.Ceiling.{ceil}

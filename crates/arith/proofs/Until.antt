@@ -8,7 +8,7 @@ use native.Mathlib.Numerals.{add-one}
 use native.Mathlib.Omega.{arith}
 use lib.ListN.{length, getD, drop, length-drop, drop-of-length-le}
 use lib.Seq.{drop-cons, getD-drop}
-use Rattle.arith.specs.Lists.{until, scan}
+use Rattle.arith.specs.Scan.{until, scan}
 
 module _ (f : ℕ → Bool) where
   until-within : (s : List ℕ) → until f s ≤ length s

@@ -3,4 +3,5 @@ pub mod Distinct
 pub mod Limbs
 pub mod Lists
 pub mod Member
+pub mod Scan
 pub mod Sum

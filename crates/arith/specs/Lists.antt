@@ -1,8 +1,7 @@
 -- Lists of numbers in order, and tests over an index.
-use mathlib.Core.Bool.{Bool, true, false, cond, _||_}
+use mathlib.Core.Bool.{Bool, false, cond, _||_}
 use mathlib.Core.List.{List, [], _∷_, _++_}
-use Prim.Native.Nat.{ℕ, zero, suc, _+_}
-use lib.ListN.{drop}
+use Prim.Native.Nat.{ℕ, zero, suc}
 
 -- i, i + 1, .., n numbers in all
 unfoldable pub upFrom : ℕ → ℕ → List ℕ
@@ -29,12 +28,3 @@ module _ {A : Type 0} where
   unfoldable pub keep : (A → Bool) → List A → List A
   keep f [] = []
   keep f (x ∷ xs) = cond (f x) (x ∷ keep f xs) (keep f xs)
-
--- how many members come before the first that passes the test
-unfoldable pub until : (ℕ → Bool) → List ℕ → ℕ
-until f [] = 0
-until f (x ∷ xs) = cond (f x) 0 (suc (until f xs))
-
--- the place of the first member from place i on that passes the test, or the end
-abbrev pub scan : (ℕ → Bool) → List ℕ → ℕ → ℕ
-scan f s i = i + until f (drop i s)

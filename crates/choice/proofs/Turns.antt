@@ -1,16 +1,16 @@
 -- One turn of the search among the commodities: the bounds after it, when it is the last, and what falls when it is not.
 -- Assumes nothing.
-use mathlib.Core.Path.{_≡_, sym, ap, _∙_}
+use mathlib.Core.Path.{_≡_, ap}
 use mathlib.Core.List.{List}
 use Prim.Native.Nat.{ℕ, _<_}
-use lib.ListN.{length, getD}
-use Rattle.network.specs.Network.{Network, commodities, source, sink}
+use lib.ListN.{length}
+use Rattle.network.specs.Network.{Network, commodities, sink}
 use Rattle.choice.specs.Below.{Below}
 use Rattle.choice.specs.Closest.{Closest}
 use Rattle.paths.specs.Far.{far}
 use Rattle.paths.specs.Graph.{Table}
 use Rattle.choice.specs.Least.{Least}
-use Rattle.choice.specs.Raised.{Raising, Raised}
+use Rattle.choice.specs.Raised.{Raised}
 use Rattle.choice.specs.Search.{Survey}
 use Rattle.choice.proofs.Bounds.{bounds-rise, below-raised}
 use Rattle.choice.proofs.Graphs.{graphOf}

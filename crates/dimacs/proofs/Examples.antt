@@ -2,9 +2,8 @@
 -- Assumes nothing.
 use mathlib.Core.Bool.{Bool, true, _&&_}
 use mathlib.Core.List.{List, [], _∷_, _++_}
-use Prim.Native.Char.{code}
-use Prim.Native.Nat.{ℕ, zero, suc}
-use Prim.Native.String.{String, len, charAt}
+use Prim.Native.Nat.{ℕ}
+use Prim.Native.String.{String}
 use lib.Dec.{T}
 use Rattle.arith.specs.Lists.{keep}
 use Rattle.network.specs.Refusal.{number, place}
@@ -15,14 +14,7 @@ use Rattle.dimacs.specs.Outcome.{Outcome, holds, refused, networkOf, com
 use Rattle.dimacs.specs.Pieces.{lead, pieces, lineFeed, linesOf, blank, filled, wordsOf}
 use Rattle.dimacs.specs.Progress.{begun, withSource, withSink, withArc}
 use Rattle.dimacs.specs.Reading.{opening, once, following, next, readLines}
-
--- the bytes of a text of plain letters
-bytesFrom : ℕ → ℕ → String → List ℕ
-bytesFrom i zero s = []
-bytesFrom i (suc n) s = code (charAt s i) ∷ bytesFrom (suc i) n s
-
-bytes : String → List ℕ
-bytes s = bytesFrom 0 (len s) s
+use Rattle.dimacs.specs.Text.{bytes}
 
 -- An outcome in numbers: 0, the nodes, source, sink, tails, heads and capacities; or a refusal's number and place.
 answer : Outcome → List ℕ
@@ -93,5 +85,5 @@ cases =
     []
 
 pub layout-cases : T (right cases)
-unfolding right answer bytes bytesFrom parsed closing complete networkOf readLines next following once opening withArc withSink withSource begun outside meaning lettered arcLine terminalLine sourceOrSink problemLine given shaped same numberOf value every digit wordsOf filled keep blank linesOf lineFeed pieces lead
+unfolding right answer parsed closing complete networkOf readLines next following once opening withArc withSink withSource begun outside meaning lettered arcLine terminalLine sourceOrSink problemLine given shaped same numberOf value every digit wordsOf filled keep blank linesOf lineFeed pieces lead
 layout-cases = tt

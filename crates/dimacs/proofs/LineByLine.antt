@@ -8,7 +8,7 @@ use native.Mathlib.Omega.{arith}
 use lib.ListN.{length, take, drop, replicate, length-drop, drop-of-length-le}
 use lib.Seq.{drop-drop}
 use borrow.Author.Tests.{lt-ltb, le-ltb}
-use Rattle.arith.specs.Lists.{until, scan}
+use Rattle.arith.specs.Scan.{until, scan}
 use Rattle.network.specs.declared.Refusal.the-variants.{LongFile}
 use Rattle.dimacs.specs.Meaning.{meaning}
 use Rattle.dimacs.specs.Pieces.{lineFeed, linesOf, pieces}

@@ -6,7 +6,7 @@ use mathlib.Core.List.{List, [], _∷_}
 use Prim.Native.Nat.{ℕ, suc, _≤_, _<_}
 use native.Mathlib.Omega.{arith}
 use lib.ListN.{length, take, drop}
-use Rattle.arith.specs.Lists.{until}
+use Rattle.arith.specs.Scan.{until}
 use Rattle.dimacs.specs.Pieces.{lead, pieces}
 
 module _ (f : ℕ → Bool) where

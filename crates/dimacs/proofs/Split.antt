@@ -7,7 +7,7 @@ use native.Mathlib.Nat.{add-zero, zero-add}
 use native.Mathlib.Omega.{arith}
 use lib.ListN.{length, getD, take, drop}
 use lib.Seq.{drop-drop, getD-drop}
-use Rattle.arith.specs.Lists.{until, scan}
+use Rattle.arith.specs.Scan.{until, scan}
 use Rattle.arith.proofs.Until.{scan-within}
 use Rattle.dimacs.specs.Pieces.{blank, wordsOf}
 use Rattle.dimacs.specs.Scan.{filling}

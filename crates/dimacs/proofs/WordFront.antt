@@ -6,7 +6,8 @@ use mathlib.Core.List.{List, [], _∷_}
 use Prim.Native.Nat.{ℕ, suc}
 use native.Mathlib.Omega.{arith}
 use lib.ListN.{getD, take, drop}
-use Rattle.arith.specs.Lists.{keep, until}
+use Rattle.arith.specs.Lists.{keep}
+use Rattle.arith.specs.Scan.{until}
 use Rattle.dimacs.specs.Pieces.{blank, filled, pieces, wordsOf}
 use Rattle.dimacs.specs.Scan.{filling}
 use Rattle.dimacs.proofs.Pieces.{first-piece}

@@ -7,3 +7,4 @@ pub mod Reading
 pub mod Result
 pub mod Scan
 pub mod Stage
+pub mod Text

@@ -7,6 +7,7 @@ use lib.Dec.{eqb}
 use lib.ListN.{length, getD}
 use Rattle.dimacs.specs.Number.{numberOf}
 use Rattle.dimacs.specs.Pieces.{wordsOf}
+use Rattle.dimacs.specs.Text.{bytes}
 use Rattle.dimacs.specs.declared.Line.{Line}
 use Rattle.dimacs.specs.declared.Line.the-variants.{Comment, Problem, Source, Sink, Arc, Broken}
 
@@ -34,14 +35,14 @@ given (some x) f = f x
 abbrev pub numbered : List ℕ → (ℕ → Line) → Line
 numbered w f = given (numberOf w) f
 
--- "p max n m": the letter, the word max (bytes 109, 97, 120) and two numbers
+-- "p max n m": the letter, the word max and two numbers
 unfoldable pub problemLine : List (List ℕ) → Line
 problemLine ws =
-    cond (shaped 4 ws && same (word ws 1) (109 ∷ 97 ∷ 120 ∷ [])) (numbered (word ws 2) (λ n. numbered (word ws 3) (λ m. Problem n m))) Broken
+    cond (shaped 4 ws && same (word ws 1) (bytes "max")) (numbered (word ws 2) (λ n. numbered (word ws 3) (λ m. Problem n m))) Broken
 
--- node v with the word s (byte 115) or t (byte 116)
+-- node v with the word s or t
 unfoldable pub sourceOrSink : List ℕ → ℕ → Line
-sourceOrSink w v = cond (same w (115 ∷ [])) (Source v) (cond (same w (116 ∷ [])) (Sink v) Broken)
+sourceOrSink w v = cond (same w (bytes "s")) (Source v) (cond (same w (bytes "t")) (Sink v) Broken)
 
 -- an n line, "(station, s or t)"
 unfoldable pub terminalLine : List (List ℕ) → Line

@@ -4,12 +4,12 @@ use crate::Maybe;
 use crate::words::number;
 use crate::words::word;
 ghost use mathlib.Core.Path.{_≡_};
-ghost use mathlib.Core.List.{[], _∷_};
 ghost use Prim.Native.Nat.{_<_};
 ghost use Rattle.dimacs.specs.Meaning.{word, same, shaped, sourceOrSink, problemLine, terminalLine, arcLine, meaning};
 ghost use Rattle.dimacs.specs.Number.{numberOf};
 ghost use Rattle.dimacs.specs.Pieces.{wordsOf};
 ghost use Rattle.dimacs.specs.Scan.{optionOf};
+ghost use Rattle.dimacs.specs.Text.{bytes};
 
 // The line has n words, the first of which is its letter alone.
 fn shaped(line: &[u8], n: usize) -> bool
@@ -37,7 +37,7 @@ fn number_at(line: &[u8], i: usize) -> Maybe
 
 // The word is max.
 fn says_max(w: &[u8]) -> bool
-    ensures { λ r. ⌜ r ≡ same (now (w .entry)) (109 ∷ 97 ∷ 120 ∷ []) ⌝ }
+    ensures { λ r. ⌜ r ≡ same (now (w .entry)) (bytes "max") ⌝ }
 {
     if w.len() != 3 {
         return false;

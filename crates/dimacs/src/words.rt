@@ -4,7 +4,7 @@ use crate::Stop;
 ghost use mathlib.Core.Path.{_≡_};
 ghost use mathlib.Core.List.{[]};
 ghost use lib.ListN.{getD};
-ghost use Rattle.arith.specs.Lists.{scan};
+ghost use Rattle.arith.specs.Scan.{scan};
 ghost use Rattle.dimacs.specs.Pieces.{blank, wordsOf};
 ghost use Rattle.dimacs.specs.Number.{numberOf};
 ghost use Rattle.dimacs.specs.Scan.{stops, optionOf};

@@ -1,10 +1,9 @@
 -- The iterations of a call are few enough for the running count. Assumes nothing.
 use mathlib.Core.List.{List}
-use Prim.Native.Nat.{ℕ, _*_, _≤_}
+use Prim.Native.Nat.{ℕ, _≤_}
 use native.Mathlib.Nat.{mul-le-mul}
 use native.Mathlib.Omega.{arith}
 use mathlib.Core.Path.{ap}
-use Rattle.length.specs.Level.{threshold}
 use Rattle.length.proofs.Bounds.{threshold-most}
 use Rattle.network.specs.Network.{Network, arcs}
 use Rattle.method.specs.declared.Answer.{Answer}

@@ -1,7 +1,7 @@
 -- The columns read are the network in the bytes. Assumes nothing.
-use mathlib.Core.Path.{_≡_, refl, ap, _∙_}
-use mathlib.Core.List.{List, [], _++_, append-nil}
-use Prim.Native.Nat.{ℕ, _≤_}
+use mathlib.Core.Path.{_≡_, refl}
+use mathlib.Core.List.{List, _++_, append-nil}
+use Prim.Native.Nat.{ℕ}
 use native.Mathlib.Nat.{le-of-eq}
 use lib.ListN.{length, drop, drop-of-length-le}
 use Rattle.numbers.specs.Numbers.{items, column}

@@ -1,8 +1,7 @@
 -- The verdict on a call, by its sizes first. Assumes nothing.
-use mathlib.Core.Path.{_≡_, refl, sym, ap, _∙_}
+use mathlib.Core.Path.{_≡_, refl, ap, _∙_}
 use mathlib.Core.List.{List}
 use Prim.Native.Nat.{ℕ}
-use lib.ListN.{length}
 use Rattle.network.specs.Network.{arcs, commodities}
 use Rattle.network.specs.Verdict.{firstRow, sizeRows, itemRows, rows, verdict, Row}
 use Rattle.network.specs.declared.Refusal.{Refusal}

@@ -1,7 +1,7 @@
 -- The verdict of a call whose sizes have passed is that on its arcs and commodities, and what each verdict leaves.
 -- Assumes nothing.
-use mathlib.Core.Path.{_≡_, refl, sym, ap, _∙_}
-use mathlib.Core.List.{List, _++_}
+use mathlib.Core.Path.{_≡_, refl, sym, _∙_}
+use mathlib.Core.List.{List}
 use Prim.Native.Nat.{ℕ, _^_, _<_}
 use Rattle.network.specs.Network.{Network, arcs, commodities}
 use Rattle.network.specs.Refusal.{hostNumber}

@@ -1,14 +1,12 @@
 -- What writing an accepted call's outcome asks and leaves.
 use mathlib.Core.Path.{_≡_}
 use mathlib.Core.List.{List, [], _∷_}
-use Prim.Native.Nat.{ℕ, _+_, _*_, _^_, _≤_, _<_}
+use Prim.Native.Nat.{ℕ, _+_, _^_, _≤_}
 use Rattle.network.specs.Network.{Network, arcs, commodities}
-use Rattle.network.specs.Sound.{Counts, Room}
-use Rattle.network.specs.declared.Tables.{Tables}
+use Rattle.network.specs.Sound.{Room}
 use Rattle.numbers.specs.Numbers.{written}
 use Rattle.method.specs.Answer.{outcome, numbersOf}
 use Rattle.method.specs.Guarantee.{Guarantee}
-use Rattle.solver.specs.Runs.{Lent}
 use Rattle.host.specs.Host.{tablesIn}
 
 -- The tables have room for the outcome, and the running count is not full.

@@ -11,7 +11,7 @@ use Rattle.network.specs.declared.Tables.{Tables}
 use Rattle.network.specs.declared.Verdict.{Verdict}
 use Rattle.network.specs.declared.Verdict.the-variants.{Accepted, Refused}
 use Rattle.numbers.specs.Numbers.{count, items, numberAt, column, written}
-use Rattle.method.specs.Answer.{Outcome, outcome, numbersOf}
+use Rattle.method.specs.Answer.{outcome, numbersOf}
 use Rattle.method.specs.Guarantee.{Guarantee}
 
 -- A belt is an item of three numbers (tail, head, capacity), a pair one of two; an incomplete last item is not read.

@@ -1,7 +1,7 @@
 -- What judging the arcs and commodities of a call asks: its sizes have passed.
 use mathlib.Core.Path.{_≡_}
 use mathlib.Core.List.{List}
-use Prim.Native.Nat.{ℕ, _^_, _≤_}
+use Prim.Native.Nat.{ℕ}
 use lib.ListN.{length}
 use Rattle.network.specs.Network.{Network, arcs, commodities}
 use Rattle.network.specs.Sound.{Counts}

@@ -1,20 +1,15 @@
 -- A draw along a path keeps the balance: at each node as many arcs of the path leave as enter, but for its two ends.
 -- Assumes nothing.
-use mathlib.Core.Path.{_≡_, refl, sym, ap, _∙_}
-use mathlib.Core.Bool.{Bool, true, false, cond}
+use mathlib.Core.Path.{_≡_, refl, ap}
 use mathlib.Core.List.{List, [], _∷_}
 use mathlib.Core.Option.{Option·some-injective}
-use Prim.Native.Nat.{ℕ, zero, suc, _+_, _*_, _≤_, _<_}
+use Prim.Native.Nat.{ℕ, _+_}
 use native.Mathlib.Omega.{arith}
-use lib.Dec.{eqb}
-use Rattle.arith.specs.Sum.{sum}
-use Rattle.arith.proofs.Sums.{sum-cong, sum-add}
 use Rattle.network.specs.Network.{Network, arcs, tail, head}
 use Rattle.network.specs.Path.{Path, follow}
-use Rattle.network.specs.Flow.{outflow, inflow}
 use Rattle.network.proofs.Leads.{leads-some}
 use Rattle.network.proofs.Paths.{path-step}
-use Rattle.method.proofs.Times.{Below, none, also, once, times, along, sum-times}
+use Rattle.method.proofs.Times.{Below, none, also, once, along}
 
 -- The arcs of a path are arcs of the network.
 pub path-below : (net : Network) (v t : ℕ) (p : List ℕ) → Path net v t p → Below (arcs net) p

@@ -3,14 +3,14 @@
 use mathlib.Core.Path.{_≡_, refl, sym, ap, _∙_}
 use mathlib.Core.Bool.{Bool, true, false, cond}
 use mathlib.Core.List.{List, [], _∷_}
-use Prim.Native.Nat.{ℕ, zero, suc, _+_, _*_, _≤_, _<_}
+use Prim.Native.Nat.{ℕ, _+_, _<_}
 use native.Mathlib.Omega.{arith}
 use borrow.Author.Tests.{eqb-true, eqb-false}
 use lib.Dec.{eqb}
 use lib.ListN.{length, getD, set, length-set}
 use lib.Seq.{getD-set-same, getD-set-other}
 use Rattle.method.specs.Iteration.{update}
-use Rattle.method.proofs.Times.{once, times}
+use Rattle.method.proofs.Times.{times}
 
 pub update-other : (f : ℕ → ℕ → ℕ) (p xs : List ℕ) (j : ℕ) → times j p ≡ 0 → getD (update f p xs) j 0 ≡ getD xs j 0
 unfolding update times

@@ -1,16 +1,16 @@
 -- A draw of g along a path of commodity i leaves a flow a flow, adds g to its total, and adds to each load what it adds to the table.
 -- Assumes nothing.
-use mathlib.Core.Path.{_≡_, refl, sym, ap, _∙_}
+use mathlib.Core.Path.{_≡_, refl, ap, _∙_}
 use mathlib.Core.Bool.{Bool, true, false, cond}
 use mathlib.Core.List.{List, [], _∷_, map}
-use Prim.Native.Nat.{ℕ, zero, suc, _+_, _*_, _≤_, _<_}
-use native.Mathlib.Nat.{mul-le-mul-right, le-refl}
+use Prim.Native.Nat.{ℕ, _+_, _*_, _<_}
+use native.Mathlib.Nat.{mul-le-mul-right}
 use native.Mathlib.Omega.{arith}
-use borrow.Author.Tests.{eqb-true, eq-eqb, ne-eqb}
+use borrow.Author.Tests.{eqb-true}
 use lib.Dec.{eqb}
-use lib.ListN.{length, getD}
+use lib.ListN.{length}
 use Rattle.arith.specs.Sum.{sum}
-use Rattle.arith.proofs.Sums.{sum-cong, sum-add, sum-change}
+use Rattle.arith.proofs.Sums.{sum-change}
 use Rattle.network.specs.Network.{Network, arcs, commodities, tail, head, source, sink}
 use Rattle.network.specs.Path.{Path}
 use Rattle.network.specs.Flow.{Flow, Carries, outflow, inflow, loadOf, leaving, entering}

@@ -1,18 +1,18 @@
 -- The draw is at most the capacity of each arc of the path, and is the whole capacity of one of them.
 -- Assumes nothing.
-use mathlib.Core.Path.{_≡_, refl, sym, ap, _∙_}
+use mathlib.Core.Path.{_≡_, refl, ap, _∙_}
 use mathlib.Core.Bool.{Bool, true, false, cond}
 use mathlib.Core.Logic.{_⊎_, inl, inr, ⊎-elim}
 use mathlib.Core.List.{List, [], _∷_}
-use Prim.Native.Nat.{ℕ, zero, suc, _+_, _≤_, _<_, min}
-use native.Mathlib.Nat.{le-refl, le-trans, min-le-left, min-le-right, min-eq-left}
+use Prim.Native.Nat.{ℕ, _+_, _≤_, _<_, min}
+use native.Mathlib.Nat.{le-refl}
 use native.Mathlib.Omega.{arith}
 use borrow.Author.Tests.{eqb-true}
 use lib.Dec.{eqb}
 use lib.ListN.{getD}
 use Rattle.arith.proofs.Order.{le-or-lt}
 use Rattle.method.specs.Iteration.{lowest, draw}
-use Rattle.method.proofs.Times.{once, once-same, times}
+use Rattle.method.proofs.Times.{once-same, times}
 
 -- The capacity of arc e.
 abbrev capAt : List ℕ → ℕ → ℕ

@@ -1,12 +1,12 @@
 -- The run ends by its own rule: each iteration draws the whole capacity of some arc, so the loads cannot all stay below the threshold.
 -- Assumes nothing.
-use mathlib.Core.Path.{_≡_, refl, sym, ap, subst, _∙_}
+use mathlib.Core.Path.{_≡_, refl, sym, ap, _∙_}
 use mathlib.Core.Bool.{Bool, true, false}
 use mathlib.Core.Logic.{⊎-elim}
 use mathlib.Core.List.{List}
-use mathlib.Core.Option.{Option, none, some, Option·none-ne-some}
+use mathlib.Core.Option.{some}
 use Prim.Native.Nat.{ℕ, zero, suc, _+_, _*_, _-_, _≤_, _<_}
-use native.Mathlib.Nat.{mul-pos, le-refl, eq-or-lt-of-le}
+use native.Mathlib.Nat.{le-refl, eq-or-lt-of-le}
 use native.Mathlib.Omega.{arith}
 use borrow.Author.Tests.{leb-true}
 use lib.Dec.{leb}
@@ -18,15 +18,14 @@ use Rattle.network.specs.Sound.{Sound}
 use Rattle.packing.proofs.Count.{count-below}
 use Rattle.packing.proofs.Run as packing
 use Rattle.method.specs.Choice.{Choice, choice}
-use Rattle.method.specs.Ending.{Ending}
+use Rattle.method.specs.Ending.{nth, Ending}
 use Rattle.method.specs.Iteration.{State, initial, advance, iteration}
-use Rattle.method.specs.Run.{ended, runs, run, nth}
+use Rattle.method.specs.Run.{ended, runs, run}
 use Rattle.method.specs.Sizes.{Sizes}
-use Rattle.method.proofs.Instance.{seen, iterated}
-use Rattle.method.proofs.Joining.{none-by-any}
+use Rattle.method.proofs.Instance.{seen}
 use Rattle.method.proofs.Programs.{program}
 use Rattle.method.proofs.Sized.{enough, reached-sizes, next-sizes}
-use Rattle.method.proofs.Reached.{Valid, Reached, valid-step, reached-start, not-ended, fair}
+use Rattle.method.proofs.Reached.{Valid, Reached, valid-step, reached-start, not-ended}
 
 -- An iteration from a state that was reached, at whose end some load is at the threshold.
 pub record Final (net : Network) (q : ℕ) (t : State) : Type 0 where

@@ -1,20 +1,19 @@
 -- The outcome of every accepted network, joined or not, meets the guarantee.
 -- Assumes nothing.
-use mathlib.Core.Path.{_≡_, refl, sym, ap, subst, _∙_}
-use mathlib.Core.Bool.{Bool, true, false}
+use mathlib.Core.Path.{_≡_, refl, sym, ap, _∙_}
+use mathlib.Core.Bool.{true}
 use mathlib.Core.List.{List}
 use mathlib.Core.Option.{Option, none, some, Option·none-ne-some}
-use Prim.Native.Nat.{ℕ, zero, suc, _+_, _*_, _-_, _≤_, _<_}
+use Prim.Native.Nat.{ℕ, _+_, _*_, _-_, _≤_, _<_}
 use native.Mathlib.Nat.{mul-pos, mul-le-mul-right, le-of-mul-le-mul-left}
 use native.Mathlib.Omega.{arith}
 use borrow.Author.Tests.{leb-true}
 use lib.Dec.{leb}
-use lib.ListN.{getD, replicate}
+use lib.ListN.{getD}
 use Rattle.arith.proofs.Exists.{exists-true}
 use Rattle.length.specs.Level.{level, threshold}
 use Rattle.network.specs.Network.{Network, arcs, commodities, capacity}
-use Rattle.network.specs.Path.{Joined}
-use Rattle.network.specs.Flow.{Flow, Keeps, Carries, AtMost, loadOf}
+use Rattle.network.specs.Flow.{Flow, Keeps, AtMost}
 use Rattle.network.specs.Sound.{Sound}
 use Rattle.network.proofs.Sounds.{sound-ends}
 use Rattle.network.proofs.Duality.{Bounds}
@@ -22,18 +21,18 @@ use Rattle.packing.proofs.Count.{count-all}
 use Rattle.packing.proofs.Near.{near, near-two}
 use Rattle.packing.proofs.Health.{positive-alpha}
 use Rattle.packing.proofs.Run as packing
-use Rattle.method.specs.Answer.{Outcome, amounts, fullest, unjoined, outcomeOf, outcome}
+use Rattle.method.specs.Answer.{fullest, unjoined, outcomeOf, outcome}
 use Rattle.method.specs.Choice.{Choice, choice}
 use Rattle.method.specs.Guarantee.{Guarantee}
-use Rattle.method.specs.Iteration.{State, initial, advance}
+use Rattle.method.specs.Iteration.{State, initial}
 use Rattle.method.specs.Run.{ended, run}
 use Rattle.method.proofs.Bound.{bounded, unjoined-bounded}
-use Rattle.method.proofs.Ends.{Final, run-final, run-ends}
+use Rattle.method.proofs.Ends.{Final, run-final}
 use Rattle.method.proofs.Fullest.{Fullest, is-fullest}
 use Rattle.method.proofs.Instance.{seen, iterated}
 use Rattle.method.proofs.Joining.{choice-none, none-by-any}
 use Rattle.method.proofs.Programs.{program}
-use Rattle.method.proofs.Reached.{Best, unset, kept, Valid, Reached, valid-step, fair}
+use Rattle.method.proofs.Reached.{Best, unset, kept, Valid, valid-step, fair}
 use Rattle.method.proofs.Table.{zero-flow, zero-carries, zero-load}
 
 -- T * ce ≤ ye and ye / ce ≤ yb / cb give T * cb ≤ yb.

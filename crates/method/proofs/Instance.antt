@@ -2,10 +2,9 @@
 -- Assumes nothing.
 use mathlib.Core.Path.{_≡_, refl, sym, ap, _∙_}
 use mathlib.Core.Bool.{Bool, true, false, cond}
-use mathlib.Core.Logic.{_⊎_, inl, inr, ⊎-elim}
 use mathlib.Core.List.{List, [], _∷_, map}
-use Prim.Native.Nat.{ℕ, zero, suc, _+_, _*_, _^_, _≤_, _<_}
-use native.Mathlib.Nat.{le-refl, mul-pos}
+use Prim.Native.Nat.{ℕ, zero, suc, _+_, _*_, _≤_, _<_}
+use native.Mathlib.Nat.{mul-pos}
 use native.Mathlib.Omega.{arith}
 use borrow.Author.Tests.{eqb-true, leb-true, leb-false, ltb-true, ltb-false}
 use lib.Dec.{eqb, leb, ltb}
@@ -16,7 +15,7 @@ use Rattle.arith.specs.Sum.{sum}
 use Rattle.arith.proofs.Ceilings.{ceil-zero}
 use Rattle.arith.proofs.Exists.{exists-true, exists-false}
 use Rattle.arith.proofs.Sums.{sum-cong, sum-scale}
-use Rattle.length.specs.Length.{mark, start, growth, halving}
+use Rattle.length.specs.Length.{mark, growth, halving}
 use Rattle.network.specs.Network.{Network, arcs, capacity}
 use Rattle.network.specs.Path.{pathLength}
 use Rattle.packing.proofs.Run as packing
@@ -24,7 +23,7 @@ use Rattle.method.specs.Choice.{Choice}
 use Rattle.method.specs.Iteration.{State, weight, draw, update, grown, settled, advance}
 use Rattle.method.proofs.Changed.{update-other, update-once}
 use Rattle.method.proofs.Draws.{At, draw-within}
-use Rattle.method.proofs.Times.{Below, also, times, along, sum-times, update-adds, update-length}
+use Rattle.method.proofs.Times.{Below, also, times, along, sum-times, update-adds}
 
 -- The state as the packing program sees it.
 unfoldable pub seen : State → packing.State

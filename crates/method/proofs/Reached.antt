@@ -1,23 +1,23 @@
 -- What holds at every state that the run reaches before its end, and after one more iteration.
 -- Assumes nothing.
-use mathlib.Core.Path.{_≡_, refl, sym, ap, _∙_}
+use mathlib.Core.Path.{_≡_, refl, ap, _∙_}
 use mathlib.Core.Bool.{Bool, true, false, cond}
 use mathlib.Core.Option.{some}
 use mathlib.Core.List.{List, [], _∷_, map}
-use Prim.Native.Nat.{ℕ, zero, suc, _+_, _*_, _≤_, _<_}
+use Prim.Native.Nat.{ℕ, _*_, _≤_, _<_}
 use native.Mathlib.Nat.{mul-pos}
 use native.Mathlib.Omega.{arith}
 use borrow.Author.Tests.{leb-false, ltb-false}
 use lib.Dec.{leb, ltb}
 use lib.ListN.{length, getD, length-map, length-replicate}
-use Rattle.arith.specs.Lists.{exists, upTo}
+use Rattle.arith.specs.Lists.{exists}
 use Rattle.arith.proofs.Exists.{exists-false}
 use Rattle.arith.proofs.Ranges.{getD-map-upTo, length-map-upTo}
 use Rattle.length.specs.Level.{level, threshold}
 use Rattle.length.specs.Length.{scale, mark, start, halving}
-use Rattle.network.specs.Ends.{Ends, Positive}
-use Rattle.network.specs.Network.{Network, arcs, commodities, capacity, source, sink}
-use Rattle.network.specs.Path.{Path, pathLength}
+use Rattle.network.specs.Ends.{Positive}
+use Rattle.network.specs.Network.{Network, arcs, capacity, source, sink}
+use Rattle.network.specs.Path.{pathLength}
 use Rattle.network.specs.Sound.{Sound}
 use Rattle.network.proofs.Paths.{length-le-pathLength}
 use Rattle.network.proofs.Sounds.{sound-ends}
@@ -25,7 +25,7 @@ use Rattle.packing.proofs.Run as packing
 use Rattle.packing.proofs.Sizes.{length-pos}
 use Rattle.method.specs.Choice.{Choice, choice}
 use Rattle.method.specs.Chosen.{Chosen}
-use Rattle.method.specs.Iteration.{State, initial, weight, draw, grown, settled, update, advance}
+use Rattle.method.specs.Iteration.{State, initial, weight, draw, grown, settled, advance}
 use Rattle.method.specs.Run.{ended}
 use Rattle.method.proofs.Arcs.{chosen-arcs, chosen-arcs-distinct, chosen-some}
 use Rattle.method.proofs.Bound.{Far}

@@ -1,22 +1,21 @@
 -- The flow table at every state of a run: it is a flow of total F, and the loads are its sums.
 -- Assumes nothing.
-use mathlib.Core.Path.{_≡_, refl, sym, ap, _∙_}
+use mathlib.Core.Path.{_≡_, refl, sym, _∙_}
 use mathlib.Core.Bool.{Bool, true, false, cond}
 use mathlib.Core.Logic.{⊎-elim}
 use mathlib.Core.List.{List, map}
-use Prim.Native.Nat.{ℕ, zero, suc, _+_, _*_, _≤_, _<_}
+use Prim.Native.Nat.{ℕ, _+_, _*_, _≤_, _<_}
 use native.Mathlib.Nat.{le-trans, le-of-eq}
 use native.Mathlib.Omega.{arith}
 use lib.Dec.{eqb}
 use lib.ListN.{length, getD, replicate, length-replicate, getD-replicate, List·getD-eq-default}
-use Rattle.arith.specs.Sum.{sum}
 use Rattle.arith.proofs.Order.{le-or-lt}
 use Rattle.arith.proofs.Sums.{sum-cong, sum-zero}
 use Rattle.network.specs.Network.{Network, arcs, commodities, tail, head, source, sink}
 use Rattle.network.specs.Path.{Path}
 use Rattle.network.specs.Flow.{Flow, Carries, outflow, inflow, loadOf, leaving, entering}
 use Rattle.method.specs.Choice.{Choice}
-use Rattle.method.specs.Iteration.{State, initial, draw, update, advance}
+use Rattle.method.specs.Iteration.{State, initial, draw, advance}
 use Rattle.method.specs.Answer.{amounts}
 use Rattle.method.proofs.Balance.{path-below}
 use Rattle.method.proofs.Drawn.{stays-flow, carries-more, load-adds}

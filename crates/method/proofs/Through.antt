@@ -1,18 +1,17 @@
 -- What a draw along a path adds at a node, at one place of a flow table, and to the totals.
 -- Assumes nothing.
-use mathlib.Core.Path.{_≡_, refl, sym, ap, _∙_}
+use mathlib.Core.Path.{_≡_, refl, ap, _∙_}
 use mathlib.Core.Bool.{Bool, true, false, cond}
 use mathlib.Core.List.{List, [], _∷_, map}
-use Prim.Native.Nat.{ℕ, zero, suc, _+_, _*_, _≤_, _<_}
+use Prim.Native.Nat.{ℕ, _+_, _*_, _<_}
 use native.Mathlib.Nat.{mul-le-mul-right, add-left-cancel}
 use native.Mathlib.Omega.{arith}
 use borrow.Author.Tests.{eqb-true, eqb-false, eq-eqb, ne-eqb}
 use lib.Dec.{eqb}
-use lib.ListN.{length, getD}
 use Rattle.arith.specs.Sum.{sum}
 use Rattle.arith.proofs.Order.{Compared, below, equal, above, compare}
 use Rattle.arith.proofs.Sums.{sum-cong, sum-add}
-use Rattle.method.proofs.Times.{Below, none, also, once, times, along, sum-times}
+use Rattle.method.proofs.Times.{Below, also, once, times, along, sum-times}
 
 along-scale : (f : ℕ → ℕ) (g : ℕ) (p : List ℕ) → along (λ e. f e * g) p ≡ along f p * g
 unfolding along

@@ -1,6 +1,6 @@
 -- One iteration of the method. Document 01, "One choice of route"; its word for an iteration is a choice.
-use mathlib.Core.Bool.{Bool, cond}
-use mathlib.Core.Option.{Option, none, some}
+use mathlib.Core.Bool.{cond}
+use mathlib.Core.Option.{none, some}
 use mathlib.Core.List.{List, [], _∷_, map}
 use Prim.Native.Nat.{ℕ, suc, _+_, _*_, min}
 use lib.Dec.{leb, ltb}

@@ -22,8 +22,3 @@ runs net q (suc n) s =
 -- The whole run. That m * T iterations are enough, so that it ends by its own rule, is shown, not assumed.
 unfoldable pub run : Network → ℕ → State
 run net q = runs net q (arcs net * threshold (arcs net) q) (initial net)
-
--- The state after j iterations, whatever ends the run.
-unfoldable pub nth : Network → ℕ → ℕ → State
-nth net q zero = initial net
-nth net q (suc j) = iteration net q (nth net q j)

@@ -1,7 +1,7 @@
 -- How large the numbers of a run become: what the words of a program must hold.
-use Prim.Native.Nat.{ℕ, _*_, _^_, _≤_, _<_}
+use Prim.Native.Nat.{ℕ, _^_, _≤_, _<_}
 use lib.ListN.{getD}
-use Rattle.network.specs.Network.{Network, arcs, capacity}
+use Rattle.network.specs.Network.{Network, arcs}
 use Rattle.method.specs.Iteration.{State, weight}
 
 -- At a state: lengths from 1 to below the mark, D below 2^58, loads below 2^21, F below 2^29, at most 376,577 iterations, and the kept

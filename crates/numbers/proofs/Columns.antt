@@ -11,7 +11,7 @@ use native.Mathlib.Omega.{arith}
 use lib.Dec.{lit<}
 use lib.ListN.{length, drop, getD, set, length-append, List·getD-append, List·getD-eq-default}
 use lib.Seq.{drop-cons, append-snoc, set-at, getD-at, ext-getD}
-use Rattle.numbers.specs.Digits.{Bytes}
+use Rattle.numbers.specs.Parts.{Bytes}
 use Rattle.numbers.specs.Numbers.{count, items, numberAt, column, written}
 use Rattle.numbers.proofs.Places.{numberAt-below}
 use Rattle.numbers.proofs.Tables.{numberAt-written}

@@ -6,7 +6,8 @@ use mathlib.Core.List.{List, _∷_, _++_}
 use native.Mathlib.Nat.{zero-add, suc-add, div-one, pow-succ', div-div-eq-div-mul}
 use native.Mathlib.Omega.{arith}
 use lib.ListN.{length}
-use Rattle.numbers.specs.Digits.{digits, Bytes}
+use Rattle.numbers.specs.Digits.{digits}
+use Rattle.numbers.specs.Parts.{Bytes}
 
 pub length-digits : (n x : ℕ) → length (digits n x) ≡ n
 unfolding digits

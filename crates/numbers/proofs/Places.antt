@@ -6,7 +6,7 @@ use mathlib.Core.List.{List, [], _∷_, _++_}
 use native.Mathlib.Omega.{arith}
 use lib.ListN.{length, take, drop, length-take, length-drop}
 use lib.Seq.{drop-append-add, take-append-le, drop-append-le, getD-drop}
-use Rattle.numbers.specs.Digits.{Bytes}
+use Rattle.numbers.specs.Parts.{Bytes}
 use Rattle.numbers.specs.Numbers.{numberAt}
 use Rattle.numbers.proofs.Over.{over, drop-over}
 use Rattle.numbers.proofs.Values.{value-below-8}

@@ -8,7 +8,7 @@ use native.Mathlib.Omega.{arith}
 use lib.ListN.{length, take, drop, set, length-append}
 use lib.Seq.{take-append-seam, length-take-le, sets-eq}
 use Rattle.numbers.specs.Digits.{digits}
-use Rattle.numbers.specs.Numbers.{splice}
+use Rattle.numbers.specs.Parts.{splice}
 use Rattle.numbers.proofs.Digits.{length-digits, digits-append}
 use Rattle.numbers.proofs.Over.{over, drop-over}
 

@@ -8,7 +8,8 @@ use native.Mathlib.Omega.{arith}
 use lib.Arith.{mod-mul}
 use lib.Dec.{lit<}
 use lib.ListN.{length}
-use Rattle.numbers.specs.Digits.{value, digits, Bytes}
+use Rattle.numbers.specs.Digits.{value, digits}
+use Rattle.numbers.specs.Parts.{Bytes}
 
 -- The lowest digits count once, the others by a power of 256.
 pub value-append : (us vs : List ℕ) → value (us ++ vs) ≡ value us + 256 ^ length us * value vs

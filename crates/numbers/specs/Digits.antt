@@ -1,8 +1,7 @@
 -- A number and its base-256 digits, lowest first: the byte layout of document 01, "The floor and its flow".
 -- Assumes nothing.
-use Prim.Native.Nat.{ℕ, zero, suc, _+_, _*_, _/_, _%_, _<_}
+use Prim.Native.Nat.{ℕ, zero, suc, _+_, _*_, _/_, _%_}
 use mathlib.Core.List.{List, [], _∷_}
-use lib.ListN.{getD}
 
 -- The number whose base-256 digits, lowest first, are the list.
 unfoldable pub value : List ℕ → ℕ
@@ -13,7 +12,3 @@ value (b ∷ bs) = b + 256 * value bs
 unfoldable pub digits : ℕ → ℕ → List ℕ
 digits zero x = []
 digits (suc n) x = (x % 256) ∷ digits n (x / 256)
-
--- Every element is a byte. Past the end the default is 0, so this is what a slice of bytes tells of each index.
-abbrev pub Bytes : List ℕ → Type 0
-Bytes s = (i : ℕ) → getD s i 0 < 256

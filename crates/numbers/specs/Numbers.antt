@@ -17,14 +17,6 @@ items k s = length s / (8 * k)
 unfoldable pub numberAt : List ℕ → ℕ → ℕ
 numberAt s i = value (take 8 (drop (8 * i) s))
 
--- The bytes with ds in place of as many from place p on; all others kept. A number is written in such parts.
-abbrev pub splice : List ℕ → ℕ → List ℕ → List ℕ
-splice s p ds = take p s ++ (ds ++ drop (p + length ds) s)
-
--- The bytes with x as number i, all others kept.
-unfoldable pub putAt : List ℕ → ℕ → ℕ → List ℕ
-putAt s i x = take (8 * i) s ++ (digits 8 x ++ drop (8 * i + 8) s)
-
 -- Member j, counted from 0, of each of the first n items of k numbers, in order: member 0 of the belts is their tails, 1 their heads,
 -- 2 their capacities ("A belt is an item of three numbers (tail, head, capacity), a pair one of two").
 unfoldable pub column : List ℕ → ℕ → ℕ → ℕ → List ℕ

@@ -6,7 +6,8 @@ ghost use mathlib.Core.List.{_++_};
 ghost use Prim.Native.Nat.{_+_, _*_, _%_, _<_, _≤_};
 ghost use lib.ListN.{length, take, drop};
 ghost use Rattle.numbers.specs.Digits.{value, digits};
-ghost use Rattle.numbers.specs.Numbers.{count, items, numberAt, splice, putAt, column, written};
+ghost use Rattle.numbers.specs.Numbers.{count, items, numberAt, column, written};
+ghost use Rattle.numbers.specs.Parts.{splice, putAt};
 
 // How many complete numbers `s` holds.
 pub fn count(s: &[u8]) -> usize

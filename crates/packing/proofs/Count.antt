@@ -1,9 +1,8 @@
 -- The count of iterations: each one draws the whole capacity of some resource (guarantee.md, section 5).
 -- Assumes nothing.
 use mathlib.Core.Path.{_≡_, ap}
-use mathlib.Core.Logic.{⊎-elim}
-use Prim.Native.Nat.{ℕ, zero, suc, _+_, _*_, _-_, _/_, _≤_, _<_}
-use native.Mathlib.Nat.{le-trans, le-refl, le-of-suc-le-suc, eq-or-lt-of-le, le-div-iff-mul-le, div-lt-iff-lt-mul, div-mul-le-self, mul-le-mul}
+use Prim.Native.Nat.{ℕ, _+_, _*_, _-_, _/_, _≤_, _<_}
+use native.Mathlib.Nat.{le-trans, le-div-iff-mul-le, div-lt-iff-lt-mul, div-mul-le-self, mul-le-mul}
 use native.Mathlib.Omega.{arith}
 use Rattle.arith.specs.Sum.{sum}
 use Rattle.arith.proofs.Sums.{sum-le, sum-const, sum-lt}

@@ -7,7 +7,7 @@ use native.Mathlib.Omega.{arith}
 use lib.Dec.{eqb}
 use lib.ListN.{length, getD}
 use borrow.Author.Tests.{eqb-true, eqb-false}
-use Rattle.arith.specs.Lists.{scan}
+use Rattle.arith.specs.Scan.{scan}
 use Rattle.arith.proofs.Until.{scan-within, scan-later, scan-before, scan-passes}
 use Rattle.paths.specs.Links.{Linked}
 

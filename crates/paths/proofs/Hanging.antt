@@ -12,7 +12,7 @@ use lib.Dec.{eqb}
 use lib.ListN.{length, getD, set, length-set}
 use lib.Seq.{getD-set-same, getD-set-other}
 use borrow.Author.Tests.{eqb-true, eqb-false}
-use Rattle.arith.specs.Lists.{scan}
+use Rattle.arith.specs.Scan.{scan}
 use Rattle.arith.proofs.Until.{scan-on, scan-found, scan-ended}
 use Rattle.paths.specs.Links.{Linked}
 

@@ -2,12 +2,12 @@
 -- Assumes nothing.
 use mathlib.Core.Path.{_≡_, refl}
 use mathlib.Core.List.{List, [], _∷_}
-use Prim.Native.Nat.{ℕ, suc, _≤_, _<_}
+use Prim.Native.Nat.{ℕ, suc, _≤_}
 use native.Mathlib.Omega.{arith}
 use lib.Dec.{eqb}
-use lib.ListN.{length, getD}
+use lib.ListN.{getD}
 use borrow.Author.Count.{below-more}
-use Rattle.arith.specs.Lists.{until, scan}
+use Rattle.arith.specs.Scan.{until, scan}
 use Rattle.paths.specs.Links.{Linked}
 use Rattle.paths.proofs.WalkExample.{floor, three}
 

@@ -4,7 +4,7 @@ use mathlib.Core.List.{List}
 use Prim.Native.Nat.{ℕ, suc, _≤_, _<_}
 use lib.Dec.{eqb}
 use lib.ListN.{length, getD}
-use Rattle.arith.specs.Lists.{scan}
+use Rattle.arith.specs.Scan.{scan}
 
 -- Of each node the first arc with this end, and of each arc the next arc with the same end; the number of arcs where there is none.
 pub record Linked (ends : List ℕ) (n : ℕ) (first next : List ℕ) : Type 0 where

@@ -1,14 +1,13 @@
 -- The rows of the arcs: one more behind the others, and the load of an arc where there is one commodity. Assumes nothing.
-use mathlib.Core.Path.{_≡_, refl, sym, ap, _∙_}
+use mathlib.Core.Path.{_≡_, refl, ap, _∙_}
 use mathlib.Core.List.{List, [], _∷_, _++_, append-nil, append-assoc}
-use Prim.Native.Nat.{ℕ, zero, suc, _+_, _*_, _≤_}
+use Prim.Native.Nat.{ℕ, zero, suc, _+_}
 use native.Mathlib.Nat.{zero-add, zero-mul, add-zero, add-suc, suc-add}
-use native.Mathlib.Omega.{arith}
-use lib.ListN.{length, getD}
+use lib.ListN.{getD}
 use Rattle.arith.specs.Lists.{upFrom, upTo, flat}
 use Rattle.arith.specs.Sum.{sum}
 use Rattle.network.specs.Flow.{loadOf}
-use Rattle.network.specs.Network.{Network, arcs, commodities, tail, head}
+use Rattle.network.specs.Network.{Network, arcs, commodities}
 use Rattle.method.specs.Answer.{Outcome, amounts}
 use Rattle.report.specs.Listing.{beltRow}
 use Rattle.report.specs.Shown.{beltOf, beltsOf}

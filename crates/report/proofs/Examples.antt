@@ -26,7 +26,7 @@ use Rattle.dimacs.specs.Reading.{opening, once, following, next, readLines}
 use Rattle.report.specs.Decimal.{digits, decimal}
 use Rattle.report.specs.Listing.{answerRows, beltRow, outcomeRows, refusalRow, enough, verdictOn, verdictRows, fileRows, listing}
 use Rattle.report.specs.Row.{joined, row, header}
-use Rattle.report.specs.Text.{bytes}
+use Rattle.dimacs.specs.Text.{bytes}
 
 -- A file, and what the program writes for it.
 pub record Case : Type 0 where

@@ -1,7 +1,6 @@
 -- The verdict on a network that a file holds is that on its arcs and its commodity: rows 1 to 5 and 11 cannot hold, since the reader has kept
 -- the counts within their bounds. Assumes nothing.
 use mathlib.Core.Path.{_≡_, sym, _∙_}
-use Prim.Native.Nat.{ℕ}
 use native.Mathlib.Nat.{le-refl}
 use lib.Dec.{lit≤}
 use Rattle.network.specs.Network.{Network, arcs, commodities}

@@ -1,6 +1,5 @@
 -- How long the rows are. Assumes nothing.
-use mathlib.Core.Path.{_≡_, refl}
-use mathlib.Core.List.{List, [], _∷_, _++_}
+use mathlib.Core.List.{List, [], _∷_}
 use Prim.Native.Nat.{ℕ, _+_, _*_, _≤_}
 use native.Mathlib.Omega.{arith}
 use lib.ListN.{length, length-append}
@@ -8,7 +7,7 @@ use Rattle.method.specs.declared.Answer.{Answer}
 use Rattle.report.specs.Decimal.{decimal}
 use Rattle.report.specs.Listing.{answerRows}
 use Rattle.report.specs.Row.{joined, row}
-use Rattle.report.specs.Text.{bytes}
+use Rattle.dimacs.specs.Text.{bytes}
 use Rattle.report.proofs.Digits.{decimal-short}
 
 -- two numbers, a comma, carriage return and line feed

@@ -1,6 +1,6 @@
 -- Laws of bytes put one behind the other: they are put as one list, the table keeps its length, and from place 0 they are its front.
 -- Assumes nothing.
-use mathlib.Core.Path.{_≡_, refl, sym, ap, _∙_}
+use mathlib.Core.Path.{_≡_, refl, ap, _∙_}
 use mathlib.Core.List.{List, [], _∷_, _++_, append-assoc}
 use Prim.Native.Nat.{ℕ, _+_, _≤_, _<_}
 use native.Mathlib.Nat.{zero-add}
@@ -9,8 +9,8 @@ use native.Mathlib.Omega.{arith}
 use lib.ListN.{length, take, set, length-append}
 use lib.Seq.{length-take-le, set-split}
 use Rattle.method.specs.Answer.{after}
-use Rattle.numbers.specs.Numbers.{splice}
-use Rattle.numbers.proofs.Over.{over, length-over}
+use Rattle.numbers.specs.Parts.{splice}
+use Rattle.numbers.proofs.Over.{length-over}
 use Rattle.numbers.proofs.Splices.{splice-is-over, splice-after}
 use Rattle.report.specs.Put.{Put}
 

@@ -1,6 +1,6 @@
 -- The rows of a listing put one after the other: none yet, and one row more. Assumes nothing.
-use mathlib.Core.Path.{_≡_, refl, sym}
-use mathlib.Core.List.{List, []}
+use mathlib.Core.Path.{sym}
+use mathlib.Core.List.{List}
 use Prim.Native.Nat.{ℕ, _+_, _*_, _≤_}
 use native.Mathlib.Nat.{add-zero, le-antisymm}
 use native.Mathlib.Numerals.{add-one}
@@ -10,7 +10,7 @@ use Rattle.arith.specs.Lists.{upFrom, upTo, flat}
 use Rattle.report.specs.Decimal.{decimal}
 use Rattle.report.specs.Put.{Put}
 use Rattle.report.specs.Shown.{beltOf}
-use Rattle.report.specs.Text.{bytes}
+use Rattle.dimacs.specs.Text.{bytes}
 use Rattle.report.proofs.Belts.{flat-more}
 use Rattle.report.proofs.Digits.{decimal-short}
 use Rattle.report.proofs.Lengths.{row-length}

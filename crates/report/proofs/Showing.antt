@@ -1,5 +1,5 @@
 -- The rows of a solved network of one commodity: its numbers fit, and the rows written are its outcome's. Assumes nothing.
-use mathlib.Core.Path.{_≡_, sym, _∙_}
+use mathlib.Core.Path.{_≡_}
 use mathlib.Core.List.{List}
 use Prim.Native.Nat.{ℕ, _+_, _*_, _^_, _≤_, _<_}
 use native.Mathlib.Nat.{one-mul}
@@ -9,7 +9,6 @@ use Rattle.network.specs.Network.{Network, arcs, commodities}
 use Rattle.network.specs.declared.Verdict.the-variants.{Accepted}
 use Rattle.method.specs.Answer.{outcome}
 use Rattle.method.specs.declared.Answer.{Answer}
-use Rattle.solver.specs.Runs.{Lent}
 use Rattle.solver.specs.Solved.{Solved}
 use Rattle.report.specs.Listing.{answerRows, outcomeRows, verdictRows}
 use Rattle.report.specs.Put.{Put}

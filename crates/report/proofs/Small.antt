@@ -5,11 +5,10 @@ use mathlib.Core.Option.{Option, none, some}
 use Prim.Native.Nat.{ℕ, _*_, _-_, _^_, _≤_, _<_}
 use native.Mathlib.Nat.{mul-le-mul}
 use native.Mathlib.Omega.{arith}
-use lib.ListN.{getD}
 use Rattle.network.specs.Flow.{loadOf}
 use Rattle.network.specs.Network.{Network, arcs, capacity}
 use Rattle.network.specs.Sound.{Sound}
-use Rattle.method.specs.Answer.{Outcome, fullest, amounts, unjoined, outcomeOf, outcome}
+use Rattle.method.specs.Answer.{fullest, amounts, unjoined, outcomeOf, outcome}
 use Rattle.method.specs.Choice.{Choice, choice}
 use Rattle.method.specs.Guarantee.{Guarantee}
 use Rattle.method.specs.Iteration.{initial}

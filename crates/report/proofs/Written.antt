@@ -1,6 +1,6 @@
 -- The listing from its parts: the header, then the rows that follow from the file. Assumes nothing.
 use mathlib.Core.Path.{_≡_, sym, ap, _∙_}
-use mathlib.Core.List.{List, _++_}
+use mathlib.Core.List.{List}
 use Prim.Native.Nat.{ℕ}
 use native.Mathlib.Omega.{arith}
 use Rattle.network.specs.Network.{Network}
@@ -9,7 +9,7 @@ use Rattle.network.specs.declared.Verdict.the-variants.{Accepted, Refused}
 use Rattle.network.proofs.Decided.{no-refusal}
 use Rattle.method.specs.Answer.{outcome}
 use Rattle.method.specs.Guarantee.{Guarantee}
-use Rattle.dimacs.specs.Outcome.{Outcome, holds, refused, parsed}
+use Rattle.dimacs.specs.Outcome.{holds, refused, parsed}
 use Rattle.report.specs.Listed.{Listed}
 use Rattle.report.specs.Listing.{refusalRow, verdictOn, verdictRows, fileRows, listing}
 use Rattle.report.specs.Put.{Put}

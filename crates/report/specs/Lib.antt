@@ -4,4 +4,3 @@ pub mod Listing
 pub mod Put
 pub mod Row
 pub mod Shown
-pub mod Text

@@ -3,7 +3,7 @@ use mathlib.Core.Path.{_≡_}
 use mathlib.Core.List.{List}
 use Prim.Native.Nat.{ℕ, _+_, _≤_}
 use lib.ListN.{length}
-use Rattle.numbers.specs.Numbers.{splice}
+use Rattle.numbers.specs.Parts.{splice}
 
 -- The bytes xs stand from place `at` on, there was room for them, every other place is as before, and `end` is the place after them.
 pub record Put (xs : List ℕ) (out : List ℕ) (at : ℕ) (out' : List ℕ) (end : ℕ) : Type 0 where

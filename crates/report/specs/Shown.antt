@@ -4,7 +4,7 @@ use mathlib.Core.List.{List}
 use Prim.Native.Nat.{ℕ, _+_, _*_, _^_, _≤_, _<_}
 use lib.ListN.{length, getD}
 use Rattle.arith.specs.Lists.{upTo, flat}
-use Rattle.network.specs.Network.{Network, arcs, commodities}
+use Rattle.network.specs.Network.{Network, commodities}
 use Rattle.network.specs.declared.Verdict.{Verdict}
 use Rattle.network.specs.declared.Verdict.the-variants.{Accepted}
 use Rattle.method.specs.Answer.{outcome}
@@ -14,7 +14,7 @@ use Rattle.report.specs.Decimal.{decimal}
 use Rattle.report.specs.Listing.{verdictRows}
 use Rattle.report.specs.Put.{Put}
 use Rattle.report.specs.Row.{row}
-use Rattle.report.specs.Text.{bytes}
+use Rattle.dimacs.specs.Text.{bytes}
 
 -- The row of arc e, whose load times a is written over y.
 abbrev pub beltOf : List ℕ → List ℕ → List ℕ → ℕ → ℕ → ℕ → List ℕ

@@ -5,14 +5,14 @@ use method::Answer;
 use network::Refusal;
 use network::numbers::number;
 use network::numbers::place;
-ghost use mathlib.Core.List.{[], _∷_, _++_};
+ghost use mathlib.Core.List.{[], _∷_};
 ghost use Prim.Native.Nat.{_+_, _*_, _^_, _≤_, _<_};
 ghost use lib.ListN.{length};
 ghost use Rattle.report.specs.Decimal.{decimal};
 ghost use Rattle.report.specs.Listing.{answerRows, refusalRow};
 ghost use Rattle.report.specs.Put.{Put};
 ghost use Rattle.report.specs.Row.{joined, row};
-ghost use Rattle.report.specs.Text.{bytes};
+ghost use Rattle.dimacs.specs.Text.{bytes};
 
 // The last two fields and the end of a row.
 fn put_fraction(out: &mut [u8], at: usize, upper: u64, lower: u64) -> usize

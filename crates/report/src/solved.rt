@@ -3,7 +3,6 @@ use crate::rows::put_answer;
 use crate::rows::put_belt;
 ghost use mathlib.Core.Path.{_≡_};
 ghost use lib.ListN.{length};
-ghost use Rattle.network.specs.Network.{arcs};
 ghost use Rattle.network.specs.declared.Verdict.the-variants.{Accepted};
 ghost use Rattle.solver.specs.Runs.{networkOf};
 ghost use Rattle.report.specs.Put.{Put};

@@ -1,6 +1,5 @@
 -- A step depends on nothing of a network but its capacities. Assumes nothing.
-use mathlib.Core.Path.{_≡_, refl, sym}
-use mathlib.Core.List.{List}
+use mathlib.Core.Path.{_≡_, refl}
 use Prim.Native.Nat.{ℕ}
 use lib.ListN.{length}
 use Rattle.network.specs.Network.{Network, arcs}

@@ -3,27 +3,25 @@
 use mathlib.Core.Path.{_≡_, refl, sym, ap, _∙_}
 use mathlib.Core.Option.{some}
 use mathlib.Core.List.{List}
-use Prim.Native.Nat.{ℕ, suc, _+_, _*_, _/_, _%_, _^_, _≤_, _<_}
+use Prim.Native.Nat.{ℕ, _+_, _*_, _/_, _%_, _^_, _≤_, _<_}
 use native.Mathlib.Nat.{mul-le-mul-right, div-lt-iff-lt-mul, mod-lt, div-add-mod', mul-le-mul}
 use native.Mathlib.Omega.{arith}
 use lib.ListN.{length, getD}
-use Rattle.arith.specs.Sum.{sum}
 use Rattle.arith.proofs.Sums.{term-le-sum}
 use Rattle.length.specs.Length.{growth}
-use Rattle.network.specs.Network.{Network, arcs, commodities, capacity, source, sink}
+use Rattle.network.specs.Network.{Network, arcs, commodities}
 use Rattle.network.specs.Flow.{loadOf}
 use Rattle.network.specs.Path.{pathLength}
 use Rattle.network.proofs.Sounds.{sound-ends}
 use Rattle.method.specs.Answer.{amounts}
-use Rattle.method.specs.Choice.{Choice, choiceOf, choice}
-use Rattle.method.specs.Iteration.{State, draw, update, grown}
+use Rattle.method.specs.Choice.{choiceOf, choice}
+use Rattle.method.specs.Iteration.{State, draw, grown}
 use Rattle.method.specs.Sizes.{Sizes}
 use Rattle.method.proofs.Arcs.{chosen-some}
 use Rattle.method.proofs.Reached.{Reached, Valid, chosen-at, fair}
 use Rattle.method.proofs.Sized.{reached-sizes, grown-sizes}
-use Rattle.method.proofs.Table.{Table}
 use Rattle.method.proofs.Times.{update-length}
-use Rattle.tables.specs.Calls.{Growing, Settling, Adding}
+use Rattle.tables.specs.Calls.{Settling}
 use Rattle.solver.specs.Progress.{longer}
 use Rattle.solver.specs.Steps.{Stepping}
 use Rattle.solver.specs.Runs.{Lent}

@@ -2,12 +2,12 @@
 use mathlib.Core.Path.{_≡_, refl, sym, ap, _∙_}
 use mathlib.Core.Option.{none, some}
 use mathlib.Core.List.{List, map}
-use Prim.Native.Nat.{ℕ, _*_, _-_}
+use Prim.Native.Nat.{ℕ, _-_}
 use native.Mathlib.Omega.{arith}
 use lib.ListN.{length, getD, replicate}
 use Rattle.arith.specs.Lists.{upTo}
 use Rattle.length.specs.Length.{start}
-use Rattle.network.specs.Network.{Network, arcs, commodities}
+use Rattle.network.specs.Network.{Network, arcs}
 use Rattle.method.specs.Answer.{fullest, outcome, outcomeOf, unjoined}
 use Rattle.method.specs.Choice.{Choice, choice}
 use Rattle.method.specs.Iteration.{initial}

@@ -5,7 +5,6 @@ use Prim.Native.Nat.{ℕ, _≤_}
 use Rattle.network.specs.Network.{Network}
 use Rattle.method.specs.Iteration.{initial}
 use Rattle.choice.specs.Below.{Below}
-use Rattle.paths.specs.Links.{Linked}
 use Rattle.choice.specs.Search.{bare}
 use Rattle.solver.specs.Progress.{stateOf, begun}
 

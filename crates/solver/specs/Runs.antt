@@ -2,13 +2,11 @@
 use mathlib.Core.Path.{_≡_}
 use mathlib.Core.List.{List}
 use mathlib.Core.Option.{some}
-use Prim.Native.Nat.{ℕ, _*_, _≤_, _<_}
+use Prim.Native.Nat.{ℕ, _≤_}
 use lib.ListN.{length}
 use Rattle.network.specs.Network.{Network, arcs, commodities}
 use Rattle.network.specs.Sound.{Sound}
 use Rattle.method.specs.Choice.{Choice, choice}
-use Rattle.method.specs.Iteration.{State}
-use Rattle.method.proofs.Reached.{Reached}
 
 -- The network of n nodes that six slices of numbers hold.
 abbrev pub networkOf : ℕ → List ℕ → List ℕ → List ℕ → List ℕ → List ℕ → Network

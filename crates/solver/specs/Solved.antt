@@ -4,7 +4,7 @@ use mathlib.Core.List.{List}
 use Prim.Native.Nat.{ℕ, _*_}
 use lib.ListN.{length, getD}
 use Rattle.network.specs.Network.{Network, arcs, commodities}
-use Rattle.method.specs.Answer.{outcome, fullest}
+use Rattle.method.specs.Answer.{outcome}
 use Rattle.method.specs.Guarantee.{Guarantee}
 use Rattle.method.specs.declared.Answer.{Answer}
 use Rattle.solver.specs.declared.steps.Progress.{Progress}

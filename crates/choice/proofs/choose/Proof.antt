@@ -1,4 +1,4 @@
--- `paths::choose` meets its contract: the nearest commodity is found, and its walk is the choice.
+-- `choice::choose` meets its contract: the nearest commodity is found, and its walk is the choice.
 -- Assumes nothing.
 use Prim.Native.Nat.{_<_}
 use native.Mathlib.Omega.{arith}
@@ -27,21 +27,6 @@ nearest-requires c κs =
 mul-distance : tie.Need-mul-distance
 mul-distance c = let s = c .before .before .before .before .before .before .before .before in omega (arith, entry s .good, among s)
 
-slice-read-distance : tie.Need-slice-read-distance
-slice-read-distance c = search needs
-
-same-length : tie.Need-same-length
-same-length c = search needs
-
-same-length-2 : tie.Need-same-length-2
-same-length-2 c = search needs
-
-same-length-3 : tie.Need-same-length-3
-same-length-3 c = search needs
-
-same-length-4 : tie.Need-same-length-4
-same-length-4 c = search needs
-
 returns : tie.Need-returns
 returns c =
     let s = c .before .before .before .before .before .before .before .before .before .before in
@@ -49,9 +34,6 @@ returns c =
 
 mul-source : tie.Need-mul-source
 mul-source c = let s = search-at c in omega (arith, entry s .good, among s)
-
-shared-slice-read-source : tie.Need-shared-slice-read-source
-shared-slice-read-source c = search needs
 
 mul-sink : tie.Need-mul-sink
 mul-sink c = let s = search-at (c .before) in omega (arith, entry s .good, among s)
@@ -69,21 +51,6 @@ walk-requires c κs =
       entry s .pre .1 .1 .1 .0,
     )
 
-same-length-5 : tie.Need-same-length-5
-same-length-5 c = search needs
-
-same-length-6 : tie.Need-same-length-6
-same-length-6 c = search needs
-
-same-length-7 : tie.Need-same-length-7
-same-length-7 c = search needs
-
-same-length-8 : tie.Need-same-length-8
-same-length-8 c = search needs
-
-same-length-9 : tie.Need-same-length-9
-same-length-9 c = search needs
-
 returns-2 : tie.Need-returns-2
 returns-2 c =
     let t = c .before .before .before .before .before .before .before in
@@ -92,24 +59,7 @@ returns-2 c =
 
 pub choose-spec : {M : Type 1} → statement M
 choose-spec =
-    tie.close
-    (tie.spec
-    nearest-requires
-    mul-distance
-    slice-read-distance
-    same-length
-    same-length-2
-    same-length-3
-    same-length-4
-    returns
-    mul-source
-    shared-slice-read-source
-    mul-sink
-    shared-slice-read-sink
-    walk-requires
-    same-length-5
-    same-length-6
-    same-length-7
-    same-length-8
-    same-length-9
+    tie.close (tie.spec nearest-requires mul-distance (λ c. search needs) (λ c. search needs) (λ c. search needs)
+    (λ c. search needs) (λ c. search needs) returns mul-source (λ c. search needs) mul-sink shared-slice-read-sink
+    walk-requires (λ c. search needs) (λ c. search needs) (λ c. search needs) (λ c. search needs) (λ c. search needs)
     returns-2)

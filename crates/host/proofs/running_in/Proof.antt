@@ -9,12 +9,6 @@ use Rattle.numbers.specs.Numbers.{count}
 use Rattle.host.proofs.running_in.Statement.{statement}
 use Rattle.host.proofs.running_in.Tie as tie
 
-count-requires : tie.Need-count-requires
-count-requires c κs = search needs
-
-read-requires : tie.Need-read-requires
-read-requires c κs = search needs
-
 returns : tie.Need-returns
 returns c =
     let s = now (c .before .before .before .before .args .count) in
@@ -28,4 +22,5 @@ returns-2 c =
     rw (le-ltb 0 (count s) h) refl
 
 pub running-in-spec : {M : Type 1} → statement M
-running-in-spec = tie.close (tie.spec count-requires read-requires returns returns-2)
+running-in-spec =
+    tie.close (tie.spec (λ c κs. search needs) (λ c κs. search needs) returns returns-2)

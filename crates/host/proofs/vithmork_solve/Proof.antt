@@ -14,33 +14,6 @@ use Rattle.host.proofs.Judged.{served-refused}
 use Rattle.host.proofs.vithmork_solve.Statement.{statement}
 use Rattle.host.proofs.vithmork_solve.Tie as tie
 
-items-requires : tie.Need-items-requires
-items-requires c κs = search needs
-
-items-requires-2 : tie.Need-items-requires-2
-items-requires-2 c κs = search needs
-
-count-requires : tie.Need-count-requires
-count-requires c κs = search needs
-
-count-requires-2 : tie.Need-count-requires-2
-count-requires-2 c κs = search needs
-
-count-requires-3 : tie.Need-count-requires-3
-count-requires-3 c κs = search needs
-
-count-requires-4 : tie.Need-count-requires-4
-count-requires-4 c κs = search needs
-
-running-in-requires : tie.Need-running-in-requires
-running-in-requires c κs = search needs
-
-check-sizes-requires : tie.Need-check-sizes-requires
-check-sizes-requires c κs = search needs
-
-enum-told : tie.Need-enum-told
-enum-told c = search needs
-
 -- the rows that were looked at are those of the definition
 abbrev looked : (s : tie.Start) → List Row
 looked s = sizesIn (s .args .n) (s .args .q) (now (s .args .belts)) (now (s .args .pairs)) (tablesIn (now (s .args .flow)) (now (s .args .length)) (now (s .args .answer)) (now (s .args .count))) (runningIn (now (s .args .count)))
@@ -74,26 +47,11 @@ host-number-requires c κs =
     let s = c .before .before .before .before .before .before .before .before .before .before .before .before .before .before .before .before .before .before .before .before .before in
     rw (number c) (verdict-fits (networkIn (s .args .n) (now (s .args .belts)) (now (s .args .pairs))) (s .args .q) (tablesIn (now (s .args .flow)) (now (s .args .length)) (now (s .args .answer)) (now (s .args .count))) (runningIn (now (s .args .count))))
 
-same-length : tie.Need-same-length
-same-length c = search needs
-
-same-length-2 : tie.Need-same-length-2
-same-length-2 c = search needs
-
-same-length-3 : tie.Need-same-length-3
-same-length-3 c = search needs
-
-same-length-4 : tie.Need-same-length-4
-same-length-4 c = search needs
-
 returns : tie.Need-returns
 returns c =
     let s = c .before .before .before .before .before .before .before .before .before .before .before .before .before .before .before .before .before .before .before .before .before .before in
     served-refused (networkIn (s .args .n) (now (s .args .belts)) (now (s .args .pairs))) (s .args .q) (judged s) (runningIn (now (s .args .count))) (now (s .args .flow)) (now (s .args .length)) (now (s .args .answer)) (now (s .args .count)) (c .host-number .result)
     (c .before .enum-told .given .0 .0) (refused (c .before)) (c .host-number .ensures ∙ ap hostNumber (number (c .before)))
-
-enum-told-2 : tie.Need-enum-told-2
-enum-told-2 c = search needs
 
 passed : (c : tie.After-enum-told2) → firstRow (looked (c .before .before .before .before .before .before .before .before .before .before .before .before .before .before .before .before .before .before .before .before .before)) ≡ Accepted
 passed c = sym (sizes (c .before .before)) ∙ c .enum-told2 .given .1
@@ -104,18 +62,6 @@ decode-requires c κs =
     rw (c .before .before .before .before .before .before .before .running-in .ensures)
     (sizable-in (s .args .n) (s .args .q) (now (s .args .belts)) (now (s .args .pairs)) (now (s .args .flow)) (now (s .args .length)) (now (s .args .answer)) (now (s .args .count)) (runningIn (now (s .args .count))) (passed (c .before .before .before .before)))
 
-same-length-5 : tie.Need-same-length-5
-same-length-5 c = search needs
-
-same-length-6 : tie.Need-same-length-6
-same-length-6 c = search needs
-
-same-length-7 : tie.Need-same-length-7
-same-length-7 c = search needs
-
-same-length-8 : tie.Need-same-length-8
-same-length-8 c = search needs
-
 returns-2 : tie.Need-returns-2
 returns-2 c =
     let s = c .before .before .before .before .before .before .before .before .before .before .before .before .before .before .before .before .before .before .before .before .before .before .before .before .before .before .before .before .before .before .before .before .before .before in
@@ -124,27 +70,8 @@ returns-2 c =
 
 pub vithmork-solve-spec : {M : Type 1} → statement M
 vithmork-solve-spec =
-    tie.close
-    (tie.spec
-    items-requires
-    items-requires-2
-    count-requires
-    count-requires-2
-    count-requires-3
-    count-requires-4
-    running-in-requires
-    check-sizes-requires
-    enum-told
-    host-number-requires
-    same-length
-    same-length-2
-    same-length-3
-    same-length-4
-    returns
-    enum-told-2
-    decode-requires
-    same-length-5
-    same-length-6
-    same-length-7
-    same-length-8
+    tie.close (tie.spec (λ c κs. search needs) (λ c κs. search needs) (λ c κs. search needs) (λ c κs. search needs)
+    (λ c κs. search needs) (λ c κs. search needs) (λ c κs. search needs) (λ c κs. search needs) (λ c. search needs)
+    host-number-requires (λ c. search needs) (λ c. search needs) (λ c. search needs) (λ c. search needs) returns
+    (λ c. search needs) decode-requires (λ c. search needs) (λ c. search needs) (λ c. search needs) (λ c. search needs)
     returns-2)

@@ -6,18 +6,10 @@ use Rattle.arith.specs.Ceiling.{ceil}
 use Rattle.length.proofs.quotient.Statement.{statement}
 use Rattle.length.proofs.quotient.Tie as tie
 
-sub-result : tie.Need-sub-result
-sub-result c = search needs
-
-add-result : tie.Need-add-result
-add-result c = search needs
-
-div-result : tie.Need-div-result
-div-result c = search needs
-
 returns : tie.Need-returns
 unfolding ceil
 returns c = refl
 
 pub quotient-spec : {M : Type 1} → statement M
-quotient-spec = tie.close (tie.spec sub-result add-result div-result returns)
+quotient-spec =
+    tie.close (tie.spec (λ c. search needs) (λ c. search needs) (λ c. search needs) returns)

@@ -9,9 +9,6 @@ use Rattle.length.proofs.Bounds.{threshold-most}
 use Rattle.length.proofs.threshold.Statement.{statement}
 use Rattle.length.proofs.threshold.Tie as tie
 
-level-requires : tie.Need-level-requires
-level-requires c κs = search needs
-
 product : (c : tie.After-level) → c .before .args .q * c .level .result ≡ threshold (c .before .args .m) (c .before .args .q)
 unfolding threshold
 product c = ap (λ (x : ℕ). c .before .args .q * x) (c .level .ensures)
@@ -25,4 +22,5 @@ returns : tie.Need-returns
 returns c = product c
 
 pub threshold-spec : {M : Type 1} → statement M
-threshold-spec = tie.close (tie.spec level-requires mul-result returns)
+threshold-spec =
+    tie.close (tie.spec (λ c κs. search needs) mul-result returns)

@@ -7,18 +7,6 @@ use Rattle.numbers.proofs.Splices.{splice-digits}
 use Rattle.numbers.proofs.put_four.Statement.{statement}
 use Rattle.numbers.proofs.put_four.Tie as tie
 
-put-two-requires : tie.Need-put-two-requires
-put-two-requires c κs = search needs
-
-add-put-two : tie.Need-add-put-two
-add-put-two c = search needs
-
-put-two-requires-2 : tie.Need-put-two-requires-2
-put-two-requires-2 c κs = search needs
-
-same-length : tie.Need-same-length
-same-length c = search needs
-
 returns : tie.Need-returns
 returns c =
     let start = c .before .before .before .before .before .before .before .before .before in
@@ -26,4 +14,5 @@ returns c =
     (splice-digits (now (start .args .s)) (start .args .at) 2 2 (start .args .x) (omega arith))
 
 pub put-four-spec : {M : Type 1} → statement M
-put-four-spec = tie.close (tie.spec put-two-requires add-put-two put-two-requires-2 same-length returns)
+put-four-spec =
+    tie.close (tie.spec (λ c κs. search needs) (λ c. search needs) (λ c κs. search needs) (λ c. search needs) returns)

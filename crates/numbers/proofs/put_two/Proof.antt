@@ -11,23 +11,8 @@ use Rattle.numbers.proofs.Splices.{splice-pair}
 use Rattle.numbers.proofs.put_two.Statement.{statement}
 use Rattle.numbers.proofs.put_two.Tie as tie
 
-low-requires : tie.Need-low-requires
-low-requires c κs = search needs
-
-slice-write-s : tie.Need-slice-write-s
-slice-write-s c = search needs
-
-low-requires-2 : tie.Need-low-requires-2
-low-requires-2 c κs = search needs
-
-add-s : tie.Need-add-s
-add-s c = search needs
-
 slice-write-s-2 : tie.Need-slice-write-s-2
 slice-write-s-2 c = simp length-set (omega arith)
-
-same-length : tie.Need-same-length
-same-length c = search needs
 
 returns : tie.Need-returns
 unfolding digits
@@ -40,5 +25,5 @@ returns c =
 
 pub put-two-spec : {M : Type 1} → statement M
 put-two-spec =
-    tie.close
-    (tie.spec low-requires slice-write-s low-requires-2 add-s slice-write-s-2 same-length returns)
+    tie.close (tie.spec (λ c κs. search needs) (λ c. search needs) (λ c κs. search needs) (λ c. search needs)
+    slice-write-s-2 (λ c. search needs) returns)

@@ -9,24 +9,6 @@ use Rattle.numbers.proofs.Parts.{value-join}
 use Rattle.numbers.proofs.read.Statement.{statement}
 use Rattle.numbers.proofs.read.Tie as tie
 
-mul-from : tie.Need-mul-from
-mul-from c = search needs
-
-four-requires : tie.Need-four-requires
-four-requires c κs = search needs
-
-add-four : tie.Need-add-four
-add-four c = search needs
-
-four-requires-2 : tie.Need-four-requires-2
-four-requires-2 c κs = search needs
-
-mul-result : tie.Need-mul-result
-mul-result c = search needs
-
-add-result : tie.Need-add-result
-add-result c = search needs
-
 returns : tie.Need-returns
 unfolding numberAt
 returns c =
@@ -34,4 +16,6 @@ returns c =
     omega (arith, value-join (now (start .args .s)) (8 * start .args .i) 4 4 (omega arith))
 
 pub read-spec : {M : Type 1} → statement M
-read-spec = tie.close (tie.spec mul-from four-requires add-four four-requires-2 mul-result add-result returns)
+read-spec =
+    tie.close (tie.spec (λ c. search needs) (λ c κs. search needs) (λ c. search needs) (λ c κs. search needs)
+    (λ c. search needs) (λ c. search needs) returns)

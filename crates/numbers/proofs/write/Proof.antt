@@ -5,25 +5,10 @@ use denote.Ref.{now}
 use Prim.Native.Nat.{_*_}
 use native.Mathlib.Omega.{arith}
 use Rattle.numbers.specs.Digits.{digits}
-use Rattle.numbers.specs.Numbers.{putAt}
+use Rattle.numbers.specs.Parts.{putAt}
 use Rattle.numbers.proofs.Splices.{splice-digits}
 use Rattle.numbers.proofs.write.Statement.{statement}
 use Rattle.numbers.proofs.write.Tie as tie
-
-mul-to : tie.Need-mul-to
-mul-to c = search needs
-
-put-four-requires : tie.Need-put-four-requires
-put-four-requires c κs = search needs
-
-add-put-four : tie.Need-add-put-four
-add-put-four c = search needs
-
-put-four-requires-2 : tie.Need-put-four-requires-2
-put-four-requires-2 c κs = search needs
-
-same-length : tie.Need-same-length
-same-length c = search needs
 
 returns : tie.Need-returns
 unfolding putAt digits
@@ -34,5 +19,5 @@ returns c =
 
 pub write-spec : {M : Type 1} → statement M
 write-spec =
-    tie.close
-    (tie.spec mul-to put-four-requires add-put-four put-four-requires-2 same-length returns)
+    tie.close (tie.spec (λ c. search needs) (λ c κs. search needs) (λ c. search needs) (λ c κs. search needs)
+    (λ c. search needs) returns)

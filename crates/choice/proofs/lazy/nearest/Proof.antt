@@ -1,11 +1,10 @@
--- `paths::lazy::nearest` meets its contract: the bounds stay below the distances, and rise until the least of them is a distance.
+-- `choice::lazy::nearest` meets its contract: the bounds stay below the distances, and rise until the least of them is a distance.
 -- Assumes nothing.
 use mathlib.Core.Path.{_≡_, refl, sym, _∙_}
 use mathlib.Core.List.{List}
-use Prim.Native.Nat.{ℕ, _<_}
+use Prim.Native.Nat.{ℕ}
 use native.Mathlib.Omega.{arith}
 use lib.ListN.{length}
-use Rattle.network.specs.Network.{commodities}
 use Rattle.choice.specs.Search.{bare}
 use Rattle.choice.proofs.Graphs.{fit-graph}
 use Rattle.paths.proofs.Rooms.{sink-listed}
@@ -138,23 +137,6 @@ returns c =
 
 pub nearest-spec : {M : Type 1} → statement M
 nearest-spec =
-    tie.close
-    (tie.spec
-    Inv-loop
-    μ-loop
-    least-requires
-    loop-holds
-    mul-searched
-    shared-slice-read-searched
-    distances-requires
-    raise-requires
-    least-requires-2
-    mul-if1
-    shared-slice-read-if1
-    loop-less
-    loop-again
-    same-length
-    same-length-2
-    same-length-3
-    same-length-4
-    returns)
+    tie.close (tie.spec Inv-loop μ-loop least-requires loop-holds mul-searched shared-slice-read-searched
+    distances-requires raise-requires least-requires-2 mul-if1 shared-slice-read-if1 loop-less loop-again same-length
+    same-length-2 same-length-3 same-length-4 returns)

@@ -1,4 +1,4 @@
--- `paths::lazy::raise` meets its contract: the bounds of the commodities passed are raised where they share the sink.
+-- `choice::lazy::raise` meets its contract: the bounds of the commodities passed are raised where they share the sink.
 -- Assumes nothing.
 use mathlib.Core.Path.{_≡_}
 use mathlib.Core.Logic.{⊎-elim}
@@ -25,17 +25,8 @@ all-passed {sources} {i = i} a b R = let q : length sources ≡ i = omega arith 
 loop-holds : tie.Need-loop-holds Inv-loop μ-loop
 loop-holds c = (omega arith, raised-none)
 
-mul-if1 : tie.Need-mul-if1 Inv-loop μ-loop
-mul-if1 c = omega arith
-
 shared-slice-read-if1 : tie.Need-shared-slice-read-if1 Inv-loop μ-loop
 shared-slice-read-if1 c = c .before .before .before .pre .ends (c .before .before .loop .i) (c .before .loop-test .taken)
-
-mul-s : tie.Need-mul-s Inv-loop μ-loop
-mul-s c = omega arith
-
-shared-slice-read-s : tie.Need-shared-slice-read-s Inv-loop μ-loop
-shared-slice-read-s c = omega arith
 
 mul-bounds : tie.Need-mul-bounds Inv-loop μ-loop
 mul-bounds c =
@@ -47,18 +38,6 @@ shared-slice-read-bounds c =
     let s = c .before .before .before .before .before .before in
     s .pre .room (c .before .before .before .before .before .loop .i) (c .before .before .before .before .loop-test .taken)
 
-mul-bounds-2 : tie.Need-mul-bounds-2 Inv-loop μ-loop
-mul-bounds-2 c = omega arith
-
-slice-write-bounds : tie.Need-slice-write-bounds Inv-loop μ-loop
-slice-write-bounds c = omega arith
-
-add-i : tie.Need-add-i Inv-loop μ-loop
-add-i c = omega arith
-
-loop-less : tie.Need-loop-less Inv-loop μ-loop
-loop-less c = omega arith
-
 loop-again : tie.Need-loop-again Inv-loop μ-loop
 loop-again c =
     let turn = c .before .before .before .loop in (
@@ -67,29 +46,11 @@ loop-again c =
           (c .if1 .came),
     )
 
-same-length : tie.Need-same-length Inv-loop μ-loop
-same-length c = omega arith
-
 returns : tie.Need-returns Inv-loop μ-loop
 returns c = all-passed (c .before .loop .inv .0) (c .loop-test .left) (c .before .loop .inv .1)
 
 pub raise-spec : {M : Type 1} → statement M
 raise-spec =
-    tie.close
-    (tie.spec
-    Inv-loop
-    μ-loop
-    loop-holds
-    mul-if1
-    shared-slice-read-if1
-    mul-s
-    shared-slice-read-s
-    mul-bounds
-    shared-slice-read-bounds
-    mul-bounds-2
-    slice-write-bounds
-    add-i
-    loop-less
-    loop-again
-    same-length
-    returns)
+    tie.close (tie.spec Inv-loop μ-loop loop-holds (λ c. omega arith) shared-slice-read-if1 (λ c. omega arith)
+    (λ c. omega arith) mul-bounds shared-slice-read-bounds (λ c. omega arith) (λ c. omega arith) (λ c. omega arith)
+    (λ c. omega arith) loop-again (λ c. omega arith) returns)

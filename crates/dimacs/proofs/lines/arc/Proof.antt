@@ -27,34 +27,13 @@ tail-read c = number-is (c .before .before .before .number-at .ensures) (c .befo
 head-read : (c : tie.After-known-told2) → numberOf (word (words (c .before .before .before .before .before .before .before .before .before .before .before)) 2) ≡ some (c .before .v .given .0 .0)
 head-read c = number-is (c .before .before .before .number-at2 .ensures) (c .before .v .given .1)
 
-shaped-requires : tie.Need-shaped-requires
-shaped-requires c κs = search needs
-
 returns : tie.Need-returns
 unfolding given
 returns c = arc-by _ (sym (c .before .shaped .ensures) ∙ not-true _ (c .if1 .taken)) refl refl refl
 
-number-at-requires : tie.Need-number-at-requires
-number-at-requires c κs = search needs
-
-enum-known-u : tie.Need-enum-known-u
-enum-known-u c = search needs
-
-enum-told : tie.Need-enum-told
-enum-told c = search needs
-
 returns-2 : tie.Need-returns-2
 unfolding given
 returns-2 c = arc-by _ (fit (c .before .before .before)) (number-is (c .before .before .number-at .ensures) (c .enum-told .given .1)) refl refl
-
-number-at-requires-2 : tie.Need-number-at-requires-2
-number-at-requires-2 c κs = search needs
-
-enum-known-v : tie.Need-enum-known-v
-enum-known-v c = search needs
-
-enum-told-2 : tie.Need-enum-told-2
-enum-told-2 c = search needs
 
 returns-3 : tie.Need-returns-3
 unfolding given
@@ -64,15 +43,6 @@ returns-3 c =
     (tail-read (c .before .before .before))
     (number-is (c .before .before .number-at2 .ensures) (c .enum-told2 .given .1))
     refl
-
-number-at-requires-3 : tie.Need-number-at-requires-3
-number-at-requires-3 c κs = search needs
-
-enum-known-c : tie.Need-enum-known-c
-enum-known-c c = search needs
-
-enum-told-3 : tie.Need-enum-told-3
-enum-told-3 c = search needs
 
 returns-4 : tie.Need-returns-4
 unfolding given
@@ -94,20 +64,6 @@ returns-5 c =
 
 pub arc-spec : {M : Type 1} → statement M
 arc-spec =
-    tie.close
-    (tie.spec
-    shaped-requires
-    returns
-    number-at-requires
-    enum-known-u
-    enum-told
-    returns-2
-    number-at-requires-2
-    enum-known-v
-    enum-told-2
-    returns-3
-    number-at-requires-3
-    enum-known-c
-    enum-told-3
-    returns-4
-    returns-5)
+    tie.close (tie.spec (λ c κs. search needs) returns (λ c κs. search needs) (λ c. search needs) (λ c. search needs)
+    returns-2 (λ c κs. search needs) (λ c. search needs) (λ c. search needs) returns-3 (λ c κs. search needs)
+    (λ c. search needs) (λ c. search needs) returns-4 returns-5)

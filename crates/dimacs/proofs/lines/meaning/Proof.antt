@@ -11,18 +11,6 @@ use Rattle.dimacs.proofs.lines.meaning.Tie as tie
 returns : tie.Need-returns
 returns c = no-byte _ (c .if1 .taken)
 
-shared-slice-read-letter : tie.Need-shared-slice-read-letter
-shared-slice-read-letter c = search needs
-
-problem-requires : tie.Need-problem-requires
-problem-requires c κs = search needs
-
-terminal-requires : tie.Need-terminal-requires
-terminal-requires c κs = search needs
-
-arc-requires : tie.Need-arc-requires
-arc-requires c κs = search needs
-
 returns-2 : tie.Need-returns-2
 unfolding lettered
 returns-2 c = rw (first-byte _ (c .before .before .if1 .left), c .match .keys1)
@@ -52,15 +40,5 @@ returns-6 c =
 
 pub meaning-spec : {M : Type 1} → statement M
 meaning-spec =
-    tie.close
-    (tie.spec
-    returns
-    shared-slice-read-letter
-    problem-requires
-    terminal-requires
-    arc-requires
-    returns-2
-    returns-3
-    returns-4
-    returns-5
-    returns-6)
+    tie.close (tie.spec returns (λ c. search needs) (λ c κs. search needs) (λ c κs. search needs) (λ c κs. search needs)
+    returns-2 returns-3 returns-4 returns-5 returns-6)

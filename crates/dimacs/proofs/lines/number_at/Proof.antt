@@ -6,14 +6,9 @@ use Rattle.dimacs.specs.Number.{numberOf}
 use Rattle.dimacs.proofs.lines.number_at.Statement.{statement}
 use Rattle.dimacs.proofs.lines.number_at.Tie as tie
 
-word-requires : tie.Need-word-requires
-word-requires c κs = search needs
-
-number-requires : tie.Need-number-requires
-number-requires c κs = search needs
-
 returns : tie.Need-returns
 returns c = c .number .ensures ∙ ap numberOf (c .before .word .ensures)
 
 pub number-at-spec : {M : Type 1} → statement M
-number-at-spec = tie.close (tie.spec word-requires number-requires returns)
+number-at-spec =
+    tie.close (tie.spec (λ c κs. search needs) (λ c κs. search needs) returns)

@@ -30,18 +30,9 @@ max-read c = is-max (c .before .before .word .ensures) (c .before .says-max .ens
 nodes-read : (c : tie.After-known-told) → numberOf (word (words (c .before .before .before .before .before .before .before .before .before .before)) 2) ≡ some (c .before .n .given .0 .0)
 nodes-read c = number-is (c .before .before .before .number-at .ensures) (c .before .n .given .1)
 
-shaped-requires : tie.Need-shaped-requires
-shaped-requires c κs = search needs
-
 returns : tie.Need-returns
 unfolding given
 returns c = problem-by _ (sym (c .before .shaped .ensures) ∙ not-true _ (c .if1 .taken)) refl refl refl
-
-word-requires : tie.Need-word-requires
-word-requires c κs = search needs
-
-says-max-requires : tie.Need-says-max-requires
-says-max-requires c κs = search needs
 
 returns-2 : tie.Need-returns-2
 unfolding given
@@ -52,15 +43,6 @@ returns-2 c =
     refl
     refl
 
-number-at-requires : tie.Need-number-at-requires
-number-at-requires c κs = search needs
-
-enum-known-n : tie.Need-enum-known-n
-enum-known-n c = search needs
-
-enum-told : tie.Need-enum-told
-enum-told c = search needs
-
 returns-3 : tie.Need-returns-3
 unfolding given
 returns-3 c =
@@ -69,15 +51,6 @@ returns-3 c =
     (max-read (c .before .before .before))
     (number-is (c .before .before .number-at .ensures) (c .enum-told .given .1))
     refl
-
-number-at-requires-2 : tie.Need-number-at-requires-2
-number-at-requires-2 c κs = search needs
-
-enum-known-m : tie.Need-enum-known-m
-enum-known-m c = search needs
-
-enum-told-2 : tie.Need-enum-told-2
-enum-told-2 c = search needs
 
 returns-4 : tie.Need-returns-4
 unfolding given
@@ -99,19 +72,6 @@ returns-5 c =
 
 pub problem-spec : {M : Type 1} → statement M
 problem-spec =
-    tie.close
-    (tie.spec
-    shaped-requires
-    returns
-    word-requires
-    says-max-requires
-    returns-2
-    number-at-requires
-    enum-known-n
-    enum-told
-    returns-3
-    number-at-requires-2
-    enum-known-m
-    enum-told-2
-    returns-4
-    returns-5)
+    tie.close (tie.spec (λ c κs. search needs) returns (λ c κs. search needs) (λ c κs. search needs) returns-2
+    (λ c κs. search needs) (λ c. search needs) (λ c. search needs) returns-3 (λ c κs. search needs) (λ c. search needs)
+    (λ c. search needs) returns-4 returns-5)

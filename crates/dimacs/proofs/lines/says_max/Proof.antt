@@ -10,14 +10,8 @@ use Rattle.dimacs.proofs.lines.says_max.Tie as tie
 returns : tie.Need-returns
 returns c = sym (same-length _ _ (c .if1 .taken))
 
-shared-slice-read-if2 : tie.Need-shared-slice-read-if2
-shared-slice-read-if2 c = search needs
-
 returns-2 : tie.Need-returns-2
 returns-2 c = rw (same-three _ 109 97 120 (c .before .before .if1 .left), ne-eqb _ 109 (c .if2 .taken))
-
-shared-slice-read-if3 : tie.Need-shared-slice-read-if3
-shared-slice-read-if3 c = search needs
 
 returns-3 : tie.Need-returns-3
 returns-3 c =
@@ -26,9 +20,6 @@ returns-3 c =
       eq-eqb _ 109 (c .before .before .if2 .left),
       ne-eqb _ 97 (c .if3 .taken),
     )
-
-shared-slice-read-result : tie.Need-shared-slice-read-result
-shared-slice-read-result c = search needs
 
 returns-4 : tie.Need-returns-4
 returns-4 c =
@@ -40,12 +31,5 @@ returns-4 c =
 
 pub says-max-spec : {M : Type 1} → statement M
 says-max-spec =
-    tie.close
-    (tie.spec
-    returns
-    shared-slice-read-if2
-    returns-2
-    shared-slice-read-if3
-    returns-3
-    shared-slice-read-result
+    tie.close (tie.spec returns (λ c. search needs) returns-2 (λ c. search needs) returns-3 (λ c. search needs)
     returns-4)

@@ -11,23 +11,11 @@ use Rattle.dimacs.proofs.Counted.{not-alone, too-few, counted}
 use Rattle.dimacs.proofs.lines.shaped.Statement.{statement}
 use Rattle.dimacs.proofs.lines.shaped.Tie as tie
 
-word-requires : tie.Need-word-requires
-word-requires c κs = search needs
-
 returns : tie.Need-returns
 returns c = not-alone _ _ (omega (arith, ap length (c .before .word .ensures)))
 
-sub-word : tie.Need-sub-word
-sub-word c = search needs
-
-word-requires-2 : tie.Need-word-requires-2
-word-requires-2 c κs = search needs
-
 returns-2 : tie.Need-returns-2
 returns-2 c = too-few _ _ (c .before .before .before .before .before .pre) (ap length (sym (c .before .word2 .ensures)) ∙ c .if2 .taken)
-
-word-requires-3 : tie.Need-word-requires-3
-word-requires-3 c κs = search needs
 
 returns-3 : tie.Need-returns-3
 returns-3 c =
@@ -38,5 +26,5 @@ returns-3 c =
 
 pub shaped-spec : {M : Type 1} → statement M
 shaped-spec =
-    tie.close
-    (tie.spec word-requires returns sub-word word-requires-2 returns-2 word-requires-3 returns-3)
+    tie.close (tie.spec (λ c κs. search needs) returns (λ c. search needs) (λ c κs. search needs) returns-2
+    (λ c κs. search needs) returns-3)

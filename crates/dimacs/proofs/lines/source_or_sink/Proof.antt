@@ -12,9 +12,6 @@ returns : tie.Need-returns
 unfolding sourceOrSink
 returns c = rw (same-length _ (115 ∷ []) (c .if1 .taken), same-length _ (116 ∷ []) (c .if1 .taken))
 
-shared-slice-read-letter : tie.Need-shared-slice-read-letter
-shared-slice-read-letter c = search needs
-
 returns-2 : tie.Need-returns-2
 unfolding sourceOrSink
 returns-2 c = rw (same-one _ 115 (c .before .before .if1 .left), c .match .keys1)
@@ -34,4 +31,5 @@ returns-4 c =
     )
 
 pub source-or-sink-spec : {M : Type 1} → statement M
-source-or-sink-spec = tie.close (tie.spec returns shared-slice-read-letter returns-2 returns-3 returns-4)
+source-or-sink-spec =
+    tie.close (tie.spec returns (λ c. search needs) returns-2 returns-3 returns-4)

@@ -1,29 +1,17 @@
-use borrow.Author.Tests.{not-true, not-false}
 -- `dimacs::lines::terminal` meets its contract: what each word was found to be.
 -- Assumes nothing.
+use borrow.Author.Tests.{not-true, not-false}
 use mathlib.Core.Path.{refl, sym, ap, _∙_}
-use Rattle.dimacs.specs.Meaning.{given, sourceOrSink}
+use Rattle.dimacs.specs.Meaning.{given}
 use Rattle.dimacs.specs.Scan.{optionOf}
 use Rattle.dimacs.proofs.Meant.{terminal-by}
 use borrow.Author.Needs.{needs}
 use Rattle.dimacs.proofs.lines.terminal.Statement.{statement}
 use Rattle.dimacs.proofs.lines.terminal.Tie as tie
 
-shaped-requires : tie.Need-shaped-requires
-shaped-requires c κs = search needs
-
 returns : tie.Need-returns
 unfolding given
 returns c = terminal-by _ (sym (c .before .shaped .ensures) ∙ not-true _ (c .if1 .taken)) refl
-
-number-at-requires : tie.Need-number-at-requires
-number-at-requires c κs = search needs
-
-enum-known-v : tie.Need-enum-known-v
-enum-known-v c = search needs
-
-enum-told : tie.Need-enum-told
-enum-told c = search needs
 
 returns-2 : tie.Need-returns-2
 unfolding given
@@ -31,12 +19,6 @@ returns-2 c =
     terminal-by _
     (sym (c .before .before .before .before .shaped .ensures) ∙ not-false _ (c .before .before .before .if1 .left))
     (sym (c .before .before .number-at .ensures) ∙ ap optionOf (c .enum-told .given .1))
-
-word-requires : tie.Need-word-requires
-word-requires c κs = search needs
-
-source-or-sink-requires : tie.Need-source-or-sink-requires
-source-or-sink-requires c κs = search needs
 
 returns-3 : tie.Need-returns-3
 unfolding given
@@ -49,14 +31,5 @@ returns-3 c =
 
 pub terminal-spec : {M : Type 1} → statement M
 terminal-spec =
-    tie.close
-    (tie.spec
-    shaped-requires
-    returns
-    number-at-requires
-    enum-known-v
-    enum-told
-    returns-2
-    word-requires
-    source-or-sink-requires
-    returns-3)
+    tie.close (tie.spec (λ c κs. search needs) returns (λ c κs. search needs) (λ c. search needs) (λ c. search needs)
+    returns-2 (λ c κs. search needs) (λ c κs. search needs) returns-3)

@@ -10,12 +10,6 @@ use Rattle.dimacs.proofs.Stages.{turned-down, outside-below, outside-ab
 use Rattle.dimacs.proofs.reader.begin.Statement.{statement}
 use Rattle.dimacs.proofs.reader.begin.Tie as tie
 
-enum-told : tie.Need-enum-told
-enum-told c = search needs
-
-enum-known-line : tie.Need-enum-known-line
-enum-known-line c = search needs
-
 returns : tie.Need-returns
 returns c = λ ts hs cs h.
     turned-down Nodes h (ap (opening _) (c .before .before .line .given .1) ∙ nodes-outside _ _ _ (outside-below _ _ _ (c .if1 .taken)))
@@ -36,18 +30,6 @@ returns-4 c = λ ts hs cs h.
     turned-down Arcs h
     (ap (opening _) (c .before .before .before .before .before .line .given .1) ∙
     arcs-outside _ _ _ (inside _ _ _ (omega arith) (omega arith)) (outside-above _ _ _ (omega arith) (omega arith)))
-
-enum-told-2 : tie.Need-enum-told-2
-enum-told-2 c = search needs
-
-enum-told-3 : tie.Need-enum-told-3
-enum-told-3 c = search needs
-
-enum-told-4 : tie.Need-enum-told-4
-enum-told-4 c = search needs
-
-enum-told-5 : tie.Need-enum-told-5
-enum-told-5 c = search needs
 
 returns-5 : tie.Need-returns-5
 unfolding opening
@@ -82,21 +64,6 @@ returns-10 c = λ ts hs cs h. turned-down _ h (ap (opening _) (c .enum-told5 .gi
 
 pub begin-spec : {M : Type 1} → statement M
 begin-spec =
-    tie.close
-    (tie.spec
-    enum-told
-    enum-known-line
-    returns
-    returns-2
-    returns-3
-    returns-4
-    enum-told-2
-    enum-told-3
-    enum-told-4
-    enum-told-5
-    returns-5
-    returns-6
-    returns-7
-    returns-8
-    returns-9
-    returns-10)
+    tie.close (tie.spec (λ c. search needs) (λ c. search needs) returns returns-2 returns-3 returns-4
+    (λ c. search needs) (λ c. search needs) (λ c. search needs) (λ c. search needs) returns-5 returns-6 returns-7
+    returns-8 returns-9 returns-10)

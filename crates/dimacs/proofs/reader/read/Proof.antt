@@ -17,17 +17,11 @@ Inv-loop text tails₀ heads₀ capacities₀ stage₀ at₀ place₀ tails head
 abbrev μ-loop : tie.MeasureT-loop
 μ-loop text tails₀ heads₀ capacities₀ stage₀ at₀ place₀ tails heads capacities stage at place = length text - at
 
-refuse-requires : tie.Need-refuse-requires Inv-loop μ-loop
-refuse-requires c κs = search needs
-
 returns : tie.Need-returns Inv-loop μ-loop
 returns c = c .refuse .ensures ∙ ap resultOf (long-file _ (omega arith))
 
 loop-holds : tie.Need-loop-holds Inv-loop μ-loop
 loop-holds c = none-read _
-
-scan-requires : tie.Need-scan-requires Inv-loop μ-loop
-scan-requires c κs = search needs
 
 sub-meaning : tie.Need-sub-meaning Inv-loop μ-loop
 sub-meaning c = rw (c .scan .ensures) (scan-later _ _ _)
@@ -37,9 +31,6 @@ part-meaning-start c = rw (c .scan .ensures) (scan-later _ _ _)
 
 part-meaning-end : tie.Need-part-meaning-end Inv-loop μ-loop
 part-meaning-end c = rw (c .scan .ensures) (scan-within _ _ _ (omega arith))
-
-meaning-requires : tie.Need-meaning-requires Inv-loop μ-loop
-meaning-requires c κs = search needs
 
 slice-aggregate-next : tie.Need-slice-aggregate-next Inv-loop μ-loop
 slice-aggregate-next c = sym (c .before .before .before .before .before .loop .inv .held .tails .size)
@@ -55,9 +46,6 @@ next-requires c κs = c .before .before .before .before .before .before .before 
 
 add-at : tie.Need-add-at Inv-loop μ-loop
 add-at c = omega (arith, scan-between _ _ _ (omega arith) (c .before .before .before .before .before .before .before .before .before .scan .ensures))
-
-add-place : tie.Need-add-place Inv-loop μ-loop
-add-place c = omega arith
 
 loop-less : tie.Need-loop-less Inv-loop μ-loop
 loop-less c =
@@ -80,25 +68,6 @@ returns-2 c = c .finish .ensures ∙ ap resultOf (all-read _ (omega arith) (omeg
 
 pub read-spec : {M : Type 1} → statement M
 read-spec =
-    tie.close
-    (tie.spec
-    Inv-loop
-    μ-loop
-    refuse-requires
-    returns
-    loop-holds
-    scan-requires
-    sub-meaning
-    part-meaning-start
-    part-meaning-end
-    meaning-requires
-    slice-aggregate-next
-    slice-aggregate-next-2
-    slice-aggregate-next-3
-    next-requires
-    add-at
-    add-place
-    loop-less
-    loop-again
-    finish-requires
-    returns-2)
+    tie.close (tie.spec Inv-loop μ-loop (λ c κs. search needs) returns loop-holds (λ c κs. search needs) sub-meaning
+    part-meaning-start part-meaning-end (λ c κs. search needs) slice-aggregate-next slice-aggregate-next-2
+    slice-aggregate-next-3 next-requires add-at (λ c. omega arith) loop-less loop-again finish-requires returns-2)

@@ -10,4 +10,5 @@ unfolding resultOf
 returns c = refl
 
 pub refuse-spec : {M : Type 1} → statement M
-refuse-spec = tie.close (tie.spec returns)
+refuse-spec =
+    tie.close (tie.spec returns)

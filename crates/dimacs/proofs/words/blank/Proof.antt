@@ -25,4 +25,5 @@ returns-2 : tie.Need-returns-2
 returns-2 c = none-of _ (c .match .rest .1)
 
 pub blank-spec : {M : Type 1} → statement M
-blank-spec = tie.close (tie.spec returns returns-2)
+blank-spec =
+    tie.close (tie.spec returns returns-2)

@@ -21,14 +21,8 @@ returns c = ⊎-elim (λ w. no-size _ (omega arith)) (λ w. too-long _ (omega (a
 loop-holds : tie.Need-loop-holds Inv-loop μ-loop
 loop-holds c = no-digit-read _ (omega arith) (omega (arith, ltb-false))
 
-shared-slice-read-b : tie.Need-shared-slice-read-b Inv-loop μ-loop
-shared-slice-read-b c = omega arith
-
 mul-x : tie.Need-mul-x Inv-loop μ-loop
 mul-x c = omega (arith, room _ _ _ (c .before .before .before .before .loop .inv) (omega arith))
-
-cast-x : tie.Need-cast-x Inv-loop μ-loop
-cast-x c = omega arith
 
 add-x : tie.Need-add-x Inv-loop μ-loop
 add-x c = omega (arith, room _ _ _ (c .before .before .before .before .loop .inv) (omega arith))
@@ -39,12 +33,6 @@ returns-2 c = no-number _ _ _ (c .before .before .before .loop .inv) (omega arit
 returns-3 : tie.Need-returns-3 Inv-loop μ-loop
 returns-3 c = no-number _ _ _ (c .before .before .before .before .loop .inv) (omega arith) (digit-above _ (omega arith))
 
-add-i : tie.Need-add-i Inv-loop μ-loop
-add-i c = omega arith
-
-loop-less : tie.Need-loop-less Inv-loop μ-loop
-loop-less c = omega arith
-
 loop-again : tie.Need-loop-again Inv-loop μ-loop
 loop-again c = digit-read _ _ _ (c .before .before .before .before .loop .inv) (omega arith) (omega arith) (omega arith)
 
@@ -53,19 +41,5 @@ returns-4 c = number-read _ _ _ (c .before .loop .inv) (omega arith)
 
 pub number-spec : {M : Type 1} → statement M
 number-spec =
-    tie.close
-    (tie.spec
-    Inv-loop
-    μ-loop
-    returns
-    loop-holds
-    shared-slice-read-b
-    mul-x
-    cast-x
-    add-x
-    returns-2
-    returns-3
-    add-i
-    loop-less
-    loop-again
-    returns-4)
+    tie.close (tie.spec Inv-loop μ-loop returns loop-holds (λ c. omega arith) mul-x (λ c. omega arith) add-x returns-2
+    returns-3 (λ c. omega arith) (λ c. omega arith) loop-again returns-4)

@@ -10,18 +10,6 @@ use Rattle.host.proofs.Decoded.{column-of, judging}
 use Rattle.host.proofs.decode.decode_in.Statement.{statement}
 use Rattle.host.proofs.decode.decode_in.Tie as tie
 
-read-column-requires : tie.Need-read-column-requires
-read-column-requires c κs = search needs
-
-read-column-requires-2 : tie.Need-read-column-requires-2
-read-column-requires-2 c κs = search needs
-
-read-column-requires-3 : tie.Need-read-column-requires-3
-read-column-requires-3 c κs = search needs
-
-read-column-requires-4 : tie.Need-read-column-requires-4
-read-column-requires-4 c κs = search needs
-
 read-column-requires-5 : tie.Need-read-column-requires-5
 read-column-requires-5 c κs =
     let p = c .before .before .before .before .before .before .before .before .before .before .before .before .before .before .before .before .before .before .before .before .before .before .before .before .before .before .before .before .pre .1 in
@@ -67,48 +55,12 @@ same-length c = c .before .before .before .before .before .before .before .befor
 same-length-2 : tie.Need-same-length-2
 same-length-2 c = c .before .before .before .before .before .before .before .before .before .before .before .before .before .before .before .before .before .before .before .before .before .before .before .before .before .before .before .before .before .before .before .before .read-column2 .kept .1 .1 .1 .1 .0
 
-same-length-3 : tie.Need-same-length-3
-same-length-3 c = search needs
-
-same-length-4 : tie.Need-same-length-4
-same-length-4 c = search needs
-
-same-length-5 : tie.Need-same-length-5
-same-length-5 c = search needs
-
-same-length-6 : tie.Need-same-length-6
-same-length-6 c = search needs
-
-same-length-7 : tie.Need-same-length-7
-same-length-7 c = search needs
-
-same-length-8 : tie.Need-same-length-8
-same-length-8 c = search needs
-
-same-length-9 : tie.Need-same-length-9
-same-length-9 c = search needs
-
 returns : tie.Need-returns
 unfolding networkIn
 returns c = rw (tails (c .before .before .before .before .before .before .before .before .before .before .before .before .before .before .before .before .before .before .before .before), heads (c .before .before .before .before .before .before .before .before .before .before .before .before .before .before .before .before .before .before .before .before), capacities (c .before .before .before .before .before .before .before .before .before .before .before .before .before .before .before .before .before .before .before .before), sources (c .before .before .before .before .before .before .before .before .before .before .before .before .before .before .before .before .before .before .before .before), sinks (c .before .before .before .before .before .before .before .before .before .before .before .before .before .before .before .before .before .before .before .before)) at (c .before .before .before .before .before .before .before .before .judge .ensures)
 
 pub decode-in-spec : {M : Type 1} → statement M
 decode-in-spec =
-    tie.close
-    (tie.spec
-    read-column-requires
-    read-column-requires-2
-    read-column-requires-3
-    read-column-requires-4
-    read-column-requires-5
-    judge-requires
-    same-length
-    same-length-2
-    same-length-3
-    same-length-4
-    same-length-5
-    same-length-6
-    same-length-7
-    same-length-8
-    same-length-9
-    returns)
+    tie.close (tie.spec (λ c κs. search needs) (λ c κs. search needs) (λ c κs. search needs) (λ c κs. search needs)
+    read-column-requires-5 judge-requires same-length same-length-2 (λ c. search needs) (λ c. search needs)
+    (λ c. search needs) (λ c. search needs) (λ c. search needs) (λ c. search needs) (λ c. search needs) returns)

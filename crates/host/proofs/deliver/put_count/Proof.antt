@@ -5,17 +5,9 @@ use Rattle.host.proofs.First.{put-first}
 use Rattle.host.proofs.deliver.put_count.Statement.{statement}
 use Rattle.host.proofs.deliver.put_count.Tie as tie
 
-add-write : tie.Need-add-write
-add-write c = search needs
-
-write-requires : tie.Need-write-requires
-write-requires c κs = search needs
-
-same-length : tie.Need-same-length
-same-length c = search needs
-
 returns : tie.Need-returns
 returns c = c .before .before .write .ensures ∙ put-first _ _
 
 pub put-count-spec : {M : Type 1} → statement M
-put-count-spec = tie.close (tie.spec add-write write-requires same-length returns)
+put-count-spec =
+    tie.close (tie.spec (λ c. search needs) (λ c κs. search needs) (λ c. search needs) returns)

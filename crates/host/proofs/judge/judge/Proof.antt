@@ -13,12 +13,6 @@ use Rattle.host.proofs.Judged.{fits, lends, served-refused, served-acce
 use Rattle.host.proofs.judge.judge.Statement.{statement}
 use Rattle.host.proofs.judge.judge.Tie as tie
 
-check-arcs-requires : tie.Need-check-arcs-requires
-check-arcs-requires c κs = search needs
-
-enum-told : tie.Need-enum-told
-enum-told c = search needs
-
 -- the network at entry
 abbrev net : (s : tie.Start) → Network
 net s =
@@ -45,15 +39,6 @@ returns c =
     served-refused (net s) (s .args .q) (firstRow (itemRows (net s))) (s .args .running) (now (s .args .flow)) (now (s .args .lengths)) (now (s .args .answer))
     (now (s .args .table)) (c .host-number .result) _ (sym e ∙ c .before .enum-told .given .1) (c .host-number .ensures ∙ ap hostNumber e)
 
-enum-told-2 : tie.Need-enum-told-2
-enum-told-2 c = search needs
-
-check-commodities-requires : tie.Need-check-commodities-requires
-check-commodities-requires c κs = search needs
-
-enum-told-3 : tie.Need-enum-told-3
-enum-told-3 c = search needs
-
 -- the arcs pass, so the commodities decide
 of-commodities : (c : tie.After-check-commodities) → c .check-commodities .result ≡ firstRow (itemRows (net (c .before .before .before .before .before .before .before .before .before .before .before .before .before)))
 unfolding itemRows arcRows commodityRows
@@ -70,9 +55,6 @@ returns-2 c =
     served-refused (net s) (s .args .q) (firstRow (itemRows (net s))) (s .args .running) (now (s .args .flow)) (now (s .args .lengths)) (now (s .args .answer))
     (now (s .args .table)) (c .host-number2 .result) _ (sym e ∙ c .before .enum-told3 .given .1) (c .host-number2 .ensures ∙ ap hostNumber e)
 
-enum-told-4 : tie.Need-enum-told-4
-enum-told-4 c = search needs
-
 -- nothing is refused
 accepted : (c : tie.After-enum-told4) → firstRow (itemRows (net (c .before .before .before .before .before .before .before .before .before .before .before .before .before .before .before))) ≡ Accepted
 accepted c = sym (of-commodities (c .before .before)) ∙ c .enum-told4 .given .1
@@ -85,18 +67,6 @@ deliver-requires c κs =
       s .pre .open-for,
     )
 
-same-length : tie.Need-same-length
-same-length c = search needs
-
-same-length-2 : tie.Need-same-length-2
-same-length-2 c = search needs
-
-same-length-3 : tie.Need-same-length-3
-same-length-3 c = search needs
-
-same-length-4 : tie.Need-same-length-4
-same-length-4 c = search needs
-
 returns-3 : tie.Need-returns-3
 returns-3 c =
     let s = c .before .before .before .before .before .before .before .before .before .before .before .before .before .before .before .before .before .before .before .before .before .before .before .before .before .before .before .before in
@@ -106,21 +76,6 @@ returns-3 c =
 
 pub judge-spec : {M : Type 1} → statement M
 judge-spec =
-    tie.close
-    (tie.spec
-    check-arcs-requires
-    enum-told
-    host-number-requires
-    returns
-    enum-told-2
-    check-commodities-requires
-    enum-told-3
-    host-number-requires-2
-    returns-2
-    enum-told-4
-    deliver-requires
-    same-length
-    same-length-2
-    same-length-3
-    same-length-4
-    returns-3)
+    tie.close (tie.spec (λ c κs. search needs) (λ c. search needs) host-number-requires returns (λ c. search needs)
+    (λ c κs. search needs) (λ c. search needs) host-number-requires-2 returns-2 (λ c. search needs) deliver-requires
+    (λ c. search needs) (λ c. search needs) (λ c. search needs) (λ c. search needs) returns-3)

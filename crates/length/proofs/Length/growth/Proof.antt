@@ -39,4 +39,5 @@ returns : tie.Need-returns
 returns c = grown c
 
 pub growth-spec : {M : Type 1} → statement M
-growth-spec = tie.close (tie.spec mul-quotient mul-quotient-2 quotient-requires add-t9 returns)
+growth-spec =
+    tie.close (tie.spec mul-quotient mul-quotient-2 quotient-requires add-t9 returns)

@@ -5,12 +5,10 @@ use Rattle.length.specs.Length.{halving}
 use Rattle.length.proofs.Length.halving.Statement.{statement}
 use Rattle.length.proofs.Length.halving.Tie as tie
 
-quotient-requires : tie.Need-quotient-requires
-quotient-requires c κs = search needs
-
 returns : tie.Need-returns
 unfolding halving
 returns c = c .quotient .ensures
 
 pub halving-spec : {M : Type 1} → statement M
-halving-spec = tie.close (tie.spec quotient-requires returns)
+halving-spec =
+    tie.close (tie.spec (λ c κs. search needs) returns)

@@ -10,4 +10,5 @@ unfolding mark
 returns c = (refl, refl)
 
 pub marked-spec : {M : Type 1} → statement M
-marked-spec = tie.close (tie.spec returns)
+marked-spec =
+    tie.close (tie.spec returns)

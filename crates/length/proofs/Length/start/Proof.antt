@@ -6,12 +6,10 @@ use Rattle.length.specs.Length.{scale, start}
 use Rattle.length.proofs.Length.start.Statement.{statement}
 use Rattle.length.proofs.Length.start.Tie as tie
 
-quotient-requires : tie.Need-quotient-requires
-quotient-requires c κs = search needs
-
 returns : tie.Need-returns
 unfolding scale start
 returns c = (c .quotient .ensures, refl)
 
 pub start-spec : {M : Type 1} → statement M
-start-spec = tie.close (tie.spec quotient-requires returns)
+start-spec =
+    tie.close (tie.spec (λ c κs. search needs) returns)

@@ -42,30 +42,6 @@ capacity-tested c = c .outside .ensures ∙ ap (outside 1 1000) (c .before .at3 
 loop-holds : tie.Need-loop-holds Inv-loop μ-loop
 loop-holds c = search-all _ _
 
-add-place : tie.Need-add-place Inv-loop μ-loop
-add-place c = omega arith
-
-at-requires : tie.Need-at-requires Inv-loop μ-loop
-at-requires c κs = search needs
-
-at-requires-2 : tie.Need-at-requires-2 Inv-loop μ-loop
-at-requires-2 c κs = search needs
-
-loose-requires : tie.Need-loose-requires Inv-loop μ-loop
-loose-requires c κs = search needs
-
-at-requires-3 : tie.Need-at-requires-3 Inv-loop μ-loop
-at-requires-3 c κs = search needs
-
-outside-requires : tie.Need-outside-requires Inv-loop μ-loop
-outside-requires c κs = search needs
-
-add-e : tie.Need-add-e Inv-loop μ-loop
-add-e c = omega arith
-
-loop-less : tie.Need-loop-less Inv-loop μ-loop
-loop-less c = omega arith
-
 loop-again : tie.Need-loop-again Inv-loop μ-loop
 unfolding arcRows
 loop-again c =
@@ -91,20 +67,6 @@ returns-3 c =
 
 pub check-arcs-spec : {M : Type 1} → statement M
 check-arcs-spec =
-    tie.close
-    (tie.spec
-    Inv-loop
-    μ-loop
-    loop-holds
-    add-place
-    at-requires
-    at-requires-2
-    loose-requires
-    at-requires-3
-    outside-requires
-    add-e
-    loop-less
-    loop-again
-    returns
-    returns-2
-    returns-3)
+    tie.close (tie.spec Inv-loop μ-loop loop-holds (λ c. omega arith) (λ c κs. search needs) (λ c κs. search needs)
+    (λ c κs. search needs) (λ c κs. search needs) (λ c κs. search needs) (λ c. omega arith) (λ c. omega arith)
+    loop-again returns returns-2 returns-3)

@@ -39,24 +39,6 @@ loose-tested c = loose-of _ (c .loose .ensures) (c .before .before .at .ensures)
 loop-holds : tie.Need-loop-holds Inv-loop μ-loop
 loop-holds c = search-all _ _
 
-add-place : tie.Need-add-place Inv-loop μ-loop
-add-place c = omega arith
-
-at-requires : tie.Need-at-requires Inv-loop μ-loop
-at-requires c κs = search needs
-
-at-requires-2 : tie.Need-at-requires-2 Inv-loop μ-loop
-at-requires-2 c κs = search needs
-
-loose-requires : tie.Need-loose-requires Inv-loop μ-loop
-loose-requires c κs = search needs
-
-add-i : tie.Need-add-i Inv-loop μ-loop
-add-i c = omega arith
-
-loop-less : tie.Need-loop-less Inv-loop μ-loop
-loop-less c = omega arith
-
 loop-again : tie.Need-loop-again Inv-loop μ-loop
 unfolding commodityRows
 loop-again c =
@@ -71,17 +53,5 @@ returns-2 c = search-stops _ _ _ (omega arith) (row-decides _ (loose-tested (c .
 
 pub check-commodities-spec : {M : Type 1} → statement M
 check-commodities-spec =
-    tie.close
-    (tie.spec
-    Inv-loop
-    μ-loop
-    loop-holds
-    add-place
-    at-requires
-    at-requires-2
-    loose-requires
-    add-i
-    loop-less
-    loop-again
-    returns
-    returns-2)
+    tie.close (tie.spec Inv-loop μ-loop loop-holds (λ c. omega arith) (λ c κs. search needs) (λ c κs. search needs)
+    (λ c κs. search needs) (λ c. omega arith) (λ c. omega arith) loop-again returns returns-2)

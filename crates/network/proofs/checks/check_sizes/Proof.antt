@@ -85,29 +85,17 @@ past-5 : (c : tie.Else8) {v : Verdict} → v ≡ firstRow (from 5 (entry-4 (befo
 unfolding sizeRows
 past-5 c w = past-4 (before-5 c) (row-passed _ _ refl (none-short c) w)
 
-outside-requires : tie.Need-outside-requires
-outside-requires c κs = search needs
-
 returns : tie.Need-returns
 unfolding sizeRows
 returns c = row-decides _ (c .before .outside .ensures) (c .if1 .taken)
-
-outside-requires-2 : tie.Need-outside-requires-2
-outside-requires-2 c κs = search needs
 
 returns-2 : tie.Need-returns-2
 unfolding sizeRows
 returns-2 c = past-1 (c .before .before) (row-decides _ (c .before .outside2 .ensures) (c .if2 .taken))
 
-outside-requires-3 : tie.Need-outside-requires-3
-outside-requires-3 c κs = search needs
-
 returns-3 : tie.Need-returns-3
 unfolding sizeRows
 returns-3 c = past-2 (c .before .before) (row-decides _ (c .before .outside3 .ensures) (c .if3 .taken))
-
-outside-requires-4 : tie.Need-outside-requires-4
-outside-requires-4 c κs = search needs
 
 returns-4 : tie.Need-returns-4
 unfolding sizeRows
@@ -133,17 +121,5 @@ returns-7 c = past-5 (c .before) (row-passed _ _ refl (le-ltb _ _ (c .if9 .left)
 
 pub check-sizes-spec : {M : Type 1} → statement M
 check-sizes-spec =
-    tie.close
-    (tie.spec
-    outside-requires
-    returns
-    outside-requires-2
-    returns-2
-    outside-requires-3
-    returns-3
-    outside-requires-4
-    returns-4
-    mul-if5
-    returns-5
-    returns-6
-    returns-7)
+    tie.close (tie.spec (λ c κs. search needs) returns (λ c κs. search needs) returns-2 (λ c κs. search needs) returns-3
+    (λ c κs. search needs) returns-4 mul-if5 returns-5 returns-6 returns-7)

@@ -9,12 +9,6 @@ use Rattle.network.proofs.Or.{or-stop, or-on}
 use Rattle.network.proofs.checks.loose.Statement.{statement}
 use Rattle.network.proofs.checks.loose.Tie as tie
 
-outside-requires : tie.Need-outside-requires
-outside-requires c κs = search needs
-
-outside-requires-2 : tie.Need-outside-requires-2
-outside-requires-2 c κs = search needs
-
 -- the first two tests, where their ways meet
 ends : (c : tie.Joined1) →
     c .if1 .if2 ≡ outside 1 (c .before .before .args .n) (c .before .before .args .a) || outside 1 (c .before .before .args .n) (c .before .before .args .b)
@@ -33,4 +27,5 @@ unfolding loose
 returns-2 c = simp (sym (ends (c .before)), c .if2 .left)
 
 pub loose-spec : {M : Type 1} → statement M
-loose-spec = tie.close (tie.spec outside-requires outside-requires-2 returns returns-2)
+loose-spec =
+    tie.close (tie.spec (λ c κs. search needs) (λ c κs. search needs) returns returns-2)

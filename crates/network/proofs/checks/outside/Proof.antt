@@ -14,4 +14,5 @@ unfolding outside
 returns-2 c = simp (le-ltb _ _ (c .if1 .left))
 
 pub outside-spec : {M : Type 1} → statement M
-outside-spec = tie.close (tie.spec returns returns-2)
+outside-spec =
+    tie.close (tie.spec returns returns-2)

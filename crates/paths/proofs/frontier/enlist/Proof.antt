@@ -6,12 +6,6 @@ use Rattle.paths.proofs.Enlisting.{enlisted-already, enlisted-now, enli
 use Rattle.paths.proofs.frontier.enlist.Statement.{statement}
 use Rattle.paths.proofs.frontier.enlist.Tie as tie
 
-mul-if1 : tie.Need-mul-if1
-mul-if1 c = search needs
-
-slice-read-if1 : tie.Need-slice-read-if1
-slice-read-if1 c = search needs
-
 returns : tie.Need-returns
 returns c = let s = c .before .before in enlisted-already (s .pre .0) (s .args .v) (s .pre .1) (c .if1 .taken)
 
@@ -23,38 +17,15 @@ mul-front c =
 slice-write-front : tie.Need-slice-write-front
 slice-write-front c = let s = c .before .before in enlist-place (s .pre .0) (s .args .v) (s .pre .1) (c .if1 .left)
 
-mul-listed : tie.Need-mul-listed
-mul-listed c = search needs
-
-slice-write-listed : tie.Need-slice-write-listed
-slice-write-listed c = search needs
-
 add-result : tie.Need-add-result
 add-result c =
     let s = c .before .before in
     omega (arith, s .good, enlist-place (s .pre .0) (s .args .v) (s .pre .1) (c .if1 .left))
-
-same-length : tie.Need-same-length
-same-length c = search needs
-
-same-length-2 : tie.Need-same-length-2
-same-length-2 c = search needs
 
 returns-2 : tie.Need-returns-2
 returns-2 c = let s = c .before .before in enlisted-now (s .pre .0) (s .args .v) (s .pre .1) (c .if1 .left)
 
 pub enlist-spec : {M : Type 1} → statement M
 enlist-spec =
-    tie.close
-    (tie.spec
-    mul-if1
-    slice-read-if1
-    returns
-    mul-front
-    slice-write-front
-    mul-listed
-    slice-write-listed
-    add-result
-    same-length
-    same-length-2
-    returns-2)
+    tie.close (tie.spec (λ c. search needs) (λ c. search needs) returns mul-front slice-write-front (λ c. search needs)
+    (λ c. search needs) add-result (λ c. search needs) (λ c. search needs) returns-2)

@@ -61,19 +61,5 @@ returns c = c .before .loop .inv .0
 
 pub nearest-spec : {M : Type 1} → statement M
 nearest-spec =
-    tie.close
-    (tie.spec
-    Inv-loop
-    μ-loop
-    shared-slice-read-least
-    mul-least
-    shared-slice-read-least-2
-    loop-holds
-    mul-d
-    shared-slice-read-d
-    mul-d-2
-    shared-slice-read-d-2
-    add-i
-    loop-less
-    loop-again
-    returns)
+    tie.close (tie.spec Inv-loop μ-loop shared-slice-read-least mul-least shared-slice-read-least-2 loop-holds mul-d
+    shared-slice-read-d mul-d-2 shared-slice-read-d-2 add-i loop-less loop-again returns)

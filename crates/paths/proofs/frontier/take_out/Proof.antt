@@ -21,9 +21,6 @@ mul-v c = omega (arith, c .good, place c)
 slice-read-v : tie.Need-slice-read-v
 slice-read-v c = place (c .before)
 
-sub-front : tie.Need-sub-front
-sub-front c = search needs
-
 mul-front : tie.Need-mul-front
 mul-front c = omega (arith, c .before .good, last (c .before))
 
@@ -44,28 +41,10 @@ mul-listed c =
 slice-write-listed : tie.Need-slice-write-listed
 slice-write-listed c = let s = c .before .before in out-flag (s .pre .0) (s .args .at) (s .pre .1)
 
-same-length : tie.Need-same-length
-same-length c = search needs
-
-same-length-2 : tie.Need-same-length-2
-same-length-2 c = search needs
-
 returns : tie.Need-returns
 returns c = let s = c .before .before in taken-out (s .pre .0) (s .args .at) (s .pre .1)
 
 pub take-out-spec : {M : Type 1} → statement M
 take-out-spec =
-    tie.close
-    (tie.spec
-    mul-v
-    slice-read-v
-    sub-front
-    mul-front
-    slice-read-front
-    mul-front-2
-    slice-write-front
-    mul-listed
-    slice-write-listed
-    same-length
-    same-length-2
-    returns)
+    tie.close (tie.spec mul-v slice-read-v (λ c. search needs) mul-front slice-read-front mul-front-2 slice-write-front
+    mul-listed slice-write-listed (λ c. search needs) (λ c. search needs) returns)

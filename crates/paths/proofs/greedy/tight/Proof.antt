@@ -97,25 +97,6 @@ returns-2 c = passed-all (c .before .loop .inv) (c .loop-test .left)
 
 pub tight-spec : {M : Type 1} → statement M
 tight-spec =
-    tie.close
-    (tie.spec
-    Inv-loop
-    μ-loop
-    mul-d
-    shared-slice-read-d
-    mul-e
-    shared-slice-read-e
-    loop-holds
-    mul-w
-    shared-slice-read-w
-    mul-if1
-    shared-slice-read-if1
-    mul-if1-2
-    shared-slice-read-if1-2
-    add-if1
-    returns
-    mul-e-2
-    shared-slice-read-e-2
-    loop-less
-    loop-again
-    returns-2)
+    tie.close (tie.spec Inv-loop μ-loop mul-d shared-slice-read-d mul-e shared-slice-read-e loop-holds mul-w
+    shared-slice-read-w mul-if1 shared-slice-read-if1 mul-if1-2 shared-slice-read-if1-2 add-if1 returns mul-e-2
+    shared-slice-read-e-2 loop-less loop-again returns-2)

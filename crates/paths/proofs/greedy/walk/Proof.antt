@@ -78,18 +78,5 @@ returns c = walking-end (entry (c .before) .pre .0) (c .before .loop .inv) (c .l
 
 pub walk-spec : {M : Type 1} → statement M
 walk-spec =
-    tie.close
-    (tie.spec
-    Inv-loop
-    μ-loop
-    loop-holds
-    tight-requires
-    mul-path
-    slice-write-path
-    add-k
-    mul-v
-    shared-slice-read-v
-    loop-less
-    loop-again
-    same-length
-    returns)
+    tie.close (tie.spec Inv-loop μ-loop loop-holds tight-requires mul-path slice-write-path add-k mul-v
+    shared-slice-read-v loop-less loop-again same-length returns)

@@ -32,9 +32,6 @@ loop-holds : tie.Need-loop-holds Inv-loop μ-loop
 loop-holds c =
     record { hung = hung-none (c .pre .1 .0) (c .pre .1 .1 .0) (c .pre .1 .1 .1); firsts = refl; nexts = refl }
 
-sub-e : tie.Need-sub-e Inv-loop μ-loop
-sub-e c = omega arith
-
 mul-v : tie.Need-mul-v Inv-loop μ-loop
 mul-v c = omega (arith, entry c .good, c .loop-test .taken, c .before .loop .inv .hung .within)
 
@@ -96,22 +93,5 @@ returns c = let q : c .before .loop .e ≡ 0 = omega (arith, c .loop-test .left)
 
 pub hang-spec : {M : Type 1} → statement M
 hang-spec =
-    tie.close
-    (tie.spec
-    Inv-loop
-    μ-loop
-    loop-holds
-    sub-e
-    mul-v
-    shared-slice-read-v
-    mul-next
-    slice-read-next
-    mul-next-2
-    slice-write-next
-    mul-first
-    slice-write-first
-    loop-less
-    loop-again
-    same-length
-    same-length-2
-    returns)
+    tie.close (tie.spec Inv-loop μ-loop loop-holds (λ c. omega arith) mul-v shared-slice-read-v mul-next slice-read-next
+    mul-next-2 slice-write-next mul-first slice-write-first loop-less loop-again same-length same-length-2 returns)

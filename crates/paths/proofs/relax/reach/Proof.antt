@@ -10,28 +10,10 @@ use Rattle.paths.proofs.relax.reach.Tie as tie
 abbrev entry : tie.After-relax → tie.Start
 entry c = c .before .before .before .before .before .before .before .before
 
-relax-requires : tie.Need-relax-requires
-relax-requires c κs = search needs
-
-mul-enlist : tie.Need-mul-enlist
-mul-enlist c = search needs
-
-shared-slice-read-enlist : tie.Need-shared-slice-read-enlist
-shared-slice-read-enlist c = search needs
-
 enlist-requires : tie.Need-enlist-requires
 enlist-requires c κs =
     let s = entry (c .before .before .before .before .before .before) in
     (s .pre .0 .listing, s .pre .0 .fit .ends .tails (s .args .e) (s .pre .1))
-
-same-length : tie.Need-same-length
-same-length c = search needs
-
-same-length-2 : tie.Need-same-length-2
-same-length-2 c = search needs
-
-same-length-3 : tie.Need-same-length-3
-same-length-3 c = search needs
 
 returns : tie.Need-returns
 returns c =
@@ -41,9 +23,6 @@ returns c =
     let s = entry R in
     searching-spread (s .pre .0) (s .pre .1) (sym (R .relax .ensures .0) ∙ t .if1 .taken) (R .relax .ensures .1) (E .ensures)
 
-same-length-4 : tie.Need-same-length-4
-same-length-4 c = search needs
-
 returns-2 : tie.Need-returns-2
 returns-2 c =
     let R = c .before .before .before in
@@ -52,15 +31,5 @@ returns-2 c =
 
 pub reach-spec : {M : Type 1} → statement M
 reach-spec =
-    tie.close
-    (tie.spec
-    relax-requires
-    mul-enlist
-    shared-slice-read-enlist
-    enlist-requires
-    same-length
-    same-length-2
-    same-length-3
-    returns
-    same-length-4
-    returns-2)
+    tie.close (tie.spec (λ c κs. search needs) (λ c. search needs) (λ c. search needs) enlist-requires
+    (λ c. search needs) (λ c. search needs) (λ c. search needs) returns (λ c. search needs) returns-2)

@@ -9,23 +9,8 @@ use Rattle.paths.proofs.Rooms.{tail-room, head-room, head-listed, over-
 use Rattle.paths.proofs.relax.relax.Statement.{statement}
 use Rattle.paths.proofs.relax.relax.Tie as tie
 
-mul-v : tie.Need-mul-v
-mul-v c = search needs
-
-shared-slice-read-v : tie.Need-shared-slice-read-v
-shared-slice-read-v c = search needs
-
-mul-w : tie.Need-mul-w
-mul-w c = search needs
-
 shared-slice-read-w : tie.Need-shared-slice-read-w
 shared-slice-read-w c = let s = c .before .before in head-listed (s .pre .0) (s .args .e) (s .pre .1 .0)
-
-mul-way : tie.Need-mul-way
-mul-way c = search needs
-
-shared-slice-read-way : tie.Need-shared-slice-read-way
-shared-slice-read-way c = search needs
 
 mul-way-2 : tie.Need-mul-way-2
 mul-way-2 c = let s = c .before .before .before in omega (arith, s .good, head-room (s .pre .0) (s .args .e) (s .pre .1 .0))
@@ -52,9 +37,6 @@ mul-dist c =
 slice-write-dist : tie.Need-slice-write-dist
 slice-write-dist c = let s = c .before .before .before .before .before .before in tail-room (s .pre .0) (s .args .e) (s .pre .1 .0)
 
-same-length : tie.Need-same-length
-same-length c = search needs
-
 returns : tie.Need-returns
 unfolding shortens relaxed
 returns c = (sym (lt-ltb _ _ (c .if1 .taken)), rw (lt-ltb _ _ (c .if1 .taken)))
@@ -65,21 +47,6 @@ returns-2 c = (sym (le-ltb _ _ (c .if1 .left)), rw (le-ltb _ _ (c .if1 .left)))
 
 pub relax-spec : {M : Type 1} → statement M
 relax-spec =
-    tie.close
-    (tie.spec
-    mul-v
-    shared-slice-read-v
-    mul-w
-    shared-slice-read-w
-    mul-way
-    shared-slice-read-way
-    mul-way-2
-    slice-read-way
-    add-way
-    mul-if1
-    slice-read-if1
-    mul-dist
-    slice-write-dist
-    same-length
-    returns
-    returns-2)
+    tie.close (tie.spec (λ c. search needs) (λ c. search needs) (λ c. search needs) shared-slice-read-w
+    (λ c. search needs) (λ c. search needs) mul-way-2 slice-read-way add-way mul-if1 slice-read-if1 mul-dist
+    slice-write-dist (λ c. search needs) returns returns-2)

@@ -114,19 +114,5 @@ returns c = turned (c .before .loop .inv .turning) (c .loop-test .left)
 
 pub relax-into-spec : {M : Type 1} → statement M
 relax-into-spec =
-    tie.close
-    (tie.spec
-    Inv-loop
-    μ-loop
-    mul-e
-    shared-slice-read-e
-    loop-holds
-    reach-requires
-    mul-e-2
-    shared-slice-read-e-2
-    loop-less
-    loop-again
-    same-length
-    same-length-2
-    same-length-3
-    returns)
+    tie.close (tie.spec Inv-loop μ-loop mul-e shared-slice-read-e loop-holds reach-requires mul-e-2
+    shared-slice-read-e-2 loop-less loop-again same-length same-length-2 same-length-3 returns)

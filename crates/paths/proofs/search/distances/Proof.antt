@@ -148,21 +148,6 @@ returns c = searching-end (c .before .loop .inv .searching) (le-refl _) (c .loop
 
 pub distances-spec : {M : Type 1} → statement M
 distances-spec =
-    tie.close
-    (tie.spec
-    Inv-loop
-    μ-loop
-    reset-requires
-    fill-requires
-    enlist-requires
-    loop-holds
-    nearest-requires
-    take-out-requires
-    sub-relax-into
-    relax-into-requires
-    loop-less
-    loop-again
-    same-length
-    same-length-2
-    same-length-3
+    tie.close (tie.spec Inv-loop μ-loop reset-requires fill-requires enlist-requires loop-holds nearest-requires
+    take-out-requires sub-relax-into relax-into-requires loop-less loop-again same-length same-length-2 same-length-3
     returns)

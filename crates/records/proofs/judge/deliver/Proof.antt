@@ -16,17 +16,8 @@ flows s = length-take-le _ (now (s .args .flow)) (s .pre .1 .for-flow)
 keeps : (s : tie.Start) → length (take (length (now (s .args .tails))) (now (s .args .lengths))) ≡ length (now (s .args .tails))
 keeps s = length-take-le _ (now (s .args .lengths)) (s .pre .1 .for-length)
 
-mul-size : tie.Need-mul-size
-mul-size c = search needs
-
-slice-relend-prefix-solve : tie.Need-slice-relend-prefix-solve
-slice-relend-prefix-solve c = search needs
-
 slice-aggregate-solve : tie.Need-slice-aggregate-solve
 slice-aggregate-solve c = sym (flows (c .before .before .before .before .before .before .before .before))
-
-slice-relend-prefix-solve-2 : tie.Need-slice-relend-prefix-solve-2
-slice-relend-prefix-solve-2 c = search needs
 
 slice-aggregate-solve-2 : tie.Need-slice-aggregate-solve-2
 slice-aggregate-solve-2 c = sym (keeps (c .before .before .before .before .before .before .before .before .before))
@@ -35,12 +26,6 @@ solve-requires : tie.Need-solve-requires
 solve-requires c κs =
     let s = c .before .before .before .before .before .before .before .before .before in
     (s .pre .0, (flows s, keeps s))
-
-same-length : tie.Need-same-length
-same-length c = search needs
-
-same-length-2 : tie.Need-same-length-2
-same-length-2 c = search needs
 
 returns : tie.Need-returns
 returns c =
@@ -53,14 +38,5 @@ returns c =
 
 pub deliver-spec : {M : Type 1} → statement M
 deliver-spec =
-    tie.close
-    (tie.spec
-    mul-size
-    slice-relend-prefix-solve
-    slice-aggregate-solve
-    slice-relend-prefix-solve-2
-    slice-aggregate-solve-2
-    solve-requires
-    same-length
-    same-length-2
-    returns)
+    tie.close (tie.spec (λ c. search needs) (λ c. search needs) slice-aggregate-solve (λ c. search needs)
+    slice-aggregate-solve-2 solve-requires (λ c. search needs) (λ c. search needs) returns)

@@ -17,12 +17,6 @@ net s =
     networkOf (s .args .n) (now (s .args .tails)) (now (s .args .heads)) (now (s .args .capacities)) (now (s .args .sources))
     (now (s .args .sinks))
 
-check-arcs-requires : tie.Need-check-arcs-requires
-check-arcs-requires c κs = search needs
-
-enum-known-arcs : tie.Need-enum-known-arcs
-enum-known-arcs c = search needs
-
 -- the arcs are refused, so the call is
 of-arcs : (c : tie.After-arcs) → c .before .before .check-arcs .result ≡ firstRow (itemRows (net (c .before .before .before .before .before .before .before .before .before .before)))
 unfolding itemRows arcRows
@@ -33,15 +27,6 @@ returns c =
     let s = c .before .before .before .before .before .before .before .before .before .before .before in
     replied-refused (net s) (s .args .q) (now (s .args .flow)) (now (s .args .lengths)) (firstRow (itemRows (net s))) _
     (sym (of-arcs (c .before)) ∙ c .before .arcs .given .1)
-
-enum-told : tie.Need-enum-told
-enum-told c = search needs
-
-check-commodities-requires : tie.Need-check-commodities-requires
-check-commodities-requires c κs = search needs
-
-enum-known-commodities : tie.Need-enum-known-commodities
-enum-known-commodities c = search needs
 
 -- the arcs pass, so the commodities decide
 of-commodities : (c : tie.After-check-commodities) → c .check-commodities .result ≡ firstRow (itemRows (net (c .before .before .before .before .before .before .before .before .before .before .before)))
@@ -55,9 +40,6 @@ returns-2 c =
     replied-refused (net s) (s .args .q) (now (s .args .flow)) (now (s .args .lengths)) (firstRow (itemRows (net s))) _
     (sym (of-commodities (c .before .before .before)) ∙ c .before .commodities .given .1)
 
-enum-told-2 : tie.Need-enum-told-2
-enum-told-2 c = search needs
-
 -- nothing is refused
 accepted : (c : tie.After-enum-told2) → firstRow (itemRows (net (c .before .before .before .before .before .before .before .before .before .before .before .before .before))) ≡ Accepted
 accepted c = sym (of-commodities (c .before .before)) ∙ c .enum-told2 .given .1
@@ -67,28 +49,10 @@ deliver-requires c κs =
     let s = c .before .before .before .before .before .before .before .before .before .before .before .before .before .before .before in
     (lends (net s) (s .args .q) (now (s .args .flow)) (now (s .args .lengths)) (s .pre) (accepted (c .before .before)), s .pre .room)
 
-same-length : tie.Need-same-length
-same-length c = search needs
-
-same-length-2 : tie.Need-same-length-2
-same-length-2 c = search needs
-
 returns-3 : tie.Need-returns-3
 returns-3 c = rw (accepted (c .before .before .before .before .before .before .before)) (c .before .before .before .before .deliver .ensures)
 
 pub judge-spec : {M : Type 1} → statement M
 judge-spec =
-    tie.close
-    (tie.spec
-    check-arcs-requires
-    enum-known-arcs
-    returns
-    enum-told
-    check-commodities-requires
-    enum-known-commodities
-    returns-2
-    enum-told-2
-    deliver-requires
-    same-length
-    same-length-2
-    returns-3)
+    tie.close (tie.spec (λ c κs. search needs) (λ c. search needs) returns (λ c. search needs) (λ c κs. search needs)
+    (λ c. search needs) returns-2 (λ c. search needs) deliver-requires (λ c. search needs) (λ c. search needs) returns-3)

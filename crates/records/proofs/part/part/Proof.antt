@@ -15,32 +15,17 @@ for-arcs s = length-take-le (s .args .m) (replicate {A = ℕ} 256 0) (s .pre .co
 for-pairs : (s : tie.Start) → length (take (length (now (s .args .pairs)) / 2) (replicate {A = ℕ} 32 0)) ≡ length (now (s .args .pairs)) / 2
 for-pairs s = length-take-le (length (now (s .args .pairs)) / 2) (replicate {A = ℕ} 32 0) (s .pre .counts .of-commodities .most)
 
-array-borrow-prefix-tails : tie.Need-array-borrow-prefix-tails
-array-borrow-prefix-tails c = search needs
-
 slice-aggregate-part-in : tie.Need-slice-aggregate-part-in
 slice-aggregate-part-in c = sym (for-arcs (c .before .before .before .before))
-
-array-borrow-prefix-heads : tie.Need-array-borrow-prefix-heads
-array-borrow-prefix-heads c = search needs
 
 slice-aggregate-part-in-2 : tie.Need-slice-aggregate-part-in-2
 slice-aggregate-part-in-2 c = sym (for-arcs (c .before .before .before .before .before))
 
-array-borrow-prefix-capacities : tie.Need-array-borrow-prefix-capacities
-array-borrow-prefix-capacities c = search needs
-
 slice-aggregate-part-in-3 : tie.Need-slice-aggregate-part-in-3
 slice-aggregate-part-in-3 c = sym (for-arcs (c .before .before .before .before .before .before))
 
-array-borrow-prefix-sources : tie.Need-array-borrow-prefix-sources
-array-borrow-prefix-sources c = search needs
-
 slice-aggregate-part-in-4 : tie.Need-slice-aggregate-part-in-4
 slice-aggregate-part-in-4 c = sym (for-pairs (c .before .before .before .before .before .before .before))
-
-array-borrow-prefix-sinks : tie.Need-array-borrow-prefix-sinks
-array-borrow-prefix-sinks c = search needs
 
 slice-aggregate-part-in-5 : tie.Need-slice-aggregate-part-in-5
 slice-aggregate-part-in-5 c = sym (for-pairs (c .before .before .before .before .before .before .before .before))
@@ -57,30 +42,11 @@ part-in-requires c κs =
       ),
     )
 
-same-length : tie.Need-same-length
-same-length c = search needs
-
-same-length-2 : tie.Need-same-length-2
-same-length-2 c = search needs
-
 returns : tie.Need-returns
 returns c = rw (for-arcs (c .before .before .before .before .before .before .before .before .before .before .before .before .before .before .before .before .before .before .before .before)) at (c .before .before .before .before .before .before .before .before .before .part-in .ensures)
 
 pub part-spec : {M : Type 1} → statement M
 part-spec =
-    tie.close
-    (tie.spec
-    array-borrow-prefix-tails
-    slice-aggregate-part-in
-    array-borrow-prefix-heads
-    slice-aggregate-part-in-2
-    array-borrow-prefix-capacities
-    slice-aggregate-part-in-3
-    array-borrow-prefix-sources
-    slice-aggregate-part-in-4
-    array-borrow-prefix-sinks
-    slice-aggregate-part-in-5
-    part-in-requires
-    same-length
-    same-length-2
-    returns)
+    tie.close (tie.spec (λ c. search needs) slice-aggregate-part-in (λ c. search needs) slice-aggregate-part-in-2
+    (λ c. search needs) slice-aggregate-part-in-3 (λ c. search needs) slice-aggregate-part-in-4 (λ c. search needs)
+    slice-aggregate-part-in-5 part-in-requires (λ c. search needs) (λ c. search needs) returns)

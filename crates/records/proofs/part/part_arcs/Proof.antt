@@ -23,51 +23,12 @@ abbrev μ-loop : tie.MeasureT-loop
 loop-holds : tie.Need-loop-holds Inv-loop μ-loop
 loop-holds c = (fill-none _ _, (fill-none _ _, fill-none _ _))
 
-mul-a : tie.Need-mul-a Inv-loop μ-loop
-mul-a c = omega arith
-
-array-copy-out-a : tie.Need-array-copy-out-a Inv-loop μ-loop
-array-copy-out-a c = omega arith
-
-mul-tails : tie.Need-mul-tails Inv-loop μ-loop
-mul-tails c = omega arith
-
-slice-write-tails : tie.Need-slice-write-tails Inv-loop μ-loop
-slice-write-tails c = omega arith
-
-mul-heads : tie.Need-mul-heads Inv-loop μ-loop
-mul-heads c = omega arith
-
-slice-write-heads : tie.Need-slice-write-heads Inv-loop μ-loop
-slice-write-heads c = omega arith
-
-mul-capacities : tie.Need-mul-capacities Inv-loop μ-loop
-mul-capacities c = omega arith
-
-slice-write-capacities : tie.Need-slice-write-capacities Inv-loop μ-loop
-slice-write-capacities c = omega arith
-
-add-e : tie.Need-add-e Inv-loop μ-loop
-add-e c = omega arith
-
-loop-less : tie.Need-loop-less Inv-loop μ-loop
-loop-less c = omega arith
-
 loop-again : tie.Need-loop-again Inv-loop μ-loop
 loop-again c =
     let i = c .before .before .loop .inv in (
       fill-more _ (i .0) (omega arith) refl,
       (fill-more _ (i .1 .0) (omega arith) refl, fill-more _ (i .1 .1) (omega arith) refl),
     )
-
-same-length : tie.Need-same-length Inv-loop μ-loop
-same-length c = search needs
-
-same-length-2 : tie.Need-same-length-2 Inv-loop μ-loop
-same-length-2 c = search needs
-
-same-length-3 : tie.Need-same-length-3 Inv-loop μ-loop
-same-length-3 c = search needs
 
 returns : tie.Need-returns Inv-loop μ-loop
 returns c =
@@ -83,23 +44,6 @@ returns c =
 
 pub part-arcs-spec : {M : Type 1} → statement M
 part-arcs-spec =
-    tie.close
-    (tie.spec
-    Inv-loop
-    μ-loop
-    loop-holds
-    mul-a
-    array-copy-out-a
-    mul-tails
-    slice-write-tails
-    mul-heads
-    slice-write-heads
-    mul-capacities
-    slice-write-capacities
-    add-e
-    loop-less
-    loop-again
-    same-length
-    same-length-2
-    same-length-3
-    returns)
+    tie.close (tie.spec Inv-loop μ-loop loop-holds (λ c. omega arith) (λ c. omega arith) (λ c. omega arith)
+    (λ c. omega arith) (λ c. omega arith) (λ c. omega arith) (λ c. omega arith) (λ c. omega arith) (λ c. omega arith)
+    (λ c. omega arith) loop-again (λ c. search needs) (λ c. search needs) (λ c. search needs) returns)

@@ -10,12 +10,6 @@ use borrow.Author.Needs.{needs}
 use Rattle.records.proofs.part.part_in.Statement.{statement}
 use Rattle.records.proofs.part.part_in.Tie as tie
 
-part-arcs-requires : tie.Need-part-arcs-requires
-part-arcs-requires c κs = search needs
-
-part-pairs-requires : tie.Need-part-pairs-requires
-part-pairs-requires c κs = search needs
-
 -- the sizes are those of the arcs taken
 sized : (s : tie.Start) → Sizable (s .args .n) (s .args .q) (length (take (length (now (s .args .tails))) (s .args .arcs))) (now (s .args .pairs)) (now (s .args .flow)) (now (s .args .lengths))
 sized s = rw (length-take-le (length (now (s .args .tails))) (s .args .arcs) (omega (arith, s .good .1 .1 .0))) (s .pre .0)
@@ -33,27 +27,6 @@ judge-requires c κs =
     )
     (judging (s .args .n) (s .args .q) (take (length (now (s .args .tails))) (s .args .arcs)) (now (s .args .pairs)) (now (s .args .flow)) (now (s .args .lengths)) (sized s))
 
-same-length : tie.Need-same-length
-same-length c = search needs
-
-same-length-2 : tie.Need-same-length-2
-same-length-2 c = search needs
-
-same-length-3 : tie.Need-same-length-3
-same-length-3 c = search needs
-
-same-length-4 : tie.Need-same-length-4
-same-length-4 c = search needs
-
-same-length-5 : tie.Need-same-length-5
-same-length-5 c = search needs
-
-same-length-6 : tie.Need-same-length-6
-same-length-6 c = search needs
-
-same-length-7 : tie.Need-same-length-7
-same-length-7 c = search needs
-
 returns : tie.Need-returns
 unfolding networkIn
 returns c =
@@ -68,16 +41,6 @@ returns c =
 
 pub part-in-spec : {M : Type 1} → statement M
 part-in-spec =
-    tie.close
-    (tie.spec
-    part-arcs-requires
-    part-pairs-requires
-    judge-requires
-    same-length
-    same-length-2
-    same-length-3
-    same-length-4
-    same-length-5
-    same-length-6
-    same-length-7
-    returns)
+    tie.close (tie.spec (λ c κs. search needs) (λ c κs. search needs) judge-requires (λ c. search needs)
+    (λ c. search needs) (λ c. search needs) (λ c. search needs) (λ c. search needs) (λ c. search needs)
+    (λ c. search needs) returns)

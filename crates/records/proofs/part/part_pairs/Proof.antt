@@ -21,55 +21,10 @@ abbrev μ-loop : tie.MeasureT-loop
 loop-holds : tie.Need-loop-holds Inv-loop μ-loop
 loop-holds c = (fill-none _ _, fill-none _ _)
 
-mul-sources : tie.Need-mul-sources Inv-loop μ-loop
-mul-sources c = omega arith
-
-mul-sources-2 : tie.Need-mul-sources-2 Inv-loop μ-loop
-mul-sources-2 c = omega arith
-
-shared-slice-read-sources : tie.Need-shared-slice-read-sources Inv-loop μ-loop
-shared-slice-read-sources c = omega arith
-
-mul-sources-3 : tie.Need-mul-sources-3 Inv-loop μ-loop
-mul-sources-3 c = omega arith
-
-slice-write-sources : tie.Need-slice-write-sources Inv-loop μ-loop
-slice-write-sources c = omega arith
-
-mul-sinks : tie.Need-mul-sinks Inv-loop μ-loop
-mul-sinks c = omega arith
-
-add-sinks : tie.Need-add-sinks Inv-loop μ-loop
-add-sinks c = omega arith
-
-mul-sinks-2 : tie.Need-mul-sinks-2 Inv-loop μ-loop
-mul-sinks-2 c = omega arith
-
-shared-slice-read-sinks : tie.Need-shared-slice-read-sinks Inv-loop μ-loop
-shared-slice-read-sinks c = omega arith
-
-mul-sinks-3 : tie.Need-mul-sinks-3 Inv-loop μ-loop
-mul-sinks-3 c = omega arith
-
-slice-write-sinks : tie.Need-slice-write-sinks Inv-loop μ-loop
-slice-write-sinks c = omega arith
-
-add-i : tie.Need-add-i Inv-loop μ-loop
-add-i c = omega arith
-
-loop-less : tie.Need-loop-less Inv-loop μ-loop
-loop-less c = omega arith
-
 loop-again : tie.Need-loop-again Inv-loop μ-loop
 loop-again c =
     let i = c .before .before .before .loop .inv in
     (fill-more _ (i .0) (omega arith) refl, fill-more _ (i .1) (omega arith) refl)
-
-same-length : tie.Need-same-length Inv-loop μ-loop
-same-length c = search needs
-
-same-length-2 : tie.Need-same-length-2 Inv-loop μ-loop
-same-length-2 c = search needs
 
 returns : tie.Need-returns Inv-loop μ-loop
 returns c =
@@ -82,25 +37,7 @@ returns c =
 
 pub part-pairs-spec : {M : Type 1} → statement M
 part-pairs-spec =
-    tie.close
-    (tie.spec
-    Inv-loop
-    μ-loop
-    loop-holds
-    mul-sources
-    mul-sources-2
-    shared-slice-read-sources
-    mul-sources-3
-    slice-write-sources
-    mul-sinks
-    add-sinks
-    mul-sinks-2
-    shared-slice-read-sinks
-    mul-sinks-3
-    slice-write-sinks
-    add-i
-    loop-less
-    loop-again
-    same-length
-    same-length-2
-    returns)
+    tie.close (tie.spec Inv-loop μ-loop loop-holds (λ c. omega arith) (λ c. omega arith) (λ c. omega arith)
+    (λ c. omega arith) (λ c. omega arith) (λ c. omega arith) (λ c. omega arith) (λ c. omega arith) (λ c. omega arith)
+    (λ c. omega arith) (λ c. omega arith) (λ c. omega arith) (λ c. omega arith) loop-again (λ c. search needs)
+    (λ c. search needs) returns)

@@ -8,21 +8,12 @@ use borrow.Author.Needs.{needs}
 use Rattle.records.proofs.serve.serve.Statement.{statement}
 use Rattle.records.proofs.serve.serve.Tie as tie
 
-check-sizes-requires : tie.Need-check-sizes-requires
-check-sizes-requires c κs = search needs
-
-enum-known-sizes : tie.Need-enum-known-sizes
-enum-known-sizes c = search needs
-
 returns : tie.Need-returns
 returns c =
     let s = c .before .before .before .before .before .before .before in
     λ arcs h.
     served-refused (s .args .n) (s .args .q) (s .args .arcs) (s .args .m) arcs (now (s .args .pairs)) (now (s .args .flow)) (now (s .args .length)) h _
     (sym (c .before .before .before .check-sizes .ensures) ∙ c .before .sizes .given .1)
-
-enum-told : tie.Need-enum-told
-enum-told c = search needs
 
 -- the sizes pass
 passed : (c : tie.After-enum-told) → let s = c .before .before .before .before .before .before in firstRow (sizesIn (s .args .n) (s .args .q) (s .args .m) (now (s .args .pairs)) (now (s .args .flow)) (now (s .args .length))) ≡ Accepted
@@ -33,12 +24,6 @@ part-requires c κs =
     let s = c .before .before .before .before .before .before .before .before in
     sizable-in (s .args .n) (s .args .q) (s .args .m) (now (s .args .pairs)) (now (s .args .flow)) (now (s .args .length)) (passed (c .before .before))
 
-same-length : tie.Need-same-length
-same-length c = search needs
-
-same-length-2 : tie.Need-same-length-2
-same-length-2 c = search needs
-
 returns-2 : tie.Need-returns-2
 returns-2 c =
     let s = c .before .before .before .before .before .before .before .before .before .before .before .before .before in
@@ -48,13 +33,5 @@ returns-2 c =
 
 pub serve-spec : {M : Type 1} → statement M
 serve-spec =
-    tie.close
-    (tie.spec
-    check-sizes-requires
-    enum-known-sizes
-    returns
-    enum-told
-    part-requires
-    same-length
-    same-length-2
-    returns-2)
+    tie.close (tie.spec (λ c κs. search needs) (λ c. search needs) returns (λ c. search needs) part-requires
+    (λ c. search needs) (λ c. search needs) returns-2)

@@ -2,10 +2,9 @@
 use denote.Ref.{now}
 use mathlib.Core.Path.{_≡_, sym, _∙_}
 use mathlib.Core.List.{[], _∷_}
-use native.Mathlib.Omega.{arith}
 use Rattle.network.specs.Network.{Network}
 use Rattle.network.specs.Verdict.{itemRows, arcRows, commodityRows}
-use Rattle.network.specs.declared.Verdict.the-variants.{Accepted, Refused}
+use Rattle.network.specs.declared.Verdict.the-variants.{Refused}
 use Rattle.network.proofs.FirstRow.{refused-first, accepted-first}
 use Rattle.solver.specs.Runs.{networkOf}
 use Rattle.report.specs.Listing.{verdictOn}
@@ -34,85 +33,23 @@ of-commodity c =
     judged (net (c .before .before .before .before .before .before .before .before .before .before)) (c .before .before .before .before .before .before .before .before .before .before .pre .0) ∙
     sym (accepted-first _ _ (c .before .before .before .before .before .check-arcs .ensures) (c .before .before .before .enum-told .given .1) (c .check-commodities .ensures))
 
-check-arcs-requires : tie.Need-check-arcs-requires
-check-arcs-requires c κs = search needs
-
-enum-known-arcs : tie.Need-enum-known-arcs
-enum-known-arcs c = search needs
-
-put-refusal-requires : tie.Need-put-refusal-requires
-put-refusal-requires c κs = search needs
-
-same-length : tie.Need-same-length
-same-length c = search needs
-
 returns : tie.Need-returns
 returns c = shown-refused (net (c .before .before .before .before .before .before .before .before .before .before .before .before)) (of-arcs (c .before .before .before .before)) (c .before .before .put-refusal .ensures)
 
-enum-told : tie.Need-enum-told
-enum-told c = search needs
-
-slice-aggregate-check-commodities : tie.Need-slice-aggregate-check-commodities
-slice-aggregate-check-commodities c = search needs
-
-slice-aggregate-check-commodities-2 : tie.Need-slice-aggregate-check-commodities-2
-slice-aggregate-check-commodities-2 c = search needs
-
-check-commodities-requires : tie.Need-check-commodities-requires
-check-commodities-requires c κs = search needs
-
-enum-known-commodities : tie.Need-enum-known-commodities
-enum-known-commodities c = search needs
-
-put-refusal-requires-2 : tie.Need-put-refusal-requires-2
-put-refusal-requires-2 c κs = search needs
-
-same-length-2 : tie.Need-same-length-2
-same-length-2 c = search needs
-
 returns-2 : tie.Need-returns-2
 returns-2 c = shown-refused (net (c .before .before .before .before .before .before .before .before .before .before .before .before .before .before .before .before .before)) (of-commodity (c .before .before .before .before .before .before .before) ∙ c .before .before .before .before .before .commodities .given .1) (c .before .before .put-refusal2 .ensures)
-
-enum-told-2 : tie.Need-enum-told-2
-enum-told-2 c = search needs
-
-slice-aggregate-show : tie.Need-slice-aggregate-show
-slice-aggregate-show c = search needs
-
-slice-aggregate-show-2 : tie.Need-slice-aggregate-show-2
-slice-aggregate-show-2 c = search needs
 
 show-requires : tie.Need-show-requires
 show-requires c κs =
     let s = c .before .before .before .before .before .before .before .before .before .before .before .before .before .before .before in
     record { lent = lends (net s) (s .pre .0) (of-commodity (c .before .before .before .before .before) ∙ c .before .before .before .enum-told2 .given .1); one = s .pre .0 .of-sources; enough = s .pre .1 }
 
-same-length-3 : tie.Need-same-length-3
-same-length-3 c = search needs
-
 returns-3 : tie.Need-returns-3
 returns-3 c = shown-accepted (net (c .before .before .before .before .before .before .before .before .before .before .before .before .before .before .before .before .before .before)) (of-commodity (c .before .before .before .before .before .before .before .before) ∙ c .before .before .before .before .before .before .enum-told2 .given .1) (c .before .before .show .ensures)
 
 pub judge-spec : {M : Type 1} → statement M
 judge-spec =
-    tie.close
-    (tie.spec
-    check-arcs-requires
-    enum-known-arcs
-    put-refusal-requires
-    same-length
-    returns
-    enum-told
-    slice-aggregate-check-commodities
-    slice-aggregate-check-commodities-2
-    check-commodities-requires
-    enum-known-commodities
-    put-refusal-requires-2
-    same-length-2
-    returns-2
-    enum-told-2
-    slice-aggregate-show
-    slice-aggregate-show-2
-    show-requires
-    same-length-3
-    returns-3)
+    tie.close (tie.spec (λ c κs. search needs) (λ c. search needs) (λ c κs. search needs) (λ c. search needs) returns
+    (λ c. search needs) (λ c. search needs) (λ c. search needs) (λ c κs. search needs) (λ c. search needs)
+    (λ c κs. search needs) (λ c. search needs) returns-2 (λ c. search needs) (λ c. search needs) (λ c. search needs)
+    show-requires (λ c. search needs) returns-3)

@@ -11,27 +11,9 @@ use borrow.Author.Needs.{needs}
 use Rattle.report.proofs.file.listing.Statement.{statement}
 use Rattle.report.proofs.file.listing.Tie as tie
 
-read-requires : tie.Need-read-requires
-read-requires c κs = search needs
-
-slice-aggregate-put : tie.Need-slice-aggregate-put
-slice-aggregate-put c = search needs
-
-put-requires : tie.Need-put-requires
-put-requires c κs = search needs
-
-enum-known-verdict : tie.Need-enum-known-verdict
-enum-known-verdict c = search needs
-
-put-refusal-requires : tie.Need-put-refusal-requires
-put-refusal-requires c κs = search needs
-
 returns : tie.Need-returns
 unfolding joined header
 returns c = listed-refused _ (c .before .before .before .before .before .put .ensures) (refused-why _ (c .before .before .before .before .before .before .before .before .read .ensures) (c .before .before .before .verdict .given .1)) (c .put-refusal .ensures)
-
-enum-told : tie.Need-enum-told
-enum-told c = search needs
 
 array-share-prefix-tails : tie.Need-array-share-prefix-tails
 array-share-prefix-tails c =
@@ -73,20 +55,7 @@ returns-2 c =
 
 pub listing-spec : {M : Type 1} → statement M
 listing-spec =
-    tie.close
-    (tie.spec
-    read-requires
-    slice-aggregate-put
-    put-requires
-    enum-known-verdict
-    put-refusal-requires
-    returns
-    enum-told
-    array-share-prefix-tails
-    slice-aggregate-judge
-    array-share-prefix-heads
-    slice-aggregate-judge-2
-    array-share-prefix-capacities
-    slice-aggregate-judge-3
-    judge-requires
-    returns-2)
+    tie.close (tie.spec (λ c κs. search needs) (λ c. search needs) (λ c κs. search needs) (λ c. search needs)
+    (λ c κs. search needs) returns (λ c. search needs) array-share-prefix-tails slice-aggregate-judge
+    array-share-prefix-heads slice-aggregate-judge-2 array-share-prefix-capacities slice-aggregate-judge-3
+    judge-requires returns-2)

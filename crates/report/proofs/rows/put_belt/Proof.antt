@@ -7,17 +7,8 @@ use borrow.Author.Needs.{needs}
 use Rattle.report.proofs.rows.put_belt.Statement.{statement}
 use Rattle.report.proofs.rows.put_belt.Tie as tie
 
-slice-aggregate-put : tie.Need-slice-aggregate-put
-slice-aggregate-put c = search needs
-
-put-requires : tie.Need-put-requires
-put-requires c κs = search needs
-
 put-number-requires : tie.Need-put-number-requires
 put-number-requires c κs = omega (arith, decimal-short (c .before .before .before .before .before .before .before .args .tail))
-
-slice-aggregate-put-2 : tie.Need-slice-aggregate-put-2
-slice-aggregate-put-2 c = search needs
 
 put-requires-2 : tie.Need-put-requires-2
 put-requires-2 c κs =
@@ -29,9 +20,6 @@ put-number-requires-2 c κs =
     let s = c .before .before .before .before .before .before .before .before .before .before .before .before .before .before .before .before in
     omega (arith, decimal-short (s .args .tail), decimal-short (s .args .head))
 
-slice-aggregate-put-3 : tie.Need-slice-aggregate-put-3
-slice-aggregate-put-3 c = search needs
-
 put-requires-3 : tie.Need-put-requires-3
 put-requires-3 c κs =
     let s = c .before .before .before .before .before .before .before .before .before .before .before .before .before .before .before .before .before .before .before .before .before in
@@ -41,9 +29,6 @@ put-fraction-requires : tie.Need-put-fraction-requires
 put-fraction-requires c κs =
     let s = c .before .before .before .before .before .before .before .before .before .before .before .before .before .before .before .before .before .before .before .before .before .before .before .before .before in
     omega (arith, decimal-short (s .args .tail), decimal-short (s .args .head))
-
-same-length : tie.Need-same-length
-same-length c = search needs
 
 returns : tie.Need-returns
 unfolding row joined
@@ -55,16 +40,6 @@ returns c =
 
 pub put-belt-spec : {M : Type 1} → statement M
 put-belt-spec =
-    tie.close
-    (tie.spec
-    slice-aggregate-put
-    put-requires
-    put-number-requires
-    slice-aggregate-put-2
-    put-requires-2
-    put-number-requires-2
-    slice-aggregate-put-3
-    put-requires-3
-    put-fraction-requires
-    same-length
+    tie.close (tie.spec (λ c. search needs) (λ c κs. search needs) put-number-requires (λ c. search needs)
+    put-requires-2 put-number-requires-2 (λ c. search needs) put-requires-3 put-fraction-requires (λ c. search needs)
     returns)

@@ -10,9 +10,6 @@ use Rattle.report.proofs.rows.put_fraction.Tie as tie
 put-number-requires : tie.Need-put-number-requires
 put-number-requires c κs = omega (arith, decimal-short (c .before .before .args .upper))
 
-slice-aggregate-put : tie.Need-slice-aggregate-put
-slice-aggregate-put c = search needs
-
 put-requires : tie.Need-put-requires
 put-requires c κs = omega (arith, decimal-short (c .before .before .before .before .before .before .before .args .upper))
 
@@ -21,16 +18,10 @@ put-number-requires-2 c κs =
     let s = c .before .before .before .before .before .before .before .before .before .before .before in
     omega (arith, decimal-short (s .args .upper), decimal-short (s .args .lower))
 
-slice-aggregate-put-2 : tie.Need-slice-aggregate-put-2
-slice-aggregate-put-2 c = search needs
-
 put-requires-2 : tie.Need-put-requires-2
 put-requires-2 c κs =
     let s = c .before .before .before .before .before .before .before .before .before .before .before .before .before .before .before .before in
     omega (arith, decimal-short (s .args .upper), decimal-short (s .args .lower))
-
-same-length : tie.Need-same-length
-same-length c = search needs
 
 returns : tie.Need-returns
 unfolding joined
@@ -40,13 +31,5 @@ returns c =
 
 pub put-fraction-spec : {M : Type 1} → statement M
 put-fraction-spec =
-    tie.close
-    (tie.spec
-    put-number-requires
-    slice-aggregate-put
-    put-requires
-    put-number-requires-2
-    slice-aggregate-put-2
-    put-requires-2
-    same-length
-    returns)
+    tie.close (tie.spec put-number-requires (λ c. search needs) put-requires put-number-requires-2 (λ c. search needs)
+    put-requires-2 (λ c. search needs) returns)

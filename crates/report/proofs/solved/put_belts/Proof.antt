@@ -19,24 +19,6 @@ abbrev μ-loop : tie.MeasureT-loop
 loop-holds : tie.Need-loop-holds Inv-loop μ-loop
 loop-holds c = (none-rowed _ _ _ (omega arith), omega arith)
 
-mul-put-belt : tie.Need-mul-put-belt Inv-loop μ-loop
-mul-put-belt c = omega arith
-
-shared-slice-read-put-belt : tie.Need-shared-slice-read-put-belt Inv-loop μ-loop
-shared-slice-read-put-belt c = omega arith
-
-mul-put-belt-2 : tie.Need-mul-put-belt-2 Inv-loop μ-loop
-mul-put-belt-2 c = omega arith
-
-shared-slice-read-put-belt-2 : tie.Need-shared-slice-read-put-belt-2 Inv-loop μ-loop
-shared-slice-read-put-belt-2 c = omega arith
-
-mul-put-belt-3 : tie.Need-mul-put-belt-3 Inv-loop μ-loop
-mul-put-belt-3 c = omega arith
-
-shared-slice-read-put-belt-3 : tie.Need-shared-slice-read-put-belt-3 Inv-loop μ-loop
-shared-slice-read-put-belt-3 c = omega arith
-
 mul-put-belt-4 : tie.Need-mul-put-belt-4 Inv-loop μ-loop
 mul-put-belt-4 c = record { fits = c .before .before .before .before .before .before .before .before .before .before .pre .fits (c .before .before .before .before .before .loop .e) (c .before .before .before .before .loop-test .taken) }
 
@@ -44,12 +26,6 @@ put-belt-requires : tie.Need-put-belt-requires Inv-loop μ-loop
 put-belt-requires c κs =
     let i = c .before .before .before .before .before .loop .inv in
     omega (arith, put-length (i .0 .now), i .0 .now .next, i .0 .short)
-
-add-e : tie.Need-add-e Inv-loop μ-loop
-add-e c = omega arith
-
-loop-less : tie.Need-loop-less Inv-loop μ-loop
-loop-less c = omega arith
 
 loop-again : tie.Need-loop-again Inv-loop μ-loop
 loop-again c =
@@ -65,21 +41,6 @@ returns c = all-rowed _ (c .before .loop .inv .0) (c .before .loop .inv .1) (c .
 
 pub put-belts-spec : {M : Type 1} → statement M
 put-belts-spec =
-    tie.close
-    (tie.spec
-    Inv-loop
-    μ-loop
-    loop-holds
-    mul-put-belt
-    shared-slice-read-put-belt
-    mul-put-belt-2
-    shared-slice-read-put-belt-2
-    mul-put-belt-3
-    shared-slice-read-put-belt-3
-    mul-put-belt-4
-    put-belt-requires
-    add-e
-    loop-less
-    loop-again
-    same-length
-    returns)
+    tie.close (tie.spec Inv-loop μ-loop loop-holds (λ c. omega arith) (λ c. omega arith) (λ c. omega arith)
+    (λ c. omega arith) (λ c. omega arith) (λ c. omega arith) mul-put-belt-4 put-belt-requires (λ c. omega arith)
+    (λ c. omega arith) loop-again same-length returns)

@@ -13,14 +13,8 @@ use Rattle.report.proofs.solved.show.Tie as tie
 room : (s : tie.Start) → length (now (s .args .tails)) ≤ length (replicate {A = ℕ} 256 0)
 room s = omega (arith, s .pre .lent .sound .counts .of-arcs .most, length-replicate {A = ℕ} 256 0)
 
-array-borrow-prefix-flow : tie.Need-array-borrow-prefix-flow
-array-borrow-prefix-flow c = search needs
-
 slice-aggregate-show-in : tie.Need-slice-aggregate-show-in
 slice-aggregate-show-in c = sym (length-take-le _ _ (room (c .before .before .before .before .before .before .before)))
-
-array-borrow-prefix-kept : tie.Need-array-borrow-prefix-kept
-array-borrow-prefix-kept c = search needs
 
 slice-aggregate-show-in-2 : tie.Need-slice-aggregate-show-in-2
 slice-aggregate-show-in-2 c = sym (length-take-le _ _ (room (c .before .before .before .before .before .before .before .before)))
@@ -30,20 +24,7 @@ show-in-requires c κs =
     let s = c .before .before .before .before .before .before .before .before .before in
     (s .pre, (length-take-le _ _ (room s), length-take-le _ _ (room s)))
 
-same-length : tie.Need-same-length
-same-length c = search needs
-
-returns : tie.Need-returns
-returns c = search needs
-
 pub show-spec : {M : Type 1} → statement M
 show-spec =
-    tie.close
-    (tie.spec
-    array-borrow-prefix-flow
-    slice-aggregate-show-in
-    array-borrow-prefix-kept
-    slice-aggregate-show-in-2
-    show-in-requires
-    same-length
-    returns)
+    tie.close (tie.spec (λ c. search needs) slice-aggregate-show-in (λ c. search needs) slice-aggregate-show-in-2
+    show-in-requires (λ c. search needs) (λ c. search needs))

@@ -35,15 +35,6 @@ put-belts-requires c κs =
     rw (p .kept .0)
     (belted (net s) (s .pre .0) (v .ensures) _ (v .kept .1 .1 .1 .1 .1 .1 .1 .0 ∙ s .pre .1 .0) (put-within (p .ensures) (answer-length _)))
 
-same-length : tie.Need-same-length
-same-length c = search needs
-
-same-length-2 : tie.Need-same-length-2
-same-length-2 c = search needs
-
-same-length-3 : tie.Need-same-length-3
-same-length-3 c = search needs
-
 returns : tie.Need-returns
 returns c =
     let s = c .before .before .before .before .before .before .before .before .before .before .before .before .before .before .before .before .before .before .before .before .before .before .before .before in
@@ -51,12 +42,5 @@ returns c =
 
 pub show-in-spec : {M : Type 1} → statement M
 show-in-spec =
-    tie.close
-    (tie.spec
-    solve-requires
-    put-answer-requires
-    put-belts-requires
-    same-length
-    same-length-2
-    same-length-3
-    returns)
+    tie.close (tie.spec solve-requires put-answer-requires put-belts-requires (λ c. search needs) (λ c. search needs)
+    (λ c. search needs) returns)

@@ -5,11 +5,9 @@ use Rattle.solver.specs.Progress.{begunWith}
 use Rattle.solver.proofs.runs.begin.Statement.{statement}
 use Rattle.solver.proofs.runs.begin.Tie as tie
 
-weight-requires : tie.Need-weight-requires
-weight-requires c κs = search needs
-
 returns : tie.Need-returns
 returns c = ap begunWith (c .weight .ensures .0)
 
 pub begin-spec : {M : Type 1} → statement M
-begin-spec = tie.close (tie.spec weight-requires returns)
+begin-spec =
+    tie.close (tie.spec (λ c κs. search needs) returns)

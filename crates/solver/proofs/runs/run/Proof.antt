@@ -160,23 +160,6 @@ returns c =
 
 pub run-spec : {M : Type 1} → statement M
 run-spec =
-    tie.close
-    (tie.spec
-    Inv-loop
-    μ-loop
-    threshold-requires
-    begin-requires
-    loop-holds
-    iterate-requires
-    loop-less
-    loop-again
-    same-length
-    same-length-2
-    same-length-3
-    same-length-4
-    same-length-5
-    same-length-6
-    same-length-7
-    same-length-8
-    same-length-9
-    returns)
+    tie.close (tie.spec Inv-loop μ-loop threshold-requires begin-requires loop-holds iterate-requires loop-less
+    loop-again same-length same-length-2 same-length-3 same-length-4 same-length-5 same-length-6 same-length-7
+    same-length-8 same-length-9 returns)

@@ -17,47 +17,14 @@ room s = omega (arith, s .pre .0 .sound .counts .of-arcs .most, length-replicate
 rooms : (s : tie.Start) → length (now (s .args .sources)) ≤ length (replicate {A = ℕ} 32 0)
 rooms s = omega (arith, s .pre .0 .sound .counts .of-commodities .most, length-replicate {A = ℕ} 32 0)
 
-slice-aggregate-solve-in : tie.Need-slice-aggregate-solve-in
-slice-aggregate-solve-in c = search needs
-
-slice-aggregate-solve-in-2 : tie.Need-slice-aggregate-solve-in-2
-slice-aggregate-solve-in-2 c = search needs
-
-slice-aggregate-solve-in-3 : tie.Need-slice-aggregate-solve-in-3
-slice-aggregate-solve-in-3 c = search needs
-
-slice-aggregate-solve-in-4 : tie.Need-slice-aggregate-solve-in-4
-slice-aggregate-solve-in-4 c = search needs
-
-array-borrow-prefix-loads : tie.Need-array-borrow-prefix-loads
-array-borrow-prefix-loads c = search needs
-
 slice-aggregate-solve-in-5 : tie.Need-slice-aggregate-solve-in-5
 slice-aggregate-solve-in-5 c = sym (length-take-le _ _ (room (c .before .before .before .before .before .before .before .before .before .before .before .before .before .before)))
-
-array-borrow-prefix-lengths : tie.Need-array-borrow-prefix-lengths
-array-borrow-prefix-lengths c = search needs
 
 slice-aggregate-solve-in-6 : tie.Need-slice-aggregate-solve-in-6
 slice-aggregate-solve-in-6 c = sym (length-take-le _ _ (room (c .before .before .before .before .before .before .before .before .before .before .before .before .before .before .before)))
 
-array-borrow-prefix-bounds : tie.Need-array-borrow-prefix-bounds
-array-borrow-prefix-bounds c = search needs
-
 slice-aggregate-solve-in-7 : tie.Need-slice-aggregate-solve-in-7
 slice-aggregate-solve-in-7 c = sym (length-take-le _ _ (rooms (c .before .before .before .before .before .before .before .before .before .before .before .before .before .before .before .before)))
-
-slice-aggregate-solve-in-8 : tie.Need-slice-aggregate-solve-in-8
-slice-aggregate-solve-in-8 c = search needs
-
-slice-aggregate-solve-in-9 : tie.Need-slice-aggregate-solve-in-9
-slice-aggregate-solve-in-9 c = search needs
-
-slice-aggregate-solve-in-10 : tie.Need-slice-aggregate-solve-in-10
-slice-aggregate-solve-in-10 c = search needs
-
-slice-aggregate-solve-in-11 : tie.Need-slice-aggregate-solve-in-11
-slice-aggregate-solve-in-11 c = search needs
 
 solve-in-requires : tie.Need-solve-in-requires
 solve-in-requires c κs =
@@ -81,34 +48,9 @@ solve-in-requires c κs =
       ),
     )
 
-same-length : tie.Need-same-length
-same-length c = search needs
-
-same-length-2 : tie.Need-same-length-2
-same-length-2 c = search needs
-
-returns : tie.Need-returns
-returns c = search needs
-
 pub solve-spec : {M : Type 1} → statement M
 solve-spec =
-    tie.close
-    (tie.spec
-    slice-aggregate-solve-in
-    slice-aggregate-solve-in-2
-    slice-aggregate-solve-in-3
-    slice-aggregate-solve-in-4
-    array-borrow-prefix-loads
-    slice-aggregate-solve-in-5
-    array-borrow-prefix-lengths
-    slice-aggregate-solve-in-6
-    array-borrow-prefix-bounds
-    slice-aggregate-solve-in-7
-    slice-aggregate-solve-in-8
-    slice-aggregate-solve-in-9
-    slice-aggregate-solve-in-10
-    slice-aggregate-solve-in-11
-    solve-in-requires
-    same-length
-    same-length-2
-    returns)
+    tie.close (tie.spec (λ c. search needs) (λ c. search needs) (λ c. search needs) (λ c. search needs)
+    (λ c. search needs) slice-aggregate-solve-in-5 (λ c. search needs) slice-aggregate-solve-in-6 (λ c. search needs)
+    slice-aggregate-solve-in-7 (λ c. search needs) (λ c. search needs) (λ c. search needs) (λ c. search needs)
+    solve-in-requires (λ c. search needs) (λ c. search needs) (λ c. search needs))

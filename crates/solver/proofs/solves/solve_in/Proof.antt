@@ -77,23 +77,6 @@ returns c = c .before .before .before .before .before .before .before .before .b
 
 pub solve-in-spec : {M : Type 1} → statement M
 solve-in-spec =
-    tie.close
-    (tie.spec
-    link-requires
-    link-requires-2
-    prepare-requires
-    outcome-requires
-    same-length
-    same-length-2
-    same-length-3
-    same-length-4
-    same-length-5
-    same-length-6
-    same-length-7
-    same-length-8
-    same-length-9
-    same-length-10
-    same-length-11
-    same-length-12
-    same-length-13
-    returns)
+    tie.close (tie.spec link-requires link-requires-2 prepare-requires outcome-requires same-length same-length-2
+    same-length-3 same-length-4 same-length-5 same-length-6 same-length-7 same-length-8 same-length-9 same-length-10
+    same-length-11 same-length-12 same-length-13 returns)

@@ -1,4 +1,4 @@
--- `solver::draws::add` meets its contract: after j turns the table is updated along the first j arcs of the path, and no amount has grown by more
+-- `tables::draws::add` meets its contract: after j turns the table is updated along the first j arcs of the path, and no amount has grown by more
 -- than 64 draws, so the sums fit.
 -- Assumes nothing.
 use mathlib.Core.Path.{refl, sym}
@@ -33,12 +33,6 @@ amount c =
 loop-holds : tie.Need-loop-holds Inv-loop μ-loop
 loop-holds c = follow-none _ _ _
 
-mul-e : tie.Need-mul-e Inv-loop μ-loop
-mul-e c = omega arith
-
-shared-slice-read-e : tie.Need-shared-slice-read-e Inv-loop μ-loop
-shared-slice-read-e c = omega arith
-
 add-e : tie.Need-add-e Inv-loop μ-loop
 add-e c = omega (arith, place (c .before))
 
@@ -57,41 +51,17 @@ mul-table-2 c = omega (arith, place (c .before .before))
 slice-write-table : tie.Need-slice-write-table Inv-loop μ-loop
 slice-write-table c = omega (arith, place (c .before .before))
 
-add-j : tie.Need-add-j Inv-loop μ-loop
-add-j c = omega arith
-
-loop-less : tie.Need-loop-less Inv-loop μ-loop
-loop-less c = omega arith
-
 loop-again : tie.Need-loop-again Inv-loop μ-loop
 loop-again c =
     let a = c .before .before .before .before .args in
     let more = c .before .before .loop-test .taken in
     follow-more _ _ (c .before .before .before .loop .inv) (rw length-map more) (sym (map-at (λ e. a .base + e) (a .path .now) _ more)) refl
 
-same-length : tie.Need-same-length Inv-loop μ-loop
-same-length c = omega arith
-
 returns : tie.Need-returns Inv-loop μ-loop
 returns c = follow-all (c .before .loop .inv) (rw length-map (c .loop-test .left))
 
 pub add-spec : {M : Type 1} → statement M
 add-spec =
-    tie.close
-    (tie.spec
-    Inv-loop
-    μ-loop
-    loop-holds
-    mul-e
-    shared-slice-read-e
-    add-e
-    mul-table
-    slice-read-table
-    add-table
-    mul-table-2
-    slice-write-table
-    add-j
-    loop-less
-    loop-again
-    same-length
-    returns)
+    tie.close (tie.spec Inv-loop μ-loop loop-holds (λ c. omega arith) (λ c. omega arith) add-e mul-table
+    slice-read-table add-table mul-table-2 slice-write-table (λ c. omega arith) (λ c. omega arith) loop-again
+    (λ c. omega arith) returns)

@@ -1,4 +1,4 @@
--- `solver::draws::draw` meets its contract: g, lowered by the arcs that are left, is the draw.
+-- `tables::draws::draw` meets its contract: g, lowered by the arcs that are left, is the draw.
 -- Assumes nothing.
 use mathlib.Core.Logic.{⊎-elim}
 use Prim.Native.Nat.{_-_, _<_}
@@ -24,9 +24,6 @@ entry c = c .before .before .before .before
 place : (c : tie.In-loop Inv-loop μ-loop) → getD (entry c .args .path .now) (c .before .loop .j) 0 < length (entry c .args .capacities .now)
 place c = entry c .pre .1 (c .before .loop .j) (omega arith)
 
-shared-slice-read-first : tie.Need-shared-slice-read-first Inv-loop μ-loop
-shared-slice-read-first c = omega arith
-
 mul-g : tie.Need-mul-g Inv-loop μ-loop
 mul-g c = omega (arith, first (c .before))
 
@@ -35,12 +32,6 @@ shared-slice-read-g c = omega (arith, first (c .before .before))
 
 loop-holds : tie.Need-loop-holds Inv-loop μ-loop
 loop-holds c = lower-first _ _ (omega arith)
-
-mul-e : tie.Need-mul-e Inv-loop μ-loop
-mul-e c = omega arith
-
-shared-slice-read-e : tie.Need-shared-slice-read-e Inv-loop μ-loop
-shared-slice-read-e c = omega arith
 
 mul-if1 : tie.Need-mul-if1 Inv-loop μ-loop
 mul-if1 c = omega (arith, place (c .before))
@@ -54,12 +45,6 @@ mul-g-2 c = omega (arith, place (c .before .before .before))
 shared-slice-read-g-2 : tie.Need-shared-slice-read-g-2 Inv-loop μ-loop
 shared-slice-read-g-2 c = omega (arith, place (c .before .before .before .before))
 
-add-j : tie.Need-add-j Inv-loop μ-loop
-add-j c = omega arith
-
-loop-less : tie.Need-loop-less Inv-loop μ-loop
-loop-less c = omega arith
-
 loop-again : tie.Need-loop-again Inv-loop μ-loop
 loop-again c =
     let turn = c .before .before .before .before .loop in
@@ -70,21 +55,6 @@ returns c = lower-all (c .before .loop .inv) (omega arith)
 
 pub draw-spec : {M : Type 1} → statement M
 draw-spec =
-    tie.close
-    (tie.spec
-    Inv-loop
-    μ-loop
-    shared-slice-read-first
-    mul-g
-    shared-slice-read-g
-    loop-holds
-    mul-e
-    shared-slice-read-e
-    mul-if1
-    shared-slice-read-if1
-    mul-g-2
-    shared-slice-read-g-2
-    add-j
-    loop-less
-    loop-again
-    returns)
+    tie.close (tie.spec Inv-loop μ-loop (λ c. omega arith) mul-g shared-slice-read-g loop-holds (λ c. omega arith)
+    (λ c. omega arith) mul-if1 shared-slice-read-if1 mul-g-2 shared-slice-read-g-2 (λ c. omega arith) (λ c. omega arith)
+    loop-again returns)

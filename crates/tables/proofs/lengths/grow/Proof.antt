@@ -49,12 +49,6 @@ module _ (c : tie.After-growth Inv-loop μ-loop) where
 loop-holds : tie.Need-loop-holds Inv-loop μ-loop
 loop-holds c = lengthen-none (c .before .before .before .pre .0) _ (c .before .before .before .pre .1)
 
-mul-e : tie.Need-mul-e Inv-loop μ-loop
-mul-e c = omega arith
-
-shared-slice-read-e : tie.Need-shared-slice-read-e Inv-loop μ-loop
-shared-slice-read-e c = omega arith
-
 mul-capacity : tie.Need-mul-capacity Inv-loop μ-loop
 mul-capacity c = omega (arith, place (c .before))
 
@@ -94,15 +88,6 @@ mul-d c = omega (arith, rise c)
 add-d : tie.Need-add-d Inv-loop μ-loop
 add-d c = omega (arith, rise c, turn c .before .loop .inv .most, entry (turn c) .pre .0 .few)
 
-marked-requires : tie.Need-marked-requires Inv-loop μ-loop
-marked-requires c κs = search needs
-
-add-j : tie.Need-add-j Inv-loop μ-loop
-add-j c = omega arith
-
-loop-less : tie.Need-loop-less Inv-loop μ-loop
-loop-less c = omega arith
-
 loop-again : tie.Need-loop-again Inv-loop μ-loop
 loop-again c =
     let s = c .before .before in
@@ -111,34 +96,11 @@ loop-again c =
     (⊎-elim (λ w. w .1 ∙ (sym (or-true b) ∙ ap (λ x. b || x) (sym (w .0 .taken) ∙ c .before .marked .ensures .0)))
     (λ w. w .1 ∙ (sym (or-false b) ∙ ap (λ x. b || x) (sym (w .0 .left) ∙ c .before .marked .ensures .0))) (c .if1 .came))
 
-same-length : tie.Need-same-length Inv-loop μ-loop
-same-length c = omega arith
-
 returns : tie.Need-returns Inv-loop μ-loop
 returns c = lengthen-all (c .before .loop .inv) (omega arith)
 
 pub grow-spec : {M : Type 1} → statement M
 grow-spec =
-    tie.close
-    (tie.spec
-    Inv-loop
-    μ-loop
-    loop-holds
-    mul-e
-    shared-slice-read-e
-    mul-capacity
-    shared-slice-read-capacity
-    mul-old
-    slice-read-old
-    growth-requires
-    mul-lengths
-    slice-write-lengths
-    sub-d
-    mul-d
-    add-d
-    marked-requires
-    add-j
-    loop-less
-    loop-again
-    same-length
-    returns)
+    tie.close (tie.spec Inv-loop μ-loop loop-holds (λ c. omega arith) (λ c. omega arith) mul-capacity
+    shared-slice-read-capacity mul-old slice-read-old growth-requires mul-lengths slice-write-lengths sub-d mul-d add-d
+    (λ c κs. search needs) (λ c. omega arith) (λ c. omega arith) loop-again (λ c. omega arith) returns)

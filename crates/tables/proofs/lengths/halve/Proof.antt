@@ -1,4 +1,4 @@
--- `solver::lengths::halve` meets its contract: after e turns the first e lengths are halved, and the others are as they were.
+-- `tables::lengths::halve` meets its contract: after e turns the first e lengths are halved, and the others are as they were.
 -- Assumes nothing.
 use mathlib.Core.Path.{ap, _∙_}
 use mathlib.Core.List.{map}
@@ -20,34 +20,13 @@ abbrev μ-loop : tie.MeasureT-loop
 loop-holds : tie.Need-loop-holds Inv-loop μ-loop
 loop-holds c = fill-none _ _
 
-mul-t4 : tie.Need-mul-t4 Inv-loop μ-loop
-mul-t4 c = omega arith
-
-slice-read-t7 : tie.Need-slice-read-t7 Inv-loop μ-loop
-slice-read-t7 c = omega arith
-
 halving-requires : tie.Need-halving-requires Inv-loop μ-loop
 halving-requires c κs = rw (fill-next (c .before .before .loop .inv)) (c .before .before .before .before .pre _ (omega arith))
-
-mul-lengths : tie.Need-mul-lengths Inv-loop μ-loop
-mul-lengths c = omega arith
-
-slice-write-lengths : tie.Need-slice-write-lengths Inv-loop μ-loop
-slice-write-lengths c = omega arith
-
-add-e : tie.Need-add-e Inv-loop μ-loop
-add-e c = omega arith
-
-loop-less : tie.Need-loop-less Inv-loop μ-loop
-loop-less c = omega arith
 
 loop-again : tie.Need-loop-again Inv-loop μ-loop
 loop-again c =
     let turn = c .before .before .before .loop in
     fill-more _ (turn .inv) (omega arith) (c .halving .ensures ∙ ap halving (fill-next (turn .inv)))
-
-same-length : tie.Need-same-length Inv-loop μ-loop
-same-length c = omega arith
 
 returns : tie.Need-returns Inv-loop μ-loop
 returns c =
@@ -56,18 +35,5 @@ returns c =
 
 pub halve-spec : {M : Type 1} → statement M
 halve-spec =
-    tie.close
-    (tie.spec
-    Inv-loop
-    μ-loop
-    loop-holds
-    mul-t4
-    slice-read-t7
-    halving-requires
-    mul-lengths
-    slice-write-lengths
-    add-e
-    loop-less
-    loop-again
-    same-length
-    returns)
+    tie.close (tie.spec Inv-loop μ-loop loop-holds (λ c. omega arith) (λ c. omega arith) halving-requires
+    (λ c. omega arith) (λ c. omega arith) (λ c. omega arith) (λ c. omega arith) loop-again (λ c. omega arith) returns)

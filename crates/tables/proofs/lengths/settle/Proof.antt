@@ -5,14 +5,8 @@ use Rattle.tables.proofs.Halved.{halved-weighing}
 use Rattle.tables.proofs.lengths.settle.Statement.{statement}
 use Rattle.tables.proofs.lengths.settle.Tie as tie
 
-halve-requires : tie.Need-halve-requires
-halve-requires c κs = search needs
-
 weight-requires : tie.Need-weight-requires
 weight-requires c κs = rw (c .before .before .before .halve .ensures) (halved-weighing (c .before .before .before .before .before .before .before .before .pre .0))
-
-same-length : tie.Need-same-length
-same-length c = search needs
 
 returns : tie.Need-returns
 returns c =
@@ -24,4 +18,5 @@ returns-2 : tie.Need-returns-2
 returns-2 c = record { lengths = rw (c .if1 .left) refl; weight = c .before .before .before .pre .1 }
 
 pub settle-spec : {M : Type 1} → statement M
-settle-spec = tie.close (tie.spec halve-requires weight-requires same-length returns returns-2)
+settle-spec =
+    tie.close (tie.spec (λ c κs. search needs) weight-requires (λ c. search needs) returns returns-2)

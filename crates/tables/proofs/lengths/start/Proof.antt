@@ -1,4 +1,4 @@
--- `solver::lengths::start` meets its contract: after e turns the first e lengths are at their start.
+-- `tables::lengths::start` meets its contract: after e turns the first e lengths are at their start.
 -- Assumes nothing.
 use mathlib.Core.Path.{_∙_}
 use Prim.Native.Nat.{_-_}
@@ -19,53 +19,19 @@ abbrev μ-loop : tie.MeasureT-loop
 loop-holds : tie.Need-loop-holds Inv-loop μ-loop
 loop-holds c = fill-none _ _
 
-mul-start : tie.Need-mul-start Inv-loop μ-loop
-mul-start c = omega arith
-
-shared-slice-read-start : tie.Need-shared-slice-read-start Inv-loop μ-loop
-shared-slice-read-start c = omega arith
-
 start-requires : tie.Need-start-requires Inv-loop μ-loop
 start-requires c κs =
     let p = c .before .before .before .before .before .pre .1 in
     let e = c .before .before .loop .e in
     (omega (arith, p .least e (omega arith)), omega (arith, p .most e (omega arith)))
 
-mul-lengths : tie.Need-mul-lengths Inv-loop μ-loop
-mul-lengths c = omega arith
-
-slice-write-lengths : tie.Need-slice-write-lengths Inv-loop μ-loop
-slice-write-lengths c = omega arith
-
-add-e : tie.Need-add-e Inv-loop μ-loop
-add-e c = omega arith
-
-loop-less : tie.Need-loop-less Inv-loop μ-loop
-loop-less c = omega arith
-
 loop-again : tie.Need-loop-again Inv-loop μ-loop
 loop-again c = fill-more _ (c .before .before .before .loop .inv) (omega arith) (c .start .ensures .0)
-
-same-length : tie.Need-same-length Inv-loop μ-loop
-same-length c = omega arith
 
 returns : tie.Need-returns Inv-loop μ-loop
 returns c = fill-all _ (c .before .loop .inv) (omega arith) (row-length _ _ ∙ omega arith) (λ j l. row-at _ _ j (rw row-length at l))
 
 pub start-spec : {M : Type 1} → statement M
 start-spec =
-    tie.close
-    (tie.spec
-    Inv-loop
-    μ-loop
-    loop-holds
-    mul-start
-    shared-slice-read-start
-    start-requires
-    mul-lengths
-    slice-write-lengths
-    add-e
-    loop-less
-    loop-again
-    same-length
-    returns)
+    tie.close (tie.spec Inv-loop μ-loop loop-holds (λ c. omega arith) (λ c. omega arith) start-requires
+    (λ c. omega arith) (λ c. omega arith) (λ c. omega arith) (λ c. omega arith) loop-again (λ c. omega arith) returns)

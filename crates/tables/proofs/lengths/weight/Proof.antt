@@ -1,4 +1,4 @@
--- `solver::lengths::weight` meets its contract: d is the sum over the arcs passed, of at most 256 terms below 2^50 each.
+-- `tables::lengths::weight` meets its contract: d is the sum over the arcs passed, of at most 256 terms below 2^50 each.
 -- Assumes nothing.
 use Prim.Native.Nat.{_-_, _*_}
 use native.Mathlib.Omega.{arith}
@@ -16,18 +16,6 @@ abbrev μ-loop : tie.MeasureT-loop
 loop-holds : tie.Need-loop-holds Inv-loop μ-loop
 loop-holds c = sum-none _ _
 
-mul-d : tie.Need-mul-d Inv-loop μ-loop
-mul-d c = omega arith
-
-shared-slice-read-d : tie.Need-shared-slice-read-d Inv-loop μ-loop
-shared-slice-read-d c = omega arith
-
-mul-d-2 : tie.Need-mul-d-2 Inv-loop μ-loop
-mul-d-2 c = omega arith
-
-shared-slice-read-d-2 : tie.Need-shared-slice-read-d-2 Inv-loop μ-loop
-shared-slice-read-d-2 c = omega arith
-
 mul-d-3 : tie.Need-mul-d-3 Inv-loop μ-loop
 mul-d-3 c =
     let turn = c .before .before .before in
@@ -39,12 +27,6 @@ add-d c =
     let p = turn .before .pre in
     omega (arith, sum-most p (turn .loop .e) (omega arith), term-most p (turn .loop .e) (omega arith))
 
-add-e : tie.Need-add-e Inv-loop μ-loop
-add-e c = omega arith
-
-loop-less : tie.Need-loop-less Inv-loop μ-loop
-loop-less c = omega arith
-
 loop-again : tie.Need-loop-again Inv-loop μ-loop
 loop-again c = sum-more (c .before .before .before .loop .inv) (omega arith)
 
@@ -53,18 +35,5 @@ returns c = (sum-all (c .before .loop .inv) (omega arith), omega (arith, sum-mos
 
 pub weight-spec : {M : Type 1} → statement M
 weight-spec =
-    tie.close
-    (tie.spec
-    Inv-loop
-    μ-loop
-    loop-holds
-    mul-d
-    shared-slice-read-d
-    mul-d-2
-    shared-slice-read-d-2
-    mul-d-3
-    add-d
-    add-e
-    loop-less
-    loop-again
-    returns)
+    tie.close (tie.spec Inv-loop μ-loop loop-holds (λ c. omega arith) (λ c. omega arith) (λ c. omega arith)
+    (λ c. omega arith) mul-d-3 add-d (λ c. omega arith) (λ c. omega arith) loop-again returns)

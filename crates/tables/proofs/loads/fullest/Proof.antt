@@ -1,7 +1,7 @@
--- `solver::loads::fullest` meets its contract: b is the fullest of the arcs passed.
+-- `tables::loads::fullest` meets its contract: b is the fullest of the arcs passed.
 -- Assumes nothing.
 use mathlib.Core.Logic.{⊎-elim}
-use Prim.Native.Nat.{ℕ, _-_, _*_, _^_, _≤_, _<_}
+use Prim.Native.Nat.{ℕ, _-_, _*_, _^_, _≤_}
 use native.Mathlib.Nat.{mul-le-mul, le-of-lt}
 use native.Mathlib.Omega.{arith}
 use lib.ListN.{length, getD}
@@ -31,41 +31,11 @@ small c =
 loop-holds : tie.Need-loop-holds Inv-loop μ-loop
 loop-holds c = rank-first _ _ _ (omega arith)
 
-mul-if1 : tie.Need-mul-if1 Inv-loop μ-loop
-mul-if1 c = omega arith
-
-shared-slice-read-if1 : tie.Need-shared-slice-read-if1 Inv-loop μ-loop
-shared-slice-read-if1 c = omega arith
-
-mul-if1-2 : tie.Need-mul-if1-2 Inv-loop μ-loop
-mul-if1-2 c = omega arith
-
-shared-slice-read-if1-2 : tie.Need-shared-slice-read-if1-2 Inv-loop μ-loop
-shared-slice-read-if1-2 c = omega arith
-
 mul-if1-3 : tie.Need-mul-if1-3 Inv-loop μ-loop
 mul-if1-3 c = omega (arith, small (c .before .before))
 
-mul-if1-4 : tie.Need-mul-if1-4 Inv-loop μ-loop
-mul-if1-4 c = omega arith
-
-shared-slice-read-if1-3 : tie.Need-shared-slice-read-if1-3 Inv-loop μ-loop
-shared-slice-read-if1-3 c = omega arith
-
-mul-if1-5 : tie.Need-mul-if1-5 Inv-loop μ-loop
-mul-if1-5 c = omega arith
-
-shared-slice-read-if1-4 : tie.Need-shared-slice-read-if1-4 Inv-loop μ-loop
-shared-slice-read-if1-4 c = omega arith
-
 mul-if1-6 : tie.Need-mul-if1-6 Inv-loop μ-loop
 mul-if1-6 c = omega (arith, small (c .before .before .before .before))
-
-add-e : tie.Need-add-e Inv-loop μ-loop
-add-e c = omega arith
-
-loop-less : tie.Need-loop-less Inv-loop μ-loop
-loop-less c = omega arith
 
 loop-again : tie.Need-loop-again Inv-loop μ-loop
 loop-again c =
@@ -78,22 +48,6 @@ returns c = (rank-all (c .before .loop .inv) (omega arith), omega arith)
 
 pub fullest-spec : {M : Type 1} → statement M
 fullest-spec =
-    tie.close
-    (tie.spec
-    Inv-loop
-    μ-loop
-    loop-holds
-    mul-if1
-    shared-slice-read-if1
-    mul-if1-2
-    shared-slice-read-if1-2
-    mul-if1-3
-    mul-if1-4
-    shared-slice-read-if1-3
-    mul-if1-5
-    shared-slice-read-if1-4
-    mul-if1-6
-    add-e
-    loop-less
-    loop-again
-    returns)
+    tie.close (tie.spec Inv-loop μ-loop loop-holds (λ c. omega arith) (λ c. omega arith) (λ c. omega arith)
+    (λ c. omega arith) mul-if1-3 (λ c. omega arith) (λ c. omega arith) (λ c. omega arith) (λ c. omega arith) mul-if1-6
+    (λ c. omega arith) (λ c. omega arith) loop-again returns)

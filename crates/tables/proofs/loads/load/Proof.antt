@@ -37,12 +37,6 @@ limit c = next-limit (entry c .pre) (c .before .loop .inv) (c .loop-test .taken)
 loop-holds : tie.Need-loop-holds Inv-loop μ-loop
 loop-holds c = raise-none (c .pre)
 
-mul-e : tie.Need-mul-e Inv-loop μ-loop
-mul-e c = omega arith
-
-shared-slice-read-e : tie.Need-shared-slice-read-e Inv-loop μ-loop
-shared-slice-read-e c = omega arith
-
 mul-y : tie.Need-mul-y Inv-loop μ-loop
 mul-y c = omega (arith, place (c .before))
 
@@ -67,12 +61,6 @@ shared-slice-read-if1 c = omega (arith, place (c .before .before .before), entry
 mul-if1-2 : tie.Need-mul-if1-2 Inv-loop μ-loop
 mul-if1-2 c = omega (arith, limit (c .before .before .before))
 
-add-j : tie.Need-add-j Inv-loop μ-loop
-add-j c = omega arith
-
-loop-less : tie.Need-loop-less Inv-loop μ-loop
-loop-less c = omega arith
-
 loop-again : tie.Need-loop-again Inv-loop μ-loop
 loop-again c =
     let turn = c .before .before .before .before in
@@ -81,31 +69,11 @@ loop-again c =
     (⊎-elim (λ w. w .1 ∙ (sym (or-true b) ∙ ap (λ x. b || x) (sym (le-leb _ _ (w .0 .taken)))))
     (λ w. w .1 ∙ (sym (or-false b) ∙ ap (λ x. b || x) (sym (lt-leb _ _ (w .0 .left))))) (c .if1 .came))
 
-same-length : tie.Need-same-length Inv-loop μ-loop
-same-length c = omega arith
-
 returns : tie.Need-returns Inv-loop μ-loop
 returns c = raise-all (c .before .loop .inv) (omega arith)
 
 pub load-spec : {M : Type 1} → statement M
 load-spec =
-    tie.close
-    (tie.spec
-    Inv-loop
-    μ-loop
-    loop-holds
-    mul-e
-    shared-slice-read-e
-    mul-y
-    slice-read-y
-    add-y
-    mul-loads
-    slice-write-loads
-    mul-if1
-    shared-slice-read-if1
-    mul-if1-2
-    add-j
-    loop-less
-    loop-again
-    same-length
-    returns)
+    tie.close (tie.spec Inv-loop μ-loop loop-holds (λ c. omega arith) (λ c. omega arith) mul-y slice-read-y add-y
+    mul-loads slice-write-loads mul-if1 shared-slice-read-if1 mul-if1-2 (λ c. omega arith) (λ c. omega arith) loop-again
+    (λ c. omega arith) returns)

@@ -1,4 +1,4 @@
--- `from` meets its contract: two limbs write a number of 64 bits. Assumes nothing.
+-- `arith::wide::Wide::from` meets its contract: two limbs write a number of 64 bits. Assumes nothing.
 use borrow.Author.Needs.{needs}
 use native.Mathlib.Omega.{arith}
 use Prim.Native.Nat.{_-_}
@@ -6,12 +6,6 @@ use Rattle.arith.specs.Limbs.{width}
 use Rattle.arith.proofs.Writing.{limbs-zeros, limbs-set, value-two}
 use Rattle.arith.proofs.wide.Wide.from.Statement.{statement}
 use Rattle.arith.proofs.wide.Wide.from.Tie as tie
-
-array-write-r : tie.Need-array-write-r
-array-write-r c = search needs
-
-array-write-r-2 : tie.Need-array-write-r-2
-array-write-r-2 c = search needs
 
 returns : tie.Need-returns
 returns c =
@@ -21,4 +15,5 @@ returns c =
     }
 
 pub from-spec : {M : Type 1} → statement M
-from-spec = tie.close (tie.spec array-write-r array-write-r-2 returns)
+from-spec =
+    tie.close (tie.spec (λ c. search needs) (λ c. search needs) returns)

@@ -1,4 +1,4 @@
--- `less` meets its contract. The invariant is `Level`: from place i up the two write the same.
+-- `arith::wide::Wide::less` meets its contract. The invariant is `Level`: from place i up the two write the same.
 -- Assumes nothing.
 use mathlib.Core.Path.{_≡_, sym}
 use Prim.Native.Nat.{suc, _≤_, _-_}
@@ -17,21 +17,6 @@ abbrev μ-loop : tie.MeasureT-loop
 loop-holds : tie.Need-loop-holds Inv-loop μ-loop
 loop-holds c = (omega arith, level-start (c .before .before .pre .0) (c .before .before .pre .1))
 
-sub-i : tie.Need-sub-i Inv-loop μ-loop
-sub-i c = omega arith
-
-mul-p : tie.Need-mul-p Inv-loop μ-loop
-mul-p c = omega arith
-
-array-read-p : tie.Need-array-read-p Inv-loop μ-loop
-array-read-p c = omega arith
-
-mul-q : tie.Need-mul-q Inv-loop μ-loop
-mul-q c = omega arith
-
-array-read-q : tie.Need-array-read-q Inv-loop μ-loop
-array-read-q c = omega arith
-
 -- The place that a turn looks at is one below i.
 above : (c : tie.In-loop Inv-loop μ-loop) → Level (c .before .before .before .before .args .self .limbs) (c .before .before .before .before .args .other .limbs) (suc (c .before .loop .i - 1))
 above c =
@@ -42,9 +27,6 @@ returns c =
     let p = c .before .before .before .before .before .pre in
     level-decides (p .0) (p .1) (above (c .before)) (c .if1 .taken)
 
-loop-less : tie.Need-loop-less Inv-loop μ-loop
-loop-less c = omega arith
-
 loop-again : tie.Need-loop-again Inv-loop μ-loop
 loop-again c = (omega arith, level-step (above (c .before)) (c .if1 .left))
 
@@ -54,17 +36,5 @@ returns-2 c =
 
 pub less-spec : {M : Type 1} → statement M
 less-spec =
-    tie.close
-    (tie.spec
-    Inv-loop
-    μ-loop
-    loop-holds
-    sub-i
-    mul-p
-    array-read-p
-    mul-q
-    array-read-q
-    returns
-    loop-less
-    loop-again
-    returns-2)
+    tie.close (tie.spec Inv-loop μ-loop loop-holds (λ c. omega arith) (λ c. omega arith) (λ c. omega arith)
+    (λ c. omega arith) (λ c. omega arith) returns (λ c. omega arith) loop-again returns-2)

@@ -1,4 +1,4 @@
--- `times` meets its contract: self * k is the product by the low limb of k, added to the product by its high limb, one place up.
+-- `arith::wide::Wide::times` meets its contract: self * k is the product by the low limb of k, added to the product by its high limb, one place up.
 -- Assumes nothing.
 use native.Mathlib.Omega.{arith}
 use Rattle.arith.specs.Limbs.{value}
@@ -6,9 +6,6 @@ use Rattle.arith.proofs.Products.{split-product}
 use borrow.Author.Needs.{needs}
 use Rattle.arith.proofs.wide.Wide.times.Statement.{statement}
 use Rattle.arith.proofs.wide.Wide.times.Tie as tie
-
-from-requires : tie.Need-from-requires
-from-requires c κs = search needs
 
 times-plus-requires : tie.Need-times-plus-requires
 times-plus-requires c κs =
@@ -35,5 +32,4 @@ returns c =
 
 pub times-spec : {M : Type 1} → statement M
 times-spec =
-    tie.close
-    (tie.spec from-requires times-plus-requires shifted-requires times-plus-requires-2 returns)
+    tie.close (tie.spec (λ c κs. search needs) times-plus-requires shifted-requires times-plus-requires-2 returns)

@@ -1,4 +1,4 @@
--- `times_plus` meets its contract. The invariant is `Carried`: i limbs of self * k + other stand in r, and one number is carried.
+-- `arith::wide::Wide::times_plus` meets its contract. The invariant is `Carried`: i limbs of self * k + other stand in r, and one number is carried.
 -- Assumes nothing.
 use Prim.Native.Nat.{_≤_, _<_, _-_, _^_}
 use native.Mathlib.Numerals.{add-one}
@@ -18,12 +18,6 @@ abbrev μ-loop : tie.MeasureT-loop
 loop-holds : tie.Need-loop-holds Inv-loop μ-loop
 loop-holds c = (omega arith, carried-start _ _ _)
 
-mul-t : tie.Need-mul-t Inv-loop μ-loop
-mul-t c = omega arith
-
-array-read-t : tie.Need-array-read-t Inv-loop μ-loop
-array-read-t c = omega arith
-
 -- The turn's number fits, and so do its parts.
 fits : (c : tie.In-loop Inv-loop μ-loop) → turn (getD (c .before .before .before .before .args .self .limbs) (c .before .loop .i) 0) (c .before .before .before .before .args .k) (getD (c .before .before .before .before .args .other .limbs) (c .before .loop .i) 0) (c .before .loop .carry) < 2 ^ 64
 fits c =
@@ -34,29 +28,11 @@ fits c =
 mul-t-2 : tie.Need-mul-t-2 Inv-loop μ-loop
 mul-t-2 c = omega (arith, fits c)
 
-mul-t-3 : tie.Need-mul-t-3 Inv-loop μ-loop
-mul-t-3 c = omega arith
-
-array-read-t-2 : tie.Need-array-read-t-2 Inv-loop μ-loop
-array-read-t-2 c = omega arith
-
 add-t : tie.Need-add-t Inv-loop μ-loop
 add-t c = omega (arith, fits c)
 
 add-t-2 : tie.Need-add-t-2 Inv-loop μ-loop
 add-t-2 c = omega (arith, fits c)
-
-mul-r : tie.Need-mul-r Inv-loop μ-loop
-mul-r c = omega arith
-
-array-write-r : tie.Need-array-write-r Inv-loop μ-loop
-array-write-r c = omega arith
-
-add-i : tie.Need-add-i Inv-loop μ-loop
-add-i c = omega arith
-
-loop-less : tie.Need-loop-less Inv-loop μ-loop
-loop-less c = omega arith
 
 loop-again : tie.Need-loop-again Inv-loop μ-loop
 loop-again c =
@@ -70,21 +46,6 @@ returns c =
 
 pub times-plus-spec : {M : Type 1} → statement M
 times-plus-spec =
-    tie.close
-    (tie.spec
-    Inv-loop
-    μ-loop
-    loop-holds
-    mul-t
-    array-read-t
-    mul-t-2
-    mul-t-3
-    array-read-t-2
-    add-t
-    add-t-2
-    mul-r
-    array-write-r
-    add-i
-    loop-less
-    loop-again
-    returns)
+    tie.close (tie.spec Inv-loop μ-loop loop-holds (λ c. omega arith) (λ c. omega arith) mul-t-2 (λ c. omega arith)
+    (λ c. omega arith) add-t add-t-2 (λ c. omega arith) (λ c. omega arith) (λ c. omega arith) (λ c. omega arith)
+    loop-again returns)

@@ -1,0 +1,77 @@
+#!/usr/bin/env bash
+# The pages agree with the tree: links lead to files; a name with its file in brackets stands in that file; and docs/READING.md has every
+# definition file that the contracts rest on, after those that it uses, with its number of lines and the sums. Listings and output that a page
+# quotes are those that other tests hold to the programs.
+set -u
+cd "$(dirname "$0")/.." || exit 2
+faults=0
+fault() { echo "docs: $*"; faults=$((faults + 1)); }
+
+# code lines of a definition file
+lines() { grep -vcE '^[[:space:]]*(--|use |$)' "$1"; }
+
+# definition files that a file uses, but for the types declared in code
+uses() { sed -nE '/\.declared\./d; s/^use Rattle·([a-z_]+)(·specs)?\.(specs|proofs)\.([A-Za-z]+)\..*/\1\/\3\/\4.antt/p' "$1"; }
+
+# "FILE NAME" for each name in `name` (crate/proofs/File), `name`, `name` and `name` (all crate/proofs/File), and with a comma for the bracket
+mentions() {
+    tr '\n' ' ' <"$1" | sed 's/  */ /g' |
+        grep -oE '(`[A-Za-z][A-Za-z-]*`(,| and| \(|;)? ?)+(both |all |and its neighbours, )?[a-z]+/(specs|proofs)/[A-Za-z]+' |
+        while read -r mention; do
+            for name in $(grep -oE '`[A-Za-z][A-Za-z-]*`' <<<"$mention" | tr -d '`'); do
+                echo "crates/${mention##*[ (]}.antt $name"
+            done
+        done
+}
+
+for page in README.md docs/*.md; do
+    for link in $(grep -oE '\]\([^)#:]+\)' "$page" | sed 's/^](//; s/)$//'); do
+        [ -e "$(dirname "$page")/$link" ] || fault "$page: no file $link"
+    done
+    for edit in $(grep -oE '[a-z_]+/must-fail/[a-z0-9_]+\.edit' "$page"); do
+        [ -e "crates/$edit" ] || fault "$page: no edit $edit"
+    done
+    while read -r file name; do
+        if [ ! -e "$file" ]; then
+            fault "$page: no file $file"
+        elif ! grep -qE "(^|[[:space:]])(record |data )?$name( [^=]*)? :" "$file"; then
+            fault "$page: $file states no $name"
+        fi
+    done < <(mentions "$page" | sort -u)
+done
+
+# every line of a file stands in the page, by itself
+quotes() {
+    while IFS= read -r line; do
+        sed 's/^    //' "$1" | grep -qxF -- "$line" || fault "$1: lacks the line $line of $2"
+    done < <(tr -d '\r' <"$2")
+}
+quotes README.md examples/two_docks.csv
+quotes README.md tests/floor.expected
+quotes docs/COURSE.md tests/one_by_one.expected
+for fraction in $(grep -oE '[0-9]{4,}/[0-9]+' docs/COURSE.md); do
+    cat examples/*.csv | tr -d '\r' | grep -qE ",${fraction/\//,}\$" || fault "docs/COURSE.md: no listing has $fraction"
+done
+
+page=docs/READING.md
+read_so_far=" " sum=0 sums=
+while IFS='|' read -r _ file count _; do
+    file=$(tr -d '` ' <<<"$file") count=$(tr -d ' ' <<<"$count")
+    [ -e "crates/$file" ] || { fault "$page: no file $file"; continue; }
+    [ "$(lines "crates/$file")" -eq "$count" ] || fault "$page: $file has $(lines "crates/$file") lines, not $count"
+    for used in $(uses "crates/$file"); do
+        case $read_so_far in
+        *" $used "*) ;;
+        *) [ "$used" = length/specs/Levels.antt ] || fault "$page: $file uses $used, which does not stand above it" ;;
+        esac
+    done
+    read_so_far="$read_so_far$file " sum=$((sum + count))
+    if [ "$file" = host/specs/Host.antt ]; then sums=$sum sum=0; fi
+done < <(grep -E '^\| `[a-z]+/specs/[A-Za-z]+\.antt` \| [0-9]+ \|' "$page")
+grep -q "$sums lines for .vithmork_solve. (sections 1 to 5), and $sum more" <(tr '\n' ' ' <"$page") || fault "$page: the sums are $sums and $sum"
+for contract in host/specs/Host report/specs/Listed records/specs/Records; do
+    case $read_so_far in *" $contract.antt "*) ;; *) fault "$page: lacks $contract" ;; esac
+done
+
+echo "docs: $(wc -w <<<"$read_so_far") definition files, $sums and $sum lines; $faults faults"
+[ "$faults" -eq 0 ]
