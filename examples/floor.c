@@ -49,7 +49,8 @@ int main(void)
         length, sizeof length, answer, sizeof answer, count, sizeof count);
     if (returned != VITHMORK_ACCEPTED) {
         vithmork_refusal refusal = vithmork_refused(returned);
-        printf("refused: number %u, place %u\n", refusal.number, refusal.place);
+        printf("refused: %u (%s), place %u\n", refusal.number, vithmork_word(refusal.number),
+               refusal.place);
         return 1;
     }
     print();

@@ -36,7 +36,8 @@ static double solve(size_t first, size_t number, double *carried)
         sizeof answer, count, sizeof count);
     if (returned != VITHMORK_ACCEPTED) {
         vithmork_refusal refusal = vithmork_refused(returned);
-        printf("refused: number %u, place %u\n", refusal.number, refusal.place);
+        printf("refused: %u (%s), place %u\n", refusal.number, vithmork_word(refusal.number),
+               refusal.place);
         exit(1);
     }
     for (size_t p = 0; p < number; p++)

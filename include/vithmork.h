@@ -110,6 +110,24 @@ static inline vithmork_refusal vithmork_refused(uint64_t returned)
     return refusal;
 }
 
+/* The trade's word for a refusal's number, to print beside it. */
+static inline const char *vithmork_word(unsigned number)
+{
+    switch (number) {
+    case VITHMORK_ACCEPTED: return "accepted";
+    case VITHMORK_REFUSED_STATIONS: return "stations";
+    case VITHMORK_REFUSED_BELTS: return "belts";
+    case VITHMORK_REFUSED_PAIRS: return "pairs";
+    case VITHMORK_REFUSED_PRECISION: return "precision";
+    case VITHMORK_REFUSED_SHORT_TABLE: return "short table";
+    case VITHMORK_REFUSED_LOOSE_BELT: return "loose belt";
+    case VITHMORK_REFUSED_CAPACITY: return "capacity";
+    case VITHMORK_REFUSED_LOOSE_PAIR: return "loose pair";
+    case VITHMORK_REFUSED_FULL_COUNT: return "full count";
+    default: return "unknown";
+    }
+}
+
 /* The number at a place, from 0, of a table: right whatever the host's byte order. */
 static inline uint64_t vithmork_get(const uint8_t *table, size_t place)
 {

@@ -1,7 +1,7 @@
 #!/usr/bin/env bash
-# Compiles the header as C99 and as C++17, and compares what each C example prints
-# with tests/NAME.expected. The figures there are the second solver's
-# (tests/second), not the library's.
+# Compiles the header as C99 and as C++17, compares what each C example prints with
+# tests/NAME.expected, whose figures are the second solver's (tests/second), not the
+# library's, and meets every refusal from C (tests/refusals.c).
 set -eu
 cd "$(dirname "$0")/.."
 tests/second/archive.sh
@@ -15,4 +15,6 @@ for program in examples/*.c; do
     cc -std=c99 $strict -o "$made/$name" "$program" target/staticlib/libhost.a
     "$made/$name" | diff "tests/$name.expected" -
 done
-echo "c_example: the header is C99 and C++17, and the examples print what they should"
+cc -std=c99 $strict -o "$made/refusals" tests/refusals.c target/staticlib/libhost.a
+"$made/refusals"
+echo "c_example: the header is C99 and C++17, the examples print what they should, and refusals read as they should"

@@ -11,9 +11,9 @@ use Rattle.method.proofs.Reached.{reached-start}
 use Rattle.method.proofs.Sized.{reached-sizes}
 use Rattle.tables.specs.Calls.{Weighing}
 use Rattle.tables.specs.Tables.{weightOf}
-use Rattle.solver.specs.declared.steps.Progress.{Progress}
+use Rattle.step.specs.declared.Progress.{Progress}
 use Rattle.solver.specs.Noted.{Noted}
-use Rattle.solver.specs.Progress.{stateOf, begun, begunWith}
+use Rattle.step.specs.Progress.{stateOf, begun, begunWith}
 use Rattle.solver.specs.Runs.{Lent}
 use Rattle.solver.proofs.Noted.{weight-same}
 use Rattle.solver.proofs.Running.{Running, running-start}

@@ -10,11 +10,11 @@ use Rattle.method.specs.Choice.{choice, choiceOf}
 use Rattle.method.specs.Iteration.{State, iteration, advance}
 use Rattle.method.specs.Run.{ended}
 use Rattle.method.proofs.Times.{update-length}
-use Rattle.solver.specs.declared.steps.Progress.{Progress}
-use Rattle.solver.specs.Progress.{stateOf}
+use Rattle.step.specs.declared.Progress.{Progress}
+use Rattle.step.specs.Progress.{stateOf}
 use Rattle.solver.specs.Noted.{Iterated}
 use Rattle.solver.specs.Runs.{Lent}
-use Rattle.solver.specs.Steps.{Stepped}
+use Rattle.step.specs.Steps.{Stepped}
 use Rattle.solver.proofs.Chosen.{iteration-is}
 use Rattle.solver.proofs.Noted.{weight-same}
 use Rattle.solver.proofs.OfCapacities.{advance-same}

@@ -9,4 +9,3 @@ pub mod Ready
 pub mod Running
 pub mod Same
 pub mod Solving
-pub mod Stepped

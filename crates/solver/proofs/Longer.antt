@@ -14,7 +14,7 @@ use Rattle.length.specs.Length.{growth}
 use Rattle.method.proofs.Times.{update-length}
 use Rattle.choice.specs.Below.{Below}
 use Rattle.choice.proofs.Bounds.{below-grown, below-zero}
-use Rattle.solver.specs.Progress.{ofCapacities, longer, halves}
+use Rattle.step.specs.Progress.{ofCapacities, longer, halves}
 
 -- A store of no less leaves no number less,
 set-least : (xs : List ℕ) (e v j : ℕ) → getD xs e 0 ≤ v → getD xs j 0 ≤ getD (set xs e v) j 0

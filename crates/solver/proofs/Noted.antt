@@ -16,11 +16,11 @@ use Rattle.method.specs.Iteration.{State, weight}
 use Rattle.method.specs.Run.{ended}
 use Rattle.method.proofs.Instance.{seen}
 use Rattle.method.proofs.Reached.{Reached}
-use Rattle.solver.specs.declared.steps.Progress.{Progress}
-use Rattle.solver.specs.Progress.{ofCapacities}
+use Rattle.step.specs.declared.Progress.{Progress}
+use Rattle.step.specs.Progress.{ofCapacities}
 use Rattle.solver.specs.Noted.{Noted}
 use Rattle.solver.specs.Runs.{Lent}
-use Rattle.solver.specs.Steps.{Kept}
+use Rattle.step.specs.Steps.{Kept}
 use Rattle.solver.proofs.Running.{ended-is}
 
 -- D by the capacities alone.

@@ -5,7 +5,7 @@ use lib.ListN.{length}
 use Rattle.network.specs.Network.{Network, arcs}
 use Rattle.method.specs.Choice.{Choice}
 use Rattle.method.specs.Iteration.{State, weight, grown, settled, advance}
-use Rattle.solver.specs.Progress.{ofCapacities}
+use Rattle.step.specs.Progress.{ofCapacities}
 
 pub advance-same : (net : Network) (q : ℕ) (c : Choice) (s : State) → length (net .capacities) ≡ arcs net →
     advance (ofCapacities (net .capacities)) q c s ≡ advance net q c s

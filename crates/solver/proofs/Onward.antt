@@ -7,9 +7,9 @@ use Rattle.network.specs.Network.{Network}
 use Rattle.network.specs.Sound.{Sound}
 use Rattle.method.specs.Iteration.{State}
 use Rattle.method.specs.Run.{run}
-use Rattle.solver.specs.declared.steps.Progress.{Progress}
+use Rattle.step.specs.declared.Progress.{Progress}
 use Rattle.solver.specs.Noted.{Noted, Iterated}
-use Rattle.solver.specs.Progress.{stateOf}
+use Rattle.step.specs.Progress.{stateOf}
 use Rattle.solver.specs.Runs.{Chooses}
 use Rattle.solver.proofs.Running.{left, Running, running-less, running-last, running-next}
 

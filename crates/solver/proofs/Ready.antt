@@ -22,8 +22,8 @@ use Rattle.method.proofs.Reached.{Reached, Valid, chosen-at, fair}
 use Rattle.method.proofs.Sized.{reached-sizes, grown-sizes}
 use Rattle.method.proofs.Times.{update-length}
 use Rattle.tables.specs.Calls.{Settling}
-use Rattle.solver.specs.Progress.{longer}
-use Rattle.solver.specs.Steps.{Stepping}
+use Rattle.step.specs.Progress.{longer}
+use Rattle.step.specs.Steps.{Stepping}
 use Rattle.solver.specs.Runs.{Lent}
 use Rattle.tables.specs.Tables.{Under, Capacities}
 use Rattle.tables.proofs.OnPath.{draw-at, draw-most, below-under}

@@ -15,8 +15,8 @@ use Rattle.method.specs.Run.{run}
 use Rattle.method.proofs.Ends.{final-sizes}
 use Rattle.method.proofs.Guaranteed.{guarantee}
 use Rattle.tables.specs.Calls.{Ranking}
-use Rattle.solver.specs.declared.steps.Progress.{Progress}
-use Rattle.solver.specs.Progress.{stateOf, begun}
+use Rattle.step.specs.declared.Progress.{Progress}
+use Rattle.step.specs.Progress.{stateOf, begun}
 use Rattle.solver.specs.Runs.{Lent, Chooses}
 use Rattle.solver.specs.Solved.{Sized, Solved, answerOf, noAnswer}
 

@@ -6,8 +6,8 @@ use Rattle.length.specs.Level.{threshold}
 use Rattle.network.specs.Network.{Network, arcs}
 use Rattle.method.specs.Iteration.{State, weight, iteration}
 use Rattle.method.specs.Run.{ended}
-use Rattle.solver.specs.declared.steps.Progress.{Progress}
-use Rattle.solver.specs.Progress.{stateOf}
+use Rattle.step.specs.declared.Progress.{Progress}
+use Rattle.step.specs.Progress.{stateOf}
 
 -- What is noted beside the state: T, and D of the lengths.
 pub record Noted (net : Network) (q t : ℕ) (lengths : List ℕ) (p : Progress) : Type 0 where

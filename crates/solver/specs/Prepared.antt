@@ -6,7 +6,7 @@ use Rattle.network.specs.Network.{Network}
 use Rattle.method.specs.Iteration.{initial}
 use Rattle.choice.specs.Below.{Below}
 use Rattle.choice.specs.Search.{bare}
-use Rattle.solver.specs.Progress.{stateOf, begun}
+use Rattle.step.specs.Progress.{stateOf, begun}
 
 -- Room for the lists of the arcs at each node: a first arc for each node number, and a next arc for each arc.
 pub record Lists (firsts nexts : ℕ) : Type 0 where

@@ -7,7 +7,7 @@ use Rattle.network.specs.Network.{Network, arcs, commodities}
 use Rattle.method.specs.Answer.{outcome}
 use Rattle.method.specs.Guarantee.{Guarantee}
 use Rattle.method.specs.declared.Answer.{Answer}
-use Rattle.solver.specs.declared.steps.Progress.{Progress}
+use Rattle.step.specs.declared.Progress.{Progress}
 
 -- Tables of just the size that the outcome has, and a bound for each commodity.
 pub record Sized (net : Network) (flow kept loads lengths bounds : List ℕ) : Type 0 where

@@ -1,6 +1,5 @@
 // One iteration on the lent tables of numbers.
-use crate::steps;
-use crate::steps::Progress;
+use step::Progress;
 use tables::loads;
 ghost use mathlib.Core.Bool.{cond};
 ghost use mathlib.Core.Path.{_≡_};
@@ -10,7 +9,7 @@ ghost use Rattle.choice.specs.Below.{Below};
 ghost use Rattle.paths.specs.Links.{Linked};
 ghost use Rattle.choice.specs.Search.{bare};
 ghost use Rattle.solver.specs.Noted.{Noted, Iterated};
-ghost use Rattle.solver.specs.Progress.{stateOf};
+ghost use Rattle.step.specs.Progress.{stateOf};
 ghost use Rattle.solver.specs.Runs.{networkOf, Lent, Space, Chooses};
 
 // The bounds of the distances, 0 again where the lengths were halved: only then can a distance fall.
@@ -78,7 +77,7 @@ pub fn iterate(
     let commodity = c.commodity;
     let arcs = c.arcs;
     let alpha = c.distance;
-    let r = steps::step(
+    let r = step::step(
         q,
         threshold,
         capacities,

@@ -3,4 +3,3 @@ pub mod iterations;
 pub mod outcomes;
 pub mod runs;
 pub mod solves;
-pub mod steps;

@@ -1,7 +1,7 @@
 // The outcome from the tables of the start: no answer where no commodity is joined, else that of the run.
 use crate::runs;
-use crate::steps::Progress;
 use method::Answer;
+use step::Progress;
 use tables::loads;
 ghost use mathlib.Core.Path.{_≡_};
 ghost use Prim.Native.Nat.{_-_};

@@ -1,6 +1,6 @@
 // The run: iterations until some load is at the threshold, on lent tables of numbers.
 use crate::iterations::iterate;
-use crate::steps::Progress;
+use step::Progress;
 use tables::lengths;
 ghost use mathlib.Core.Path.{_≡_};
 ghost use lib.ListN.{length};
@@ -11,7 +11,7 @@ ghost use Rattle.paths.specs.Links.{Linked};
 ghost use Rattle.choice.specs.Search.{bare};
 ghost use Rattle.tables.specs.Calls.{Weighing};
 ghost use Rattle.tables.specs.Tables.{weightOf};
-ghost use Rattle.solver.specs.Progress.{stateOf, begun, begunWith};
+ghost use Rattle.step.specs.Progress.{stateOf, begun, begunWith};
 ghost use Rattle.solver.specs.Runs.{networkOf, Lent, Space, Chooses};
 
 // Nothing drawn yet, the least fraction 1 over 0, and D of the first lengths.

@@ -10,7 +10,7 @@ use lib.Seq.{length-take-le}
 use Rattle.network.specs.Network.{Network}
 use Rattle.method.specs.Iteration.{State}
 use Rattle.choice.specs.Chose.{Picked}
-use Rattle.solver.specs.Progress.{stateOf}
+use Rattle.step.specs.Progress.{stateOf}
 use Rattle.solver.specs.Runs.{networkOf}
 use Rattle.solver.proofs.Chosen.{surveyed, fronted, picks}
 use Rattle.solver.proofs.Iterated.{iterated}

@@ -1,7 +1,7 @@
 -- `solver::runs::begin` meets its contract. Assumes nothing.
 use borrow.Author.Needs.{needs}
 use mathlib.Core.Path.{ap}
-use Rattle.solver.specs.Progress.{begunWith}
+use Rattle.step.specs.Progress.{begunWith}
 use Rattle.solver.proofs.runs.begin.Statement.{statement}
 use Rattle.solver.proofs.runs.begin.Tie as tie
 

@@ -8,7 +8,7 @@ use Rattle.method.specs.Iteration.{State}
 use Rattle.choice.specs.Below.{Below}
 use Rattle.choice.specs.Search.{bare}
 use Rattle.solver.specs.Noted.{Noted, Iterated}
-use Rattle.solver.specs.Progress.{stateOf}
+use Rattle.step.specs.Progress.{stateOf}
 use Rattle.solver.specs.Runs.{networkOf}
 use Rattle.solver.proofs.Begun.{begin-weighing, begin-noted, begin-running}
 use Rattle.solver.proofs.Onward.{onward-less, onward-last, onward-running, onward-noted}

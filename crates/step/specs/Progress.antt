@@ -7,7 +7,7 @@ use Rattle.length.specs.Length.{growth}
 use Rattle.network.specs.Network.{Network}
 use Rattle.method.specs.Iteration.{State, draw, update}
 use Rattle.tables.specs.Tables.{atMark}
-use Rattle.solver.specs.declared.steps.Progress.{Progress}
+use Rattle.step.specs.declared.Progress.{Progress}
 
 -- The state that the tables and the numbers hold.
 abbrev pub stateOf : List ℕ → List ℕ → List ℕ → List ℕ → Progress → State

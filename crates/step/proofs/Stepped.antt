@@ -16,9 +16,9 @@ use Rattle.method.proofs.Times.{update-length}
 use Rattle.tables.specs.declared.lengths.Grown.{Grown}
 use Rattle.tables.specs.Results.{Grew, Settled, Loaded}
 use Rattle.tables.specs.Tables.{weightOf, atThreshold}
-use Rattle.solver.specs.declared.steps.Progress.{Progress}
-use Rattle.solver.specs.Progress.{stateOf, ofCapacities, counted, longer, halves}
-use Rattle.solver.specs.Steps.{Stepped}
+use Rattle.step.specs.declared.Progress.{Progress}
+use Rattle.step.specs.Progress.{stateOf, ofCapacities, counted, longer, halves}
+use Rattle.step.specs.Steps.{Stepped}
 
 -- That some grown length is at the mark is the method's own test.
 pub halves-is :

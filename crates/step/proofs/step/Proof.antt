@@ -1,11 +1,11 @@
--- `solver::steps::step` meets its contract: its parts are those of the method's step. Assumes nothing.
+-- `step::step` meets its contract: its parts are those of the method's step. Assumes nothing.
 use borrow.Author.Needs.{needs}
 use denote.Ref.{now}
 use native.Mathlib.Omega.{arith}
 use Rattle.method.specs.Iteration.{weight}
-use Rattle.solver.proofs.Stepped.{put-together}
-use Rattle.solver.proofs.steps.step.Statement.{statement}
-use Rattle.solver.proofs.steps.step.Tie as tie
+use Rattle.step.proofs.Stepped.{put-together}
+use Rattle.step.proofs.step.Statement.{statement}
+use Rattle.step.proofs.step.Tie as tie
 
 load-requires : tie.Need-load-requires
 load-requires c κs =

@@ -6,8 +6,8 @@ ghost use mathlib.Core.Bool.{cond};
 ghost use mathlib.Core.Path.{_≡_};
 ghost use Prim.Native.Nat.{_+_, _<_, _^_};
 ghost use lib.ListN.{length};
-ghost use Rattle.solver.specs.Progress.{stateOf, counted};
-ghost use Rattle.solver.specs.Steps.{Stepping, Kept, Stepped};
+ghost use Rattle.step.specs.Progress.{stateOf, counted};
+ghost use Rattle.step.specs.Steps.{Stepping, Kept, Stepped};
 
 // The drawn total, the count of iterations, and D, alpha and number of the iteration of the least D / alpha so far. Beside these numbers of the
 // method's state, what would else be read off whole tables: D of the present lengths, whether the last iteration halved them, and whether some

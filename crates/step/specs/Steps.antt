@@ -9,8 +9,8 @@ use Rattle.method.specs.Choice.{choiceOf}
 use Rattle.method.specs.Iteration.{State, weight, draw, advance}
 use Rattle.tables.specs.Calls.{Growing, Settling, Adding, Ending}
 use Rattle.tables.specs.Tables.{atThreshold}
-use Rattle.solver.specs.declared.steps.Progress.{Progress}
-use Rattle.solver.specs.Progress.{stateOf, ofCapacities, longer, halves}
+use Rattle.step.specs.declared.Progress.{Progress}
+use Rattle.step.specs.Progress.{stateOf, ofCapacities, longer, halves}
 
 -- What a step asks.
 pub record Stepping (capacities : List ℕ) (q commodity : ℕ) (path : List ℕ) (a : ℕ) (s : State) : Type 0 where

@@ -1,8 +1,8 @@
--- `solver::steps::count` meets its contract: the two ways of the branch are the two cases of the definition. Assumes nothing.
+-- `step::count` meets its contract: the two ways of the branch are the two cases of the definition. Assumes nothing.
 use borrow.Author.Needs.{needs}
 use mathlib.Core.Path.{refl}
-use Rattle.solver.proofs.steps.count.Statement.{statement}
-use Rattle.solver.proofs.steps.count.Tie as tie
+use Rattle.step.proofs.count.Statement.{statement}
+use Rattle.step.proofs.count.Tie as tie
 
 returns : tie.Need-returns
 returns c = rw (c .before .if1 .taken) refl

@@ -1,0 +1,109 @@
+/* Every refusal that the call knows, as a C program meets it: number, place and
+ * word, and no byte changed. Exits with 1 at the first that is otherwise. */
+#include "vithmork.h"
+
+#include <stdio.h>
+#include <string.h>
+
+enum { STATIONS = 3, BELTS = 2, PAIRS = 2, PRECISION = 4 };
+
+/* All that is lent, sound at first: each case spoils one part. */
+typedef struct {
+    uint64_t n, q;
+    size_t belts_len, pairs_len, flow_len, length_len, answer_len, count_len;
+    uint8_t belts[VITHMORK_BELTS_BYTES(VITHMORK_MAX_BELTS + 1)];
+    uint8_t pairs[VITHMORK_PAIRS_BYTES(VITHMORK_MAX_PAIRS + 1)];
+    uint8_t flow[VITHMORK_FLOW_BYTES(PAIRS, BELTS)];
+    uint8_t length[VITHMORK_LENGTH_BYTES(BELTS)];
+    uint8_t answer[VITHMORK_ANSWER_BYTES];
+    uint8_t count[VITHMORK_COUNT_BYTES];
+} lent;
+
+static lent sound(void)
+{
+    lent l;
+    memset(&l, 9, sizeof l);
+    l.n = STATIONS;
+    l.q = PRECISION;
+    l.belts_len = VITHMORK_BELTS_BYTES(BELTS);
+    l.pairs_len = VITHMORK_PAIRS_BYTES(PAIRS);
+    l.flow_len = sizeof l.flow;
+    l.length_len = sizeof l.length;
+    l.answer_len = sizeof l.answer;
+    l.count_len = sizeof l.count;
+    vithmork_put_belt(l.belts, 0, 1, 2, 600);
+    vithmork_put_belt(l.belts, 1, 2, 3, 400);
+    vithmork_put_pair(l.pairs, 0, 1, 3);
+    vithmork_put_pair(l.pairs, 1, 2, 3);
+    vithmork_put(l.count, 0, 0);
+    return l;
+}
+
+static uint64_t solve(lent *l)
+{
+    return vithmork_solve(l->n, l->q, l->belts, l->belts_len, l->pairs, l->pairs_len, l->flow,
+                          l->flow_len, l->length, l->length_len, l->answer, l->answer_len,
+                          l->count, l->count_len);
+}
+
+static int failed;
+
+static void expect(lent l, unsigned number, unsigned place, const char *word)
+{
+    lent before = l;
+    vithmork_refusal refusal = vithmork_refused(solve(&l));
+    if (refusal.number != number || refusal.place != place ||
+        strcmp(vithmork_word(refusal.number), word) != 0 || memcmp(&l, &before, sizeof l) != 0) {
+        printf("refusals: %u (%s), place %u, where %u (%s), place %u is due\n", refusal.number,
+               vithmork_word(refusal.number), refusal.place, number, word, place);
+        failed = 1;
+    }
+}
+
+int main(void)
+{
+    lent l = sound();
+    if (solve(&l) != VITHMORK_ACCEPTED || strcmp(vithmork_word(VITHMORK_ACCEPTED), "accepted") != 0 ||
+        vithmork_get(l.count, 0) != vithmork_get(l.answer, VITHMORK_CHOICES))
+        failed = 1;
+    l = sound();
+    l.n = VITHMORK_MAX_STATIONS + 1;
+    expect(l, VITHMORK_REFUSED_STATIONS, 0, "stations");
+    l = sound();
+    l.belts_len = VITHMORK_BELTS_BYTES(1) - 1;
+    expect(l, VITHMORK_REFUSED_BELTS, 0, "belts");
+    l = sound();
+    l.belts_len = sizeof l.belts;
+    expect(l, VITHMORK_REFUSED_BELTS, 0, "belts");
+    l = sound();
+    l.pairs_len = sizeof l.pairs;
+    expect(l, VITHMORK_REFUSED_PAIRS, 0, "pairs");
+    l = sound();
+    l.q = VITHMORK_MIN_PRECISION - 1;
+    expect(l, VITHMORK_REFUSED_PRECISION, 0, "precision");
+    l = sound();
+    l.flow_len--;
+    expect(l, VITHMORK_REFUSED_SHORT_TABLE, 0, "short table");
+    l = sound();
+    l.length_len--;
+    expect(l, VITHMORK_REFUSED_SHORT_TABLE, 0, "short table");
+    l = sound();
+    l.answer_len--;
+    expect(l, VITHMORK_REFUSED_SHORT_TABLE, 0, "short table");
+    l = sound();
+    l.count_len--;
+    expect(l, VITHMORK_REFUSED_SHORT_TABLE, 0, "short table");
+    l = sound();
+    vithmork_put_belt(l.belts, 1, 3, 3, VITHMORK_MAX_CAPACITY + 1);
+    expect(l, VITHMORK_REFUSED_LOOSE_BELT, 2, "loose belt");
+    l = sound();
+    vithmork_put_belt(l.belts, 1, 2, 3, VITHMORK_MAX_CAPACITY + 1);
+    expect(l, VITHMORK_REFUSED_CAPACITY, 2, "capacity");
+    l = sound();
+    vithmork_put_pair(l.pairs, 0, 1, 4);
+    expect(l, VITHMORK_REFUSED_LOOSE_PAIR, 1, "loose pair");
+    l = sound();
+    vithmork_put(l.count, 0, ((uint64_t)1 << 63) + 1);
+    expect(l, VITHMORK_REFUSED_FULL_COUNT, 0, "full count");
+    return failed;
+}
