@@ -8,6 +8,7 @@ use Rattle.network.specs.Network.{Network}
 use Rattle.network.specs.Path.{pathLength}
 use Rattle.method.specs.Choice.{choiceOf, choice}
 use Rattle.paths.specs.Far.{far}
+use Rattle.choice.specs.Below.{Below}
 use Rattle.choice.specs.declared.Selected.{Selected}
 
 -- The commodity and the first entries of the table of arcs are the choice, from 1 to 63 arcs, and the distance is alpha, their length.
@@ -22,3 +23,8 @@ pub record Chose (net : Network) (l : List ℕ) (r : Selected) (path : List ℕ)
   pub capped : r .distance ≤ far
   pub nothing : r .distance ≡ far → choice net l ≡ none
   pub something : r .distance < far → Picked net l r path
+
+-- And all that it leaves: the choice, and bounds that hold by the lengths as they are.
+pub record Left (net : Network) (l : List ℕ) (r : Selected) (path bounds : List ℕ) : Type 0 where
+  pub chose : Chose net l r path
+  pub below : Below net l bounds

@@ -1,4 +1,5 @@
 pub mod Below
+pub mod Calls
 pub mod Chose
 pub mod Closest
 pub mod Least

@@ -3,13 +3,11 @@
 use paths::search::distances;
 ghost use Prim.Native.Nat.{_≤_};
 ghost use lib.ListN.{length};
-ghost use Rattle.choice.specs.Below.{Below};
+ghost use Rattle.choice.specs.Calls.{Nearing};
 ghost use Rattle.choice.specs.Closest.{Closest};
-ghost use Rattle.paths.specs.Frontier.{Frontier};
 ghost use Rattle.choice.specs.Least.{Least};
-ghost use Rattle.paths.specs.Links.{Linked};
 ghost use Rattle.choice.specs.Raised.{Raising, Raised};
-ghost use Rattle.choice.specs.Search.{bare, Survey};
+ghost use Rattle.choice.specs.Search.{bare};
 
 // The lowest-numbered commodity of least bound.
 fn least(bounds: &[u64]) -> usize
@@ -58,11 +56,7 @@ pub fn nearest(
     front: &mut [u64],
     listed: &mut [u64],
 ) -> usize
-    requires survey { ⌜ Survey (bare n (now tails) (now heads) (now sources) (now sinks)) (now lengths) (length (now dist)) ⌝ }
-    requires some { ⌜ 1 ≤ length (now sources) ⌝ }
-    requires links { ⌜ Linked (now heads) n (now «first_in») (now «next_in») ⌝ }
-    requires room { ⌜ Frontier n (length (now front)) (length (now listed)) ⌝ }
-    requires below { ⌜ Below (bare n (now tails) (now heads) (now sources) (now sinks)) (now lengths) (now bounds) ⌝ }
+    requires { ⌜ Nearing (bare n (now tails) (now heads) (now sources) (now sinks)) (now lengths) (now «first_in») (now «next_in») (now bounds) (length (now dist)) (length (now front)) (length (now listed)) ⌝ }
     ensures { λ r. ⌜ Closest (bare n (now (tails .entry)) (now (heads .entry)) (now (sources .entry)) (now (sinks .entry))) (now (lengths .entry)) (now (bounds .exit)) (now (dist .exit)) r ⌝ }
 {
     let mut i = least(bounds);

@@ -4,13 +4,10 @@ mod lazy;
 use crate::lazy::nearest;
 use paths::greedy::walk;
 use paths::search::FAR;
-ghost use Prim.Native.Nat.{_≤_};
 ghost use lib.ListN.{length};
-ghost use Rattle.choice.specs.Below.{Below};
-ghost use Rattle.choice.specs.Chose.{Chose};
-ghost use Rattle.paths.specs.Frontier.{Frontier};
-ghost use Rattle.paths.specs.Links.{Linked};
-ghost use Rattle.choice.specs.Search.{bare, Search};
+ghost use Rattle.choice.specs.Calls.{Choosing};
+ghost use Rattle.choice.specs.Chose.{Left};
+ghost use Rattle.choice.specs.Search.{bare};
 
 // What is chosen: the commodity, how many arcs its path has, and how long it is; the distance is FAR where no commodity is joined.
 pub struct Selected {
@@ -38,14 +35,8 @@ pub fn choose(
     listed: &mut [u64],
     path: &mut [u64],
 ) -> Selected
-    requires search { ⌜ Search (bare n (now tails) (now heads) (now sources) (now sinks)) (now lengths) (length (now dist)) (length (now path)) ⌝ }
-    requires some { ⌜ 1 ≤ length (now sources) ⌝ }
-    requires into { ⌜ Linked (now heads) n (now «first_in») (now «next_in») ⌝ }
-    requires out { ⌜ Linked (now tails) n (now «first_out») (now «next_out») ⌝ }
-    requires room { ⌜ Frontier n (length (now front)) (length (now listed)) ⌝ }
-    requires below { ⌜ Below (bare n (now tails) (now heads) (now sources) (now sinks)) (now lengths) (now bounds) ⌝ }
-    ensures chose { λ r. ⌜ Chose (bare n (now (tails .entry)) (now (heads .entry)) (now (sources .entry)) (now (sinks .entry))) (now (lengths .entry)) r (now (path .exit)) ⌝ }
-    ensures below { λ r. ⌜ Below (bare n (now (tails .entry)) (now (heads .entry)) (now (sources .entry)) (now (sinks .entry))) (now (lengths .entry)) (now (bounds .exit)) ⌝ }
+    requires { ⌜ Choosing (bare n (now tails) (now heads) (now sources) (now sinks)) (now lengths) (now «first_in») (now «next_in») (now «first_out») (now «next_out») (now bounds) (length (now dist)) (length (now front)) (length (now listed)) (length (now path)) ⌝ }
+    ensures { λ r. ⌜ Left (bare n (now (tails .entry)) (now (heads .entry)) (now (sources .entry)) (now (sinks .entry))) (now (lengths .entry)) r (now (path .exit)) (now (bounds .exit)) ⌝ }
 {
     let i = nearest(
         n,

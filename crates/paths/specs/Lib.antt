@@ -1,3 +1,4 @@
+pub mod Calls
 pub mod Distances
 pub mod Far
 pub mod Frontier

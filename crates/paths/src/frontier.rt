@@ -1,14 +1,12 @@
 // The list of a search: the first entries of front, size of them in any order, are the nodes on it; listed has a 1 for each of them and a 0 for
 // the others. n, the number of nodes, is taken for the contracts.
-ghost use Prim.Native.Nat.{ℕ, _≤_, _<_};
-ghost use lib.ListN.{length, getD};
+ghost use Prim.Native.Nat.{_≤_, _<_};
+ghost use Rattle.paths.specs.Calls.{Nearing};
 ghost use Rattle.paths.specs.Listing.{Listing, Enlisted, TakenOut};
 
 // The place on the list of a node with the least entry of dist. Any place would give the same distances: the nearest first gives them fast.
 pub fn nearest(front: &[u64], size: usize, dist: &[u64]) -> usize
-    requires some { ⌜ 0 < size ⌝ }
-    requires within { ⌜ size ≤ length (now front) ⌝ }
-    requires nodes { ⌜ ((i : ℕ) → i < size → getD (now front) i 0 < length (now dist)) ⌝ }
+    requires { ⌜ Nearing (now front) size (now dist) ⌝ }
     ensures { λ r. ⌜ r < size ⌝ }
 {
     let mut at = 0;

@@ -1,9 +1,8 @@
 // The greedy walk: from a node over the lowest-numbered arc that keeps to a shortest path, until the sink.
 // n, the number of nodes, is taken for the contracts, which speak of the network. first_out and next_out are the lists of arcs out of each node.
-ghost use Prim.Native.Nat.{_≤_};
 ghost use lib.ListN.{length};
-ghost use Rattle.paths.specs.Far.{far};
-ghost use Rattle.paths.specs.Graph.{graph, Fit, Capped};
+ghost use Rattle.paths.specs.Calls.{Leaving};
+ghost use Rattle.paths.specs.Graph.{graph};
 ghost use Rattle.paths.specs.Links.{Linked};
 ghost use Rattle.paths.specs.Tight.{Tight};
 ghost use Rattle.paths.specs.Walked.{Walkable, Walked};
@@ -19,10 +18,7 @@ fn tight(
     dist: &[u64],
     v: u64,
 ) -> usize
-    requires fit { ⌜ Fit (graph n (now tails) (now heads)) (now lengths) (length (now dist)) ⌝ }
-    requires links { ⌜ Linked (now tails) n (now «first_out») (now «next_out») ⌝ }
-    requires capped { ⌜ Capped (graph n (now tails) (now heads)) (now dist) far ⌝ }
-    requires node { ⌜ v ≤ n ⌝ }
+    requires { ⌜ Leaving (graph n (now tails) (now heads)) (now lengths) (now «first_out») (now «next_out») (now dist) v ⌝ }
     ensures { λ r. ⌜ Tight (graph n (now (tails .entry)) (now (heads .entry))) (now (lengths .entry)) (now (dist .entry)) v r ⌝ }
 {
     let d = dist[v as usize];

@@ -1,22 +1,17 @@
 // Relaxation: of one arc, and of all arcs into a node.
 // n, the number of nodes, and the sink are taken for the contracts, which speak of the network and of the search.
 use crate::frontier::enlist;
-ghost use mathlib.Core.Path.{_≡_};
-ghost use Prim.Native.Nat.{_+_, _≤_, _<_};
+ghost use Prim.Native.Nat.{_+_, _<_};
 ghost use lib.ListN.{length};
-ghost use Rattle.paths.specs.Far.{far};
-ghost use Rattle.paths.specs.Graph.{graph, Fit, Capped};
-ghost use Rattle.paths.specs.Links.{Linked};
-ghost use Rattle.paths.specs.Relax.{shortens, relaxed};
+ghost use Rattle.paths.specs.Calls.{Relaxing, Entering};
+ghost use Rattle.paths.specs.Graph.{graph};
+ghost use Rattle.paths.specs.Relax.{Relaxed};
 ghost use Rattle.paths.specs.Searching.{Searching, Spread};
 
 // The way over arc e is taken where it is shorter; whether it is.
 fn relax(n: u64, tails: &[u64], heads: &[u64], lengths: &[u64], e: usize, dist: &mut [u64]) -> bool
-    requires fit { ⌜ Fit (graph n (now tails) (now heads)) (now lengths) (length (now dist)) ⌝ }
-    requires arc { ⌜ e < length (now tails) ⌝ }
-    requires capped { ⌜ Capped (graph n (now tails) (now heads)) (now dist) far ⌝ }
-    ensures shortens { λ r. ⌜ r ≡ shortens (graph n (now (tails .entry)) (now (heads .entry))) (now (lengths .entry)) (now (dist .entry)) e ⌝ }
-    ensures relaxed { λ r. ⌜ now (dist .exit) ≡ relaxed (graph n (now (tails .entry)) (now (heads .entry))) (now (lengths .entry)) (now (dist .entry)) e ⌝ }
+    requires { ⌜ Relaxing (graph n (now tails) (now heads)) (now lengths) e (now dist) ⌝ }
+    ensures { λ r. ⌜ Relaxed (graph n (now (tails .entry)) (now (heads .entry))) (now (lengths .entry)) e (now (dist .entry)) r (now (dist .exit)) ⌝ }
 {
     let v = tails[e] as usize;
     let w = heads[e] as usize;
@@ -67,9 +62,7 @@ pub fn relax_into(
     listed: &mut [u64],
     size: usize,
 ) -> usize
-    requires searching { ⌜ Searching (graph n (now tails) (now heads)) (now lengths) sink v 0 (now dist) (now front) (now listed) size ⌝ }
-    requires links { ⌜ Linked (now heads) n (now «first_in») (now «next_in») ⌝ }
-    requires node { ⌜ v ≤ n ⌝ }
+    requires { ⌜ Entering (graph n (now tails) (now heads)) (now lengths) (now «first_in») (now «next_in») sink v (now dist) (now front) (now listed) size ⌝ }
     ensures { λ r. ⌜ Spread (graph n (now (tails .entry)) (now (heads .entry))) (now (lengths .entry)) sink v (length (now (tails .entry))) (now (dist .entry)) size (now (dist .exit)) (now (front .exit)) (now (listed .exit)) r ⌝ }
 {
     let mut count = size;

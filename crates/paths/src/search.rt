@@ -9,11 +9,9 @@ ghost use mathlib.Core.Path.{_≡_};
 ghost use mathlib.Core.List.{_++_};
 ghost use Prim.Native.Nat.{_+_, _≤_, _<_};
 ghost use lib.ListN.{length, set, drop, replicate};
-ghost use Rattle.network.specs.Ends.{Node};
+ghost use Rattle.paths.specs.Calls.{Seeking};
 ghost use Rattle.paths.specs.Far.{far};
-ghost use Rattle.paths.specs.Frontier.{Frontier};
-ghost use Rattle.paths.specs.Graph.{graph, Fit, Table};
-ghost use Rattle.paths.specs.Links.{Linked};
+ghost use Rattle.paths.specs.Graph.{graph, Table};
 
 // No path without a loop is as long: at most 63 arcs of lengths below 2^40.
 pub const FAR: u64 = 0x4000_0000_0000;
@@ -41,10 +39,7 @@ pub fn distances(
     front: &mut [u64],
     listed: &mut [u64],
 )
-    requires fit { ⌜ Fit (graph n (now tails) (now heads)) (now lengths) (length (now dist)) ⌝ }
-    requires sink { ⌜ Node (graph n (now tails) (now heads)) sink ⌝ }
-    requires links { ⌜ Linked (now heads) n (now «first_in») (now «next_in») ⌝ }
-    requires room { ⌜ Frontier n (length (now front)) (length (now listed)) ⌝ }
+    requires { ⌜ Seeking (graph n (now tails) (now heads)) (now lengths) (now «first_in») (now «next_in») sink (length (now dist)) (length (now front)) (length (now listed)) ⌝ }
     ensures { λ r. ⌜ Table (graph n (now (tails .entry)) (now (heads .entry))) (now (lengths .entry)) (now (dist .exit)) sink far ⌝ }
 {
     reset(n, sink, dist);

@@ -24,11 +24,14 @@ use Rattle.solver.specs.Solved.{Sized, Solved, answerOf, noAnswer}
 abbrev pub firstLengths : List ℕ → List ℕ
 firstLengths capacities = map (λ e. start (getD capacities e 0)) (upTo (length capacities))
 
+-- The tables once they are cleared are those of the definition's start.
 pub initial-is :
-    (net : Network) (q : ℕ) → Lent net q → (flow kept loads lengths bounds : List ℕ) → Sized net flow kept loads lengths bounds →
-    stateOf (firstLengths (net .capacities)) (replicate (length flow) 0) (replicate (length loads) 0) (replicate (length kept) 0) begun ≡ initial net
+    (net : Network) (q : ℕ) → Lent net q → {flow₀ kept₀ loads₀ lengths₀ bounds₀ : List ℕ} → Sized net flow₀ kept₀ loads₀ lengths₀ bounds₀ →
+    {lengths flow loads kept : List ℕ} → lengths ≡ firstLengths (net .capacities) → loads ≡ replicate (length loads₀) 0 →
+    flow ≡ replicate (length flow₀) 0 → kept ≡ replicate (length kept₀) 0 → stateOf lengths flow loads kept begun ≡ initial net
 unfolding initial
-initial-is net q lent flow kept loads lengths bounds z = rw (lent .capacities, z .flows, z .loadings, z .keeps) refl
+initial-is net q lent z started unloaded empty nothing =
+    rw (started, unloaded, empty, nothing, lent .capacities, z .flows, z .loadings, z .keeps) refl
 
 pub outcome-some : (net : Network) (q : ℕ) (c : Choice) → choice net (initial net .lengths) ≡ some c → outcome net q ≡ outcomeOf net (run net q)
 unfolding outcome

@@ -6,8 +6,10 @@ use Rattle.length.specs.Level.{threshold}
 use Rattle.network.specs.Network.{Network, arcs}
 use Rattle.method.specs.Iteration.{State, weight, iteration}
 use Rattle.method.specs.Run.{ended}
+use Rattle.method.proofs.Reached.{Reached}
 use Rattle.step.specs.declared.Progress.{Progress}
 use Rattle.step.specs.Progress.{stateOf}
+use Rattle.solver.specs.Runs.{Bounding, Chooses}
 
 -- What is noted beside the state: T, and D of the lengths.
 pub record Noted (net : Network) (q t : ℕ) (lengths : List ℕ) (p : Progress) : Type 0 where
@@ -19,3 +21,15 @@ pub record Iterated (net : Network) (q : ℕ) (s : State) (lengths flow loads ke
   pub state : stateOf lengths flow loads kept r ≡ iteration net q s
   pub weight : r .weight ≡ weight net lengths
   pub ended : r .ended ≡ ended net q (iteration net q s)
+
+-- What an iteration asks of the run so far.
+pub record Iterating (net : Network) (q t : ℕ) (bounds : List ℕ) (s : State) (p : Progress) : Type 0 where
+  pub below : Bounding net (s .lengths) bounds
+  pub chooses : Chooses net
+  pub reached : Reached net q s
+  pub noted : Noted net q t (s .lengths) p
+
+-- And all that it leaves, the bounds among it.
+pub record Onward (net : Network) (q : ℕ) (s : State) (lengths flow loads kept bounds : List ℕ) (r : Progress) : Type 0 where
+  pub iterated : Iterated net q s lengths flow loads kept r
+  pub below : Bounding net lengths bounds

@@ -1,4 +1,4 @@
--- What the solver leaves: the outcome of the method, with all that holds of it.
+-- What the solver asks, and what it leaves: the outcome of the method, with all that holds of it.
 use mathlib.Core.Path.{_≡_}
 use mathlib.Core.List.{List}
 use Prim.Native.Nat.{ℕ, _*_}
@@ -8,8 +8,15 @@ use Rattle.method.specs.Answer.{outcome}
 use Rattle.method.specs.Guarantee.{Guarantee}
 use Rattle.method.specs.declared.Answer.{Answer}
 use Rattle.step.specs.declared.Progress.{Progress}
+use Rattle.solver.specs.Runs.{Lent}
 
--- Tables of just the size that the outcome has, and a bound for each commodity.
+-- A network, and tables of just the size that its outcome has.
+pub record Solving (net : Network) (q : ℕ) (flow kept : List ℕ) : Type 0 where
+  pub lent : Lent net q
+  pub flows : length flow ≡ commodities net * arcs net
+  pub keeps : length kept ≡ arcs net
+
+-- All tables of that size, and a bound for each commodity.
 pub record Sized (net : Network) (flow kept loads lengths bounds : List ℕ) : Type 0 where
   pub flows : length flow ≡ commodities net * arcs net
   pub keeps : length kept ≡ arcs net

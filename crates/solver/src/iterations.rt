@@ -4,13 +4,9 @@ use tables::loads;
 ghost use mathlib.Core.Bool.{cond};
 ghost use mathlib.Core.Path.{_≡_};
 ghost use lib.ListN.{length, replicate};
-ghost use Rattle.method.proofs.Reached.{Reached};
-ghost use Rattle.choice.specs.Below.{Below};
-ghost use Rattle.paths.specs.Links.{Linked};
-ghost use Rattle.choice.specs.Search.{bare};
-ghost use Rattle.solver.specs.Noted.{Noted, Iterated};
+ghost use Rattle.solver.specs.Noted.{Iterating, Onward};
 ghost use Rattle.step.specs.Progress.{stateOf};
-ghost use Rattle.solver.specs.Runs.{networkOf, Lent, Space, Chooses};
+ghost use Rattle.solver.specs.Runs.{networkOf, Placed};
 
 // The bounds of the distances, 0 again where the lengths were halved: only then can a distance fall.
 fn forget(halved: bool, bounds: &mut [u64])
@@ -46,16 +42,9 @@ pub fn iterate(
     path: &mut [u64],
     p: Progress,
 ) -> Progress
-    requires lent { ⌜ Lent (networkOf n (now tails) (now heads) (now capacities) (now sources) (now sinks)) q ⌝ }
-    requires space { ⌜ Space (length (now dist)) (length (now front)) (length (now listed)) (length (now path)) ⌝ }
-    requires into { ⌜ Linked (now heads) n (now «first_in») (now «next_in») ⌝ }
-    requires out { ⌜ Linked (now tails) n (now «first_out») (now «next_out») ⌝ }
-    requires below { ⌜ Below (bare n (now tails) (now heads) (now sources) (now sinks)) (now lengths) (now bounds) ⌝ }
-    requires chooses { ⌜ Chooses (networkOf n (now tails) (now heads) (now capacities) (now sources) (now sinks)) ⌝ }
-    requires reached { ⌜ Reached (networkOf n (now tails) (now heads) (now capacities) (now sources) (now sinks)) q (stateOf (now lengths) (now flow) (now loads) (now kept) p) ⌝ }
-    requires noted { ⌜ Noted (networkOf n (now tails) (now heads) (now capacities) (now sources) (now sinks)) q threshold (now lengths) p ⌝ }
-    ensures iterated { λ r. ⌜ Iterated (networkOf n (now (tails .entry)) (now (heads .entry)) (now (capacities .entry)) (now (sources .entry)) (now (sinks .entry))) q (stateOf (now (lengths .entry)) (now (flow .entry)) (now (loads .entry)) (now (kept .entry)) p) (now (lengths .exit)) (now (flow .exit)) (now (loads .exit)) (now (kept .exit)) r ⌝ }
-    ensures below { λ r. ⌜ Below (bare n (now (tails .entry)) (now (heads .entry)) (now (sources .entry)) (now (sinks .entry))) (now (lengths .exit)) (now (bounds .exit)) ⌝ }
+    requires placed { ⌜ Placed (networkOf n (now tails) (now heads) (now capacities) (now sources) (now sinks)) q (now «first_in») (now «next_in») (now «first_out») (now «next_out») (length (now dist)) (length (now front)) (length (now listed)) (length (now path)) ⌝ }
+    requires iterating { ⌜ Iterating (networkOf n (now tails) (now heads) (now capacities) (now sources) (now sinks)) q threshold (now bounds) (stateOf (now lengths) (now flow) (now loads) (now kept) p) p ⌝ }
+    ensures { λ r. ⌜ Onward (networkOf n (now (tails .entry)) (now (heads .entry)) (now (capacities .entry)) (now (sources .entry)) (now (sinks .entry))) q (stateOf (now (lengths .entry)) (now (flow .entry)) (now (loads .entry)) (now (kept .entry)) p) (now (lengths .exit)) (now (flow .exit)) (now (loads .exit)) (now (kept .exit)) (now (bounds .exit)) r ⌝ }
 {
     let c = choice::choose(
         n,

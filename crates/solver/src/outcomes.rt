@@ -7,10 +7,9 @@ ghost use mathlib.Core.Path.{_≡_};
 ghost use Prim.Native.Nat.{_-_};
 ghost use lib.ListN.{length};
 ghost use Rattle.method.specs.Answer.{fullest};
-ghost use Rattle.paths.specs.Links.{Linked};
 ghost use Rattle.tables.specs.Calls.{Ranking};
 ghost use Rattle.solver.specs.Prepared.{Cleared};
-ghost use Rattle.solver.specs.Runs.{networkOf, Lent, Space};
+ghost use Rattle.solver.specs.Runs.{networkOf, Placed};
 ghost use Rattle.solver.specs.Solved.{Solved, answerOf, noAnswer};
 
 // The answer: the fullest arc gives the scale.
@@ -68,10 +67,7 @@ pub fn outcome(
     listed: &mut [u64],
     path: &mut [u64],
 ) -> Answer
-    requires lent { ⌜ Lent (networkOf n (now tails) (now heads) (now capacities) (now sources) (now sinks)) q ⌝ }
-    requires space { ⌜ Space (length (now dist)) (length (now front)) (length (now listed)) (length (now path)) ⌝ }
-    requires into { ⌜ Linked (now heads) n (now «first_in») (now «next_in») ⌝ }
-    requires out { ⌜ Linked (now tails) n (now «first_out») (now «next_out») ⌝ }
+    requires placed { ⌜ Placed (networkOf n (now tails) (now heads) (now capacities) (now sources) (now sinks)) q (now «first_in») (now «next_in») (now «first_out») (now «next_out») (length (now dist)) (length (now front)) (length (now listed)) (length (now path)) ⌝ }
     requires cleared { ⌜ Cleared (networkOf n (now tails) (now heads) (now capacities) (now sources) (now sinks)) (now flow) (now kept) (now loads) (now lengths) (now bounds) ⌝ }
     ensures { λ r. ⌜ Solved (networkOf n (now (tails .entry)) (now (heads .entry)) (now (capacities .entry)) (now (sources .entry)) (now (sinks .entry))) q r (now (flow .exit)) (now (kept .exit)) ⌝ }
 {

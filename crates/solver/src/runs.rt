@@ -4,15 +4,11 @@ use step::Progress;
 use tables::lengths;
 ghost use mathlib.Core.Path.{_≡_};
 ghost use lib.ListN.{length};
-ghost use Rattle.method.specs.Iteration.{initial};
 ghost use Rattle.method.specs.Run.{run};
-ghost use Rattle.choice.specs.Below.{Below};
-ghost use Rattle.paths.specs.Links.{Linked};
-ghost use Rattle.choice.specs.Search.{bare};
 ghost use Rattle.tables.specs.Calls.{Weighing};
 ghost use Rattle.tables.specs.Tables.{weightOf};
 ghost use Rattle.step.specs.Progress.{stateOf, begun, begunWith};
-ghost use Rattle.solver.specs.Runs.{networkOf, Lent, Space, Chooses};
+ghost use Rattle.solver.specs.Runs.{networkOf, Placed, Starting};
 
 // Nothing drawn yet, the least fraction 1 over 0, and D of the first lengths.
 fn begin(capacities: &[u64], lengths: &[u64]) -> Progress
@@ -55,13 +51,8 @@ pub fn run(
     listed: &mut [u64],
     path: &mut [u64],
 ) -> Progress
-    requires lent { ⌜ Lent (networkOf n (now tails) (now heads) (now capacities) (now sources) (now sinks)) q ⌝ }
-    requires space { ⌜ Space (length (now dist)) (length (now front)) (length (now listed)) (length (now path)) ⌝ }
-    requires into { ⌜ Linked (now heads) n (now «first_in») (now «next_in») ⌝ }
-    requires out { ⌜ Linked (now tails) n (now «first_out») (now «next_out») ⌝ }
-    requires below { ⌜ Below (bare n (now tails) (now heads) (now sources) (now sinks)) (now lengths) (now bounds) ⌝ }
-    requires chooses { ⌜ Chooses (networkOf n (now tails) (now heads) (now capacities) (now sources) (now sinks)) ⌝ }
-    requires start { ⌜ stateOf (now lengths) (now flow) (now loads) (now kept) begun ≡ initial (networkOf n (now tails) (now heads) (now capacities) (now sources) (now sinks)) ⌝ }
+    requires placed { ⌜ Placed (networkOf n (now tails) (now heads) (now capacities) (now sources) (now sinks)) q (now «first_in») (now «next_in») (now «first_out») (now «next_out») (length (now dist)) (length (now front)) (length (now listed)) (length (now path)) ⌝ }
+    requires starting { ⌜ Starting (networkOf n (now tails) (now heads) (now capacities) (now sources) (now sinks)) (now bounds) (stateOf (now lengths) (now flow) (now loads) (now kept) begun) ⌝ }
     ensures { λ r. ⌜ stateOf (now (lengths .exit)) (now (flow .exit)) (now (loads .exit)) (now (kept .exit)) r ≡ run (networkOf n (now (tails .entry)) (now (heads .entry)) (now (capacities .entry)) (now (sources .entry)) (now (sinks .entry))) q ⌝ }
 {
     let threshold = length::threshold(tails.len() as u64, q);

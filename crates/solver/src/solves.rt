@@ -4,13 +4,10 @@ use method::Answer;
 use paths::links;
 use tables::lengths;
 use tables::loads;
-ghost use mathlib.Core.Path.{_≡_};
-ghost use Prim.Native.Nat.{_*_};
 ghost use lib.ListN.{length};
-ghost use Rattle.network.specs.Network.{arcs, commodities};
-ghost use Rattle.solver.specs.Prepared.{Lists, Cleared};
-ghost use Rattle.solver.specs.Runs.{networkOf, Lent, Space};
-ghost use Rattle.solver.specs.Solved.{Sized, Solved};
+ghost use Rattle.solver.specs.Prepared.{Cleared, Working};
+ghost use Rattle.solver.specs.Runs.{networkOf, Lent};
+ghost use Rattle.solver.specs.Solved.{Solving, Sized, Solved};
 
 // The tables before the first choice: lengths at their start, zeros in the others. Most of the network is taken for the contract, which speaks of it.
 fn prepare(
@@ -61,11 +58,7 @@ fn solve_in(
     listed: &mut [u64],
     path: &mut [u64],
 ) -> Answer
-    requires lent { ⌜ Lent (networkOf n (now tails) (now heads) (now capacities) (now sources) (now sinks)) q ⌝ }
-    requires sized { ⌜ Sized (networkOf n (now tails) (now heads) (now capacities) (now sources) (now sinks)) (now flow) (now kept) (now loads) (now lengths) (now bounds) ⌝ }
-    requires into { ⌜ Lists (length (now «first_in»)) (length (now «next_in»)) ⌝ }
-    requires out { ⌜ Lists (length (now «first_out»)) (length (now «next_out»)) ⌝ }
-    requires space { ⌜ Space (length (now dist)) (length (now front)) (length (now listed)) (length (now path)) ⌝ }
+    requires { ⌜ Working (networkOf n (now tails) (now heads) (now capacities) (now sources) (now sinks)) q (now flow) (now kept) (now loads) (now lengths) (now bounds) (length (now «first_in»)) (length (now «next_in»)) (length (now «first_out»)) (length (now «next_out»)) (length (now dist)) (length (now front)) (length (now listed)) (length (now path)) ⌝ }
     ensures { λ r. ⌜ Solved (networkOf n (now (tails .entry)) (now (heads .entry)) (now (capacities .entry)) (now (sources .entry)) (now (sinks .entry))) q r (now (flow .exit)) (now (kept .exit)) ⌝ }
 {
     links::link(n, heads, first_in, next_in);
@@ -120,9 +113,7 @@ pub fn solve(
     flow: &mut [u64],
     kept: &mut [u64],
 ) -> Answer
-    requires lent { ⌜ Lent (networkOf n (now tails) (now heads) (now capacities) (now sources) (now sinks)) q ⌝ }
-    requires flows { ⌜ length (now flow) ≡ commodities (networkOf n (now tails) (now heads) (now capacities) (now sources) (now sinks)) * arcs (networkOf n (now tails) (now heads) (now capacities) (now sources) (now sinks)) ⌝ }
-    requires keeps { ⌜ length (now kept) ≡ arcs (networkOf n (now tails) (now heads) (now capacities) (now sources) (now sinks)) ⌝ }
+    requires { ⌜ Solving (networkOf n (now tails) (now heads) (now capacities) (now sources) (now sinks)) q (now flow) (now kept) ⌝ }
     ensures { λ r. ⌜ Solved (networkOf n (now (tails .entry)) (now (heads .entry)) (now (capacities .entry)) (now (sources .entry)) (now (sinks .entry))) q r (now (flow .exit)) (now (kept .exit)) ⌝ }
 {
     let m = tails.len();

@@ -22,7 +22,7 @@ among c = c .nearest .ensures .least .among
 nearest-requires : tie.Need-nearest-requires
 nearest-requires c κs =
     let p = c .before .before .before .before .before .before .before .before .before .before .before .before .before .before .before .before .before .before .pre in
-    (p .0 .survey, (p .1 .0, (p .1 .1 .0, (p .1 .1 .1 .1 .0, p .1 .1 .1 .1 .1))))
+    record { survey = p .search .survey; some = p .some; links = p .into; room = p .room; below = p .below }
 
 mul-distance : tie.Need-mul-distance
 mul-distance c = let s = c .before .before .before .before .before .before .before .before in omega (arith, entry s .good, among s)
@@ -30,7 +30,7 @@ mul-distance c = let s = c .before .before .before .before .before .before .befo
 returns : tie.Need-returns
 returns c =
     let s = c .before .before .before .before .before .before .before .before .before .before in
-    (selects-nothing (entry s .pre .0) (s .nearest .ensures) _ _ (c .if1 .taken), s .nearest .ensures .below)
+    record { chose = selects-nothing (entry s .pre .search) (s .nearest .ensures) _ _ (c .if1 .taken); below = s .nearest .ensures .below }
 
 mul-source : tie.Need-mul-source
 mul-source c = let s = search-at c in omega (arith, entry s .good, among s)
@@ -41,21 +41,24 @@ mul-sink c = let s = search-at (c .before) in omega (arith, entry s .good, among
 shared-slice-read-sink : tie.Need-shared-slice-read-sink
 shared-slice-read-sink c =
     let s = search-at (c .before .before) in
-    sink-listed (entry s .pre .0 .survey .fit) (s .nearest .result) (among s)
+    sink-listed (entry s .pre .search .survey .fit) (s .nearest .result) (among s)
 
 walk-requires : tie.Need-walk-requires
 walk-requires c κs =
     let t = c .before .before .before .before in
     let s = search-at t in (
-      selects-walkable (entry s .pre .0) (s .nearest .ensures) (t .if1 .left) (s .nearest .kept .1 .1 .1 .1 .1 .1 .1 .1 .1 .0),
-      entry s .pre .1 .1 .1 .0,
+      selects-walkable (entry s .pre .search) (s .nearest .ensures) (t .if1 .left) (s .nearest .kept .1 .1 .1 .1 .1 .1 .1 .1 .1 .0),
+      entry s .pre .out,
     )
 
 returns-2 : tie.Need-returns-2
 returns-2 c =
     let t = c .before .before .before .before .before .before .before in
     let s = search-at t in
-    (selects-walk (entry s .pre .0) (s .nearest .ensures) (t .if1 .left) _ _ (c .before .before .walk .ensures), s .nearest .ensures .below)
+    record {
+      chose = selects-walk (entry s .pre .search) (s .nearest .ensures) (t .if1 .left) _ _ (c .before .before .walk .ensures);
+      below = s .nearest .ensures .below;
+    }
 
 pub choose-spec : {M : Type 1} → statement M
 choose-spec =

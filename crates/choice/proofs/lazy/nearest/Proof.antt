@@ -27,20 +27,29 @@ abbrev μ-loop : tie.MeasureT-loop
 μ-loop n tails heads lengths sources sinks first-in next-in bounds₀ dist₀ front₀ listed₀ i₀ bounds dist front listed i =
     slack (length sources) bounds
 
--- the function's entry, and a turn's beginning, seen from behind the second look for the least bound
+-- the function's entry; from each call back to the one before it, and to the turn's beginning; and that from behind the second look for the least bound
 abbrev entry : tie.At-loop Inv-loop μ-loop → tie.Start Inv-loop μ-loop
 entry c = c .before .before .before .before .before .before .before .before .before .before .before .before .before .before
 
-abbrev turn : tie.After-least2 Inv-loop μ-loop → tie.At-loop Inv-loop μ-loop
-turn c = c .before .before .before .before .before .before .before .before .before .before .before .before .before .before .before .before .before .before
+abbrev turn : tie.After-distances Inv-loop μ-loop → tie.At-loop Inv-loop μ-loop
+turn c = c .before .before .before .before .before
+
+abbrev distances-at : tie.After-raise Inv-loop μ-loop → tie.After-distances Inv-loop μ-loop
+distances-at c = c .before .before .before .before .before .before .before .before .before
+
+abbrev raise-at : tie.After-least2 Inv-loop μ-loop → tie.After-raise Inv-loop μ-loop
+raise-at c = c .before .before .before .before
+
+abbrev begun : tie.After-least2 Inv-loop μ-loop → tie.At-loop Inv-loop μ-loop
+begun c = turn (distances-at (raise-at c))
 
 least-requires : tie.Need-least-requires Inv-loop μ-loop
 least-requires c κs =
     let s = c .before .before .before .before .before .before .before .before .before .before .before .before in
-    omega (arith, s .pre .1 .0, s .pre .1 .1 .1 .1 .each)
+    omega (arith, s .pre .some, s .pre .below .each)
 
 loop-holds : tie.Need-loop-holds Inv-loop μ-loop
-loop-holds c = (turned (c .before .before .before .before .before .before .before .before .before .before .before .before .before .pre .1 .1 .1 .1) (c .least .ensures), record { dists = refl; fronts = refl; listings = refl })
+loop-holds c = (turned (c .before .before .before .before .before .before .before .before .before .before .before .before .before .pre .below) (c .least .ensures), record { dists = refl; fronts = refl; listings = refl })
 
 mul-searched : tie.Need-mul-searched Inv-loop μ-loop
 mul-searched c = omega (arith, entry c .good, c .loop .inv .0 .least .among)
@@ -48,54 +57,52 @@ mul-searched c = omega (arith, entry c .good, c .loop .inv .0 .least .among)
 shared-slice-read-searched : tie.Need-shared-slice-read-searched Inv-loop μ-loop
 shared-slice-read-searched c =
     let t = c .before in
-    sink-listed (entry t .pre .0 .fit) (t .loop .i) (t .loop .inv .0 .least .among)
+    sink-listed (entry t .pre .survey .fit) (t .loop .i) (t .loop .inv .0 .least .among)
 
 distances-requires : tie.Need-distances-requires Inv-loop μ-loop
 distances-requires c κs =
     let t = c .before .before .before .before in
     let s = entry t in
-    let same = t .loop .inv .1 in (
-      rw (same .dists) (fit-graph (s .pre .0 .fit)),
-      (
-        s .pre .0 .fit .ends .sinks (t .loop .i) (t .loop .inv .0 .least .among),
-        (
-          s .pre .1 .1 .0,
-          record { front = omega (arith, same .fronts, s .pre .1 .1 .1 .0 .front); listed = omega (arith, same .listings, s .pre .1 .1 .1 .0 .listed) },
-        ),
-      ),
-    )
+    let same = t .loop .inv .1 in
+    record {
+      fit = rw (same .dists) (fit-graph (s .pre .survey .fit));
+      sink = s .pre .survey .fit .ends .sinks (t .loop .i) (t .loop .inv .0 .least .among);
+      links = s .pre .links;
+      room = record { front = omega (arith, same .fronts, s .pre .room .front); listed = omega (arith, same .listings, s .pre .room .listed) };
+    }
 
 raise-requires : tie.Need-raise-requires Inv-loop μ-loop
 raise-requires c κs =
-    let t = c .before .before .before .before .before .before .before .before .before .before .before .before .before in
+    let f = c .before .before .before .before .before .before .before .before in
+    let t = turn f in
     let s = entry t in
     record {
-      ends = λ i b. sink-listed (s .pre .0 .fit) i b;
+      ends = λ i b. sink-listed (s .pre .survey .fit) i b;
       each = t .loop .inv .0 .below .each;
       room = λ i b.
-          omega (arith, s .pre .0 .fit .ends .sources i b, s .pre .0 .fit .room, t .loop .inv .1 .dists, c .before .before .before .before .before .before .before .before .distances .kept .1 .1 .1 .1 .1 .1 .1 .0);
+          omega (arith, s .pre .survey .fit .ends .sources i b, s .pre .survey .fit .room, t .loop .inv .1 .dists, f .distances .kept .1 .1 .1 .1 .1 .1 .1 .0);
     }
 
 least-requires-2 : tie.Need-least-requires-2 Inv-loop μ-loop
 least-requires-2 c κs =
-    let t = c .before .before .before .before .before .before .before .before .before .before .before .before .before .before .before .before .before in
-    omega (arith, entry t .pre .1 .0, t .loop .inv .0 .below .each, c .before .before .before .raise .kept .1 .1 .1 .1 .0)
+    let t = turn (distances-at (c .before .before .before)) in
+    omega (arith, entry t .pre .some, t .loop .inv .0 .below .each, c .before .before .before .raise .kept .1 .1 .1 .1 .0)
 
 -- the turn that comes next, if it does
 next : (c : tie.After-least2 Inv-loop μ-loop) →
-    let s = entry (turn c) .args in
-    Turn (bare (s .n) (s .tails .now) (s .heads .now) (s .sources .now) (s .sinks .now)) (s .lengths .now) (c .before .before .before .before .raise .last .1 .1 .1 .1 .0)
+    let s = entry (begun c) .args in
+    Turn (bare (s .n) (s .tails .now) (s .heads .now) (s .sources .now) (s .sinks .now)) (s .lengths .now) (raise-at c .raise .last .1 .1 .1 .1 .0)
     (c .least2 .result)
 next c =
-    turn-next (entry (turn c) .pre .0) (turn c .loop .inv .0) (c .before .before .before .before .before .before .before .before .before .before .before .before .before .distances .ensures) (c .before .before .before .before .raise .ensures) (c .least2 .ensures)
+    turn-next (entry (begun c) .pre .survey) (begun c .loop .inv .0) (distances-at (raise-at c) .distances .ensures) (raise-at c .raise .ensures) (c .least2 .ensures)
 
 same : (c : tie.After-least2 Inv-loop μ-loop) →
-    let s = entry (turn c) .args in
-    let l = c .before .before .before .before .before .before .before .before .before .before .before .before .before .distances .last in
+    let s = entry (begun c) .args in
+    let l = distances-at (raise-at c) .distances .last in
     Same (s .dist .now) (s .front .now) (s .listed .now) (l .1 .1 .1 .1 .1 .1 .1 .0) (l .1 .1 .1 .1 .1 .1 .1 .1 .0) (l .1 .1 .1 .1 .1 .1 .1 .1 .1 .0)
 same c =
-    let k = c .before .before .before .before .before .before .before .before .before .before .before .before .before .distances .kept in
-    let i = turn c .loop .inv .1 in
+    let k = distances-at (raise-at c) .distances .kept in
+    let i = begun c .loop .inv .1 in
     record {
       dists = k .1 .1 .1 .1 .1 .1 .1 .0 ∙ i .dists;
       fronts = k .1 .1 .1 .1 .1 .1 .1 .1 .0 ∙ i .fronts;
@@ -103,22 +110,22 @@ same c =
     }
 
 mul-if1 : tie.Need-mul-if1 Inv-loop μ-loop
-mul-if1 c = omega (arith, entry (turn c) .good, next c .least .among)
+mul-if1 c = omega (arith, entry (begun c) .good, next c .least .among)
 
 shared-slice-read-if1 : tie.Need-shared-slice-read-if1 Inv-loop μ-loop
-shared-slice-read-if1 c = sink-listed (entry (turn (c .before)) .pre .0 .fit) (c .before .least2 .result) (next (c .before) .least .among)
+shared-slice-read-if1 c = sink-listed (entry (begun (c .before)) .pre .survey .fit) (c .before .least2 .result) (next (c .before) .least .among)
 
 loop-less : tie.Need-loop-less Inv-loop μ-loop
 loop-less c =
     let f = c .before .before in
-    let t = turn f in
-    turn-falls (entry t .pre .0) (t .loop .inv .0) (f .before .before .before .before .before .before .before .before .before .before .before .before .before .distances .ensures) (f .before .before .before .before .raise .ensures) (f .least2 .ensures) (c .if1 .left)
+    let t = begun f in
+    turn-falls (entry t .pre .survey) (t .loop .inv .0) (distances-at (raise-at f) .distances .ensures) (raise-at f .raise .ensures) (f .least2 .ensures) (c .if1 .left)
 
 loop-again : tie.Need-loop-again Inv-loop μ-loop
 loop-again c = (next (c .before .before), same (c .before .before))
 
 same-length : tie.Need-same-length Inv-loop μ-loop
-same-length c = let f = c .before .before in next f .below .each ∙ sym (entry (turn f) .pre .1 .1 .1 .1 .each)
+same-length c = let f = c .before .before in next f .below .each ∙ sym (entry (begun f) .pre .below .each)
 
 same-length-2 : tie.Need-same-length-2 Inv-loop μ-loop
 same-length-2 c = same (c .before .before) .dists
@@ -132,8 +139,8 @@ same-length-4 c = same (c .before .before) .listings
 returns : tie.Need-returns Inv-loop μ-loop
 returns c =
     let f = c .before .before in
-    let t = turn f in
-    turn-last (entry t .pre .0) (t .loop .inv .0) (f .before .before .before .before .before .before .before .before .before .before .before .before .before .distances .ensures) (f .before .before .before .before .raise .ensures) (f .least2 .ensures) (c .if1 .taken)
+    let t = begun f in
+    turn-last (entry t .pre .survey) (t .loop .inv .0) (distances-at (raise-at f) .distances .ensures) (raise-at f .raise .ensures) (f .least2 .ensures) (c .if1 .taken)
 
 pub nearest-spec : {M : Type 1} → statement M
 nearest-spec =

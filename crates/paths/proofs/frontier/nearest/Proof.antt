@@ -20,27 +20,27 @@ shared-slice-read-least : tie.Need-shared-slice-read-least Inv-loop μ-loop
 shared-slice-read-least c = omega (arith, c .before .pre)
 
 mul-least : tie.Need-mul-least Inv-loop μ-loop
-mul-least c = let s = c .before in omega (arith, s .good, s .pre .1 .1 0 (s .pre .0))
+mul-least c = let s = c .before in omega (arith, s .good, s .pre .nodes 0 (s .pre .some))
 
 shared-slice-read-least-2 : tie.Need-shared-slice-read-least-2 Inv-loop μ-loop
-shared-slice-read-least-2 c = let s = c .before .before in s .pre .1 .1 0 (s .pre .0)
+shared-slice-read-least-2 c = let s = c .before .before in s .pre .nodes 0 (s .pre .some)
 
 loop-holds : tie.Need-loop-holds Inv-loop μ-loop
-loop-holds c = omega (arith, c .before .before .pre .0)
+loop-holds c = omega (arith, c .before .before .pre .some)
 
 mul-d : tie.Need-mul-d Inv-loop μ-loop
-mul-d c = omega (arith, entry c .good, entry c .pre .1 .0)
+mul-d c = omega (arith, entry c .good, entry c .pre .within)
 
 shared-slice-read-d : tie.Need-shared-slice-read-d Inv-loop μ-loop
-shared-slice-read-d c = omega (arith, entry (c .before) .pre .1 .0)
+shared-slice-read-d c = omega (arith, entry (c .before) .pre .within)
 
 mul-d-2 : tie.Need-mul-d-2 Inv-loop μ-loop
 mul-d-2 c =
     let t = c .before in
-    omega (arith, entry t .good, entry t .pre .1 .1 (t .before .loop .i) (t .loop-test .taken))
+    omega (arith, entry t .good, entry t .pre .nodes (t .before .loop .i) (t .loop-test .taken))
 
 shared-slice-read-d-2 : tie.Need-shared-slice-read-d-2 Inv-loop μ-loop
-shared-slice-read-d-2 c = let t = c .before .before in entry t .pre .1 .1 (t .before .loop .i) (t .loop-test .taken)
+shared-slice-read-d-2 c = let t = c .before .before in entry t .pre .nodes (t .before .loop .i) (t .loop-test .taken)
 
 add-i : tie.Need-add-i Inv-loop μ-loop
 add-i c = let t = c .before .before .before in omega (arith, entry t .fits, t .loop-test .taken)

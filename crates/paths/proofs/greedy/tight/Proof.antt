@@ -24,48 +24,48 @@ onward :
     (c : tie.In-loop Inv-loop μ-loop) →
     Next (entry c .args .tails .now) (entry c .args .v) (suc (c .before .loop .e)) (getD (entry c .args .next-out .now) (c .before .loop .e) 0)
 onward c =
-    next-next (entry c .pre .1 .0) (entry c .args .v) (c .before .loop .e) (c .loop-test .taken) (c .before .loop .inv .here (c .loop-test .taken))
+    next-next (entry c .pre .links) (entry c .args .v) (c .before .loop .e) (c .loop-test .taken) (c .before .loop .inv .here (c .loop-test .taken))
 
 mul-d : tie.Need-mul-d Inv-loop μ-loop
-mul-d c = omega (arith, c .good, c .pre .0 .room, c .pre .1 .1 .1)
+mul-d c = omega (arith, c .good, c .pre .fit .room, c .pre .node)
 
 shared-slice-read-d : tie.Need-shared-slice-read-d Inv-loop μ-loop
-shared-slice-read-d c = omega (arith, c .before .pre .0 .room, c .before .pre .1 .1 .1)
+shared-slice-read-d c = omega (arith, c .before .pre .fit .room, c .before .pre .node)
 
 mul-e : tie.Need-mul-e Inv-loop μ-loop
-mul-e c = let s = c .before in omega (arith, s .good, s .pre .1 .0 .nodes, s .pre .1 .1 .1)
+mul-e c = let s = c .before in omega (arith, s .good, s .pre .links .nodes, s .pre .node)
 
 shared-slice-read-e : tie.Need-shared-slice-read-e Inv-loop μ-loop
-shared-slice-read-e c = let s = c .before .before in omega (arith, s .pre .1 .0 .nodes, s .pre .1 .1 .1)
+shared-slice-read-e c = let s = c .before .before in omega (arith, s .pre .links .nodes, s .pre .node)
 
 loop-holds : tie.Need-loop-holds Inv-loop μ-loop
-loop-holds c = let s = c .before .before in passed-first (first-next (s .pre .1 .0) (s .args .v) (s .pre .1 .1 .1))
+loop-holds c = let s = c .before .before in passed-first (first-next (s .pre .links) (s .args .v) (s .pre .node))
 
 mul-w : tie.Need-mul-w Inv-loop μ-loop
 mul-w c = omega (arith, entry c .good, c .loop-test .taken)
 
 shared-slice-read-w : tie.Need-shared-slice-read-w Inv-loop μ-loop
-shared-slice-read-w c = let t = c .before in head-listed (entry t .pre .0) (t .before .loop .e) (t .loop-test .taken)
+shared-slice-read-w c = let t = c .before in head-listed (entry t .pre .fit) (t .before .loop .e) (t .loop-test .taken)
 
 mul-if1 : tie.Need-mul-if1 Inv-loop μ-loop
 mul-if1 c = let t = c .before in omega (arith, entry t .good, t .loop-test .taken)
 
 shared-slice-read-if1 : tie.Need-shared-slice-read-if1 Inv-loop μ-loop
-shared-slice-read-if1 c = let t = c .before .before in omega (arith, t .loop-test .taken, entry t .pre .0 .lengths)
+shared-slice-read-if1 c = let t = c .before .before in omega (arith, t .loop-test .taken, entry t .pre .fit .lengths)
 
 mul-if1-2 : tie.Need-mul-if1-2 Inv-loop μ-loop
 mul-if1-2 c =
     let t = c .before .before in
-    omega (arith, entry t .good, head-room (entry t .pre .0) (t .before .loop .e) (t .loop-test .taken))
+    omega (arith, entry t .good, head-room (entry t .pre .fit) (t .before .loop .e) (t .loop-test .taken))
 
 shared-slice-read-if1-2 : tie.Need-shared-slice-read-if1-2 Inv-loop μ-loop
-shared-slice-read-if1-2 c = let t = c .before .before .before in head-room (entry t .pre .0) (t .before .loop .e) (t .loop-test .taken)
+shared-slice-read-if1-2 c = let t = c .before .before .before in head-room (entry t .pre .fit) (t .before .loop .e) (t .loop-test .taken)
 
 add-if1 : tie.Need-add-if1 Inv-loop μ-loop
 add-if1 c =
     let t = c .before .before .before in
     let s = entry t in
-    record { fits = over-fits (s .pre .0) (t .before .loop .e) (t .loop-test .taken) (s .args .dist .now) (s .pre .1 .1 .0) }
+    record { fits = over-fits (s .pre .fit) (t .before .loop .e) (t .loop-test .taken) (s .args .dist .now) (s .pre .capped) }
 
 returns : tie.Need-returns Inv-loop μ-loop
 returns c =
@@ -75,12 +75,12 @@ returns c =
 mul-e-2 : tie.Need-mul-e-2 Inv-loop μ-loop
 mul-e-2 c =
     let t = c .before .before .before .before in
-    omega (arith, entry t .good, entry t .pre .1 .0 .places, t .loop-test .taken)
+    omega (arith, entry t .good, entry t .pre .links .places, t .loop-test .taken)
 
 shared-slice-read-e-2 : tie.Need-shared-slice-read-e-2 Inv-loop μ-loop
 shared-slice-read-e-2 c =
     let t = c .before .before .before .before .before in
-    omega (arith, entry t .pre .1 .0 .places, t .loop-test .taken)
+    omega (arith, entry t .pre .links .places, t .loop-test .taken)
 
 loop-less : tie.Need-loop-less Inv-loop μ-loop
 loop-less c =

@@ -43,7 +43,7 @@ tight-requires : tie.Need-tight-requires Inv-loop μ-loop
 tight-requires c κs =
     let s = entry (c .before) in
     let W = s .pre .0 in
-    (W .fit, (s .pre .1, (W .table .capped, c .before .loop .inv .node .1)))
+    record { fit = W .fit; links = s .pre .1; capped = W .table .capped; node = c .before .loop .inv .node .1 }
 
 mul-path : tie.Need-mul-path Inv-loop μ-loop
 mul-path c = omega (arith, entry (turn c) .good, turn c .loop .inv .whole, place c)

@@ -26,11 +26,11 @@ abbrev entry : tie.In-loop Inv-loop μ-loop → tie.Start Inv-loop μ-loop
 entry c = c .before .before
 
 end-node : (c : tie.In-loop Inv-loop μ-loop) → getD (entry c .args .ends .now) (c .before .loop .e - 1) 0 ≤ entry c .args .n
-end-node c = entry c .pre .0 (c .before .loop .e - 1) (omega (arith, c .loop-test .taken, c .before .loop .inv .hung .within))
+end-node c = entry c .pre .0 .each (c .before .loop .e - 1) (omega (arith, c .loop-test .taken, c .before .loop .inv .hung .within))
 
 loop-holds : tie.Need-loop-holds Inv-loop μ-loop
 loop-holds c =
-    record { hung = hung-none (c .pre .1 .0) (c .pre .1 .1 .0) (c .pre .1 .1 .1); firsts = refl; nexts = refl }
+    record { hung = hung-none (c .pre .1) (c .pre .0 .nodes) (c .pre .0 .places); firsts = refl; nexts = refl }
 
 mul-v : tie.Need-mul-v Inv-loop μ-loop
 mul-v c = omega (arith, entry c .good, c .loop-test .taken, c .before .loop .inv .hung .within)
@@ -41,7 +41,7 @@ shared-slice-read-v c = omega (arith, c .before .loop-test .taken, c .before .be
 mul-next : tie.Need-mul-next Inv-loop μ-loop
 mul-next c =
     let t = c .before in
-    omega (arith, entry t .good, end-node t, entry t .pre .1 .1 .0)
+    omega (arith, entry t .good, end-node t, entry t .pre .0 .nodes)
 
 slice-read-next : tie.Need-slice-read-next Inv-loop μ-loop
 slice-read-next c =
@@ -61,7 +61,7 @@ slice-write-next c =
 mul-first : tie.Need-mul-first Inv-loop μ-loop
 mul-first c =
     let t = c .before .before in
-    omega (arith, entry t .good, end-node t, entry t .pre .1 .1 .0)
+    omega (arith, entry t .good, end-node t, entry t .pre .0 .nodes)
 
 slice-write-first : tie.Need-slice-write-first Inv-loop μ-loop
 slice-write-first c =

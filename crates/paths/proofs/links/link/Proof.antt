@@ -9,8 +9,10 @@ use Rattle.paths.proofs.links.link.Tie as tie
 hang-requires : tie.Need-hang-requires
 hang-requires c κs =
     let F = c .before .before .before .before .fill in
-    let s = c .before .before .before .before .before .before .before .before .before in
-    (s .pre .0, (rw (F .ensures) (filled-at _ _ _), (omega (arith, F .kept .1 .1 .0, s .pre .1 .0), s .pre .1 .1)))
+    let s = c .before .before .before .before .before .before .before .before .before in (
+      record { each = s .pre .each; nodes = omega (arith, F .kept .1 .1 .0, s .pre .nodes); places = s .pre .places },
+      rw (F .ensures) (filled-at _ _ _),
+    )
 
 pub link-spec : {M : Type 1} → statement M
 link-spec =

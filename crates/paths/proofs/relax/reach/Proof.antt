@@ -21,13 +21,13 @@ returns c =
     let t = c .before .before .before .before .before .before .before .before in
     let R = t .before .before .before in
     let s = entry R in
-    searching-spread (s .pre .0) (s .pre .1) (sym (R .relax .ensures .0) ∙ t .if1 .taken) (R .relax .ensures .1) (E .ensures)
+    searching-spread (s .pre .0) (s .pre .1) (sym (R .relax .ensures .told) ∙ t .if1 .taken) (R .relax .ensures .entries) (E .ensures)
 
 returns-2 : tie.Need-returns-2
 returns-2 c =
     let R = c .before .before .before in
     let s = entry R in
-    searching-still (s .pre .0) (s .pre .1) (sym (R .relax .ensures .0) ∙ c .if1 .left) (R .relax .ensures .1)
+    searching-still (s .pre .0) (s .pre .1) (sym (R .relax .ensures .told) ∙ c .if1 .left) (R .relax .ensures .entries)
 
 pub reach-spec : {M : Type 1} → statement M
 reach-spec =

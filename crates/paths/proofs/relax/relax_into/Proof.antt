@@ -38,7 +38,7 @@ onward :
 onward c =
     let T = c .before .loop .inv .turning in
     next-next
-    (entry c .pre .1 .0)
+    (entry c .pre .links)
     (entry c .args .v)
     (c .before .loop .e)
     (head-listed (T .spread .searching .fit) (c .before .loop .e) (c .loop-test .taken))
@@ -47,18 +47,18 @@ onward c =
 mul-e : tie.Need-mul-e Inv-loop μ-loop
 mul-e c =
     let s = c .before .before .before .before .before .before .before .before in
-    omega (arith, s .good, s .pre .1 .0 .nodes, s .pre .1 .1)
+    omega (arith, s .good, s .pre .links .nodes, s .pre .node)
 
 shared-slice-read-e : tie.Need-shared-slice-read-e Inv-loop μ-loop
 shared-slice-read-e c =
     let s = c .before .before .before .before .before .before .before .before .before in
-    omega (arith, s .pre .1 .0 .nodes, s .pre .1 .1)
+    omega (arith, s .pre .links .nodes, s .pre .node)
 
 loop-holds : tie.Need-loop-holds Inv-loop μ-loop
 loop-holds c =
     let s = c .before .before .before .before .before .before .before .before .before in
     record {
-      turning = turning-first (s .pre .0) (first-next (s .pre .1 .0) (s .args .v) (s .pre .1 .1));
+      turning = turning-first (s .pre .searching) (first-next (s .pre .links) (s .args .v) (s .pre .node));
       dists = refl;
       fronts = refl;
       flags = refl;
@@ -73,7 +73,7 @@ reach-requires c κs =
 listed-next : (c : tie.In-loop Inv-loop μ-loop) → suc (c .before .loop .e) ≤ length (entry c .args .next-in .now)
 listed-next c =
     let f = c .before .loop .inv .turning .spread .searching .fit in
-    omega (arith, head-listed f (c .before .loop .e) (c .loop-test .taken), entry c .pre .1 .0 .places)
+    omega (arith, head-listed f (c .before .loop .e) (c .loop-test .taken), entry c .pre .links .places)
 
 mul-e-2 : tie.Need-mul-e-2 Inv-loop μ-loop
 mul-e-2 c =

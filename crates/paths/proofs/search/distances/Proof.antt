@@ -67,16 +67,16 @@ abbrev take-out-at : tie.After-relax-into Inv-loop μ-loop → tie.After-take-ou
 take-out-at c = c .before .before .before .before .before .before .before .before
 
 reset-requires : tie.Need-reset-requires Inv-loop μ-loop
-reset-requires c κs = let s = c .before .before .before .before .before .before .before .before .before in (s .pre .0 .room, s .pre .1 .0 .1)
+reset-requires c κs = let s = c .before .before .before .before .before .before .before .before .before in (s .pre .fit .room, s .pre .sink .1)
 
 fill-requires : tie.Need-fill-requires Inv-loop μ-loop
-fill-requires c κs = entry (c .before .before .before) .pre .1 .1 .1 .listed
+fill-requires c κs = entry (c .before .before .before) .pre .room .listed
 
 enlist-requires : tie.Need-enlist-requires Inv-loop μ-loop
 enlist-requires c κs =
     let F = c .before .before .before .before in
     let s = entry (reset-at F) in
-    (cleared (s .args .listed .now) (s .pre .1 .1 .1) (F .fill .kept .1 .1 .0) (F .fill .ensures), s .pre .1 .0)
+    (cleared (s .args .listed .now) (s .pre .room) (F .fill .kept .1 .1 .0) (F .fill .ensures), s .pre .sink)
 
 loop-holds : tie.Need-loop-holds Inv-loop μ-loop
 loop-holds c =
@@ -84,7 +84,7 @@ loop-holds c =
     let R = reset-at (fill-at E) in
     let s = entry R in
     record {
-      searching = begun (s .args .dist .now) (s .pre .0) (s .pre .1 .0) (R .reset .kept .1 .1 .0) (R .reset .ensures) (E .enlist .ensures);
+      searching = begun (s .args .dist .now) (s .pre .fit) (s .pre .sink) (R .reset .kept .1 .1 .0) (R .reset .ensures) (E .enlist .ensures);
       dists = refl;
       fronts = refl;
       flags = refl;
@@ -93,13 +93,12 @@ loop-holds c =
 nearest-requires : tie.Need-nearest-requires Inv-loop μ-loop
 nearest-requires c κs =
     let t = c .before .before in
-    let S = t .before .loop .inv .searching in (
-      omega (arith, t .loop-test .taken),
-      (
-        omega (arith, listing-within (S .listing), S .listing .room .front),
-        λ i b. omega (arith, S .listing .nodes i b, S .fit .room),
-      ),
-    )
+    let S = t .before .loop .inv .searching in
+    record {
+      some = omega (arith, t .loop-test .taken);
+      within = omega (arith, listing-within (S .listing), S .listing .room .front);
+      nodes = λ i b. omega (arith, S .listing .nodes i b, S .fit .room);
+    }
 
 take-out-requires : tie.Need-take-out-requires Inv-loop μ-loop
 take-out-requires c κs = (c .before .before .before .before .before .before .loop .inv .searching .listing, c .before .before .nearest .ensures)
@@ -112,7 +111,11 @@ relax-into-requires c κs =
     let T = c .before .before .before .before .before .before .before in
     let t = turn T in
     let s = entry (reset-at (fill-at (enlist-at (t .before)))) in
-    (searching-out (t .before .loop .inv .searching) (le-refl _) (T .take-out .ensures), (s .pre .1 .1 .0, T .take-out .ensures .node .1))
+    record {
+      searching = searching-out (t .before .loop .inv .searching) (le-refl _) (T .take-out .ensures);
+      links = s .pre .links;
+      node = T .take-out .ensures .node .1;
+    }
 
 loop-less : tie.Need-loop-less Inv-loop μ-loop
 loop-less c =

@@ -32,13 +32,15 @@ state s = stateOf (now (s .args .lengths)) (now (s .args .flow)) (now (s .args .
 choose-requires : tie.Need-choose-requires
 choose-requires c κs =
     let s = c .before .before .before .before .before .before .before .before .before .before .before .before .before .before .before .before .before .before .before .before .before .before .before .before in
-    let p = s .pre in (
-      surveyed (net s) (s .args .q) (p .0) (state s) (p .1 .1 .1 .1 .1 .1 .0) (p .1 .0),
-      (
-        p .0 .sound .counts .of-commodities .least,
-        (p .1 .1 .0, (p .1 .1 .1 .0, (fronted (net s) (s .args .q) (p .0) (p .1 .0), p .1 .1 .1 .1 .0))),
-      ),
-    )
+    let p = s .pre .0 in
+    record {
+      search = surveyed (net s) (s .args .q) (p .lent) (state s) (s .pre .1 .reached) (p .space);
+      some = p .lent .sound .counts .of-commodities .least;
+      into = p .into;
+      out = p .out;
+      room = fronted (net s) (s .args .q) (p .lent) (p .space);
+      below = s .pre .1 .below;
+    }
 
 -- the function's entry, seen from behind the search; what was found, and the table of arcs then
 abbrev entry : tie.After-choose → tie.Start
@@ -50,10 +52,10 @@ arcs c = c .choose .last .1 .1 .1 .1 .1 .1 .1 .1 .1 .1 .1 .1 .1 .1 .0
 picked : (c : tie.After-choose) → Picked (net (entry c)) (now (entry c .args .lengths)) (c .choose .result) (arcs c)
 picked c =
     let s = entry c in
-    picks (net s) (s .pre .1 .1 .1 .1 .1 .0) (now (s .args .lengths)) (c .choose .result) (arcs c) (c .choose .ensures .0)
+    picks (net s) (s .pre .1 .chooses) (now (s .args .lengths)) (c .choose .result) (arcs c) (c .choose .ensures .chose)
 
 room : (c : tie.After-choose) → c .choose .result .arcs ≤ length (arcs c)
-room c = omega (arith, picked c .few-arcs, c .choose .kept .1 .1 .1 .1 .1 .1 .1 .1 .1 .1 .1 .1 .1 .1 .0, entry c .pre .1 .0 .path)
+room c = omega (arith, picked c .few-arcs, c .choose .kept .1 .1 .1 .1 .1 .1 .1 .1 .1 .1 .1 .1 .1 .1 .0, entry c .pre .0 .space .path)
 
 slice-reshare-prefix-step : tie.Need-slice-reshare-prefix-step
 slice-reshare-prefix-step c = room (c .before .before .before .before .before .before .before .before .before .before)
@@ -65,27 +67,36 @@ step-requires : tie.Need-step-requires
 step-requires c κs =
     let f = c .before .before .before .before .before .before .before .before .before .before .before .before .before .before .before in
     let s = entry f in
-    let r = s .pre .1 .1 .1 .1 .1 .1 in (
+    let i = s .pre .1 in (
       rw (← (picked f .alpha))
-          (ready (net s) (s .args .q) (s .pre .0) (state s) (r .0) (f .choose .result .commodity) (take (f .choose .result .arcs) (arcs f)) (picked f .chosen)),
-      kept-ready (net s) (s .args .q) (s .pre .0) (state s) (r .0) (s .args .threshold) (s .args .p) (r .1),
+          (ready (net s) (s .args .q) (s .pre .0 .lent) (state s) (i .reached) (f .choose .result .commodity) (take (f .choose .result .arcs) (arcs f)) (picked f .chosen)),
+      kept-ready (net s) (s .args .q) (s .pre .0 .lent) (state s) (i .reached) (s .args .threshold) (s .args .p) (i .noted),
     )
+
+-- behind the step: the search, and from the end of the function the step
+abbrev choose-at : tie.After-step → tie.After-choose
+choose-at c = c .before .before .before .before .before .before .before .before .before .before .before .before .before .before .before .before
+
+abbrev step-at : tie.After-slice-known19 → tie.After-step
+step-at c = c .before .before .before .before .before .before .before .before .before .before .before .before
 
 returns : tie.Need-returns
 returns c =
-    let f = c .before .before .before .before .before .before .before .before .before .before .before .before .before .before .before .before .before .before .before .before .before .before .before .before .before .before .before .before in
+    let t = step-at c in
+    let f = choose-at t in
     let s = entry f in
-    let r = s .pre .1 .1 .1 .1 .1 .1 in
+    let r = s .pre .1 in
     let caps = now (s .args .capacities) in
     let i = f .choose .result .commodity in
     let path = take (f .choose .result .arcs) (arcs f) in
-    let stepped = c .before .before .before .before .before .before .before .before .before .before .before .before .step in (
-      iterated (net s) (s .args .q) (s .pre .0) (s .args .threshold) (r .1 .threshold) (state s) (r .0 .valid .table .places) i path (picked f .chosen)
-          _ _ _ _ _ (stepped .ensures),
-      rw (c .before .before .forget .ensures)
-          (below-next caps (s .args .q) i path (state s) (r .0 .valid .lengths ∙ sym (s .pre .0 .capacities)) (stepped .result .halved)
-          (f .choose .ensures .1) (stepped .ensures .halved) (ap (λ t. t .lengths) (stepped .ensures .state))),
-    )
+    record {
+      iterated =
+          iterated (net s) (s .args .q) (s .pre .0 .lent) (s .args .threshold) (r .noted .threshold) (state s) (r .reached .valid .table .places) i path
+          (picked f .chosen) _ _ _ _ _ (t .step .ensures);
+      below = rw (c .before .before .forget .ensures)
+          (below-next caps (s .args .q) i path (state s) (r .reached .valid .lengths ∙ sym (s .pre .0 .lent .capacities)) (t .step .result .halved)
+          (f .choose .ensures .below) (t .step .ensures .halved) (ap (λ t. t .lengths) (t .step .ensures .state)));
+    }
 
 pub iterate-spec : {M : Type 1} → statement M
 iterate-spec =

@@ -25,35 +25,38 @@ net s =
     (now (s .args .sinks))
 
 first : (s : tie.Start) → now (s .args .lengths) ≡ initial (net s) .lengths
-first s = ap (λ t. t .lengths) (s .pre .1 .1 .1 .1 .state)
+first s = ap (λ t. t .lengths) (s .pre .1 .state)
 
 choose-requires : tie.Need-choose-requires
 choose-requires c κs =
     let s = c .before .before .before .before .before .before .before .before .before .before .before .before .before .before .before .before .before .before .before .before .before .before .before .before in
-    let p = s .pre in (
-      rw (first s)
-          (surveyed (net s) (s .args .q) (p .0) (initial (net s)) (reached-start (net s) (s .args .q) (p .0 .sound)) (p .1 .0)),
-      (
-        p .0 .sound .counts .of-commodities .least,
-        (p .1 .1 .0, (p .1 .1 .1 .0, (fronted (net s) (s .args .q) (p .0) (p .1 .0), p .1 .1 .1 .1 .below))),
-      ),
-    )
+    let p = s .pre .0 in
+    record {
+      search =
+          rw (first s)
+          (surveyed (net s) (s .args .q) (p .lent) (initial (net s)) (reached-start (net s) (s .args .q) (p .lent .sound)) (p .space));
+      some = p .lent .sound .counts .of-commodities .least;
+      into = p .into;
+      out = p .out;
+      room = fronted (net s) (s .args .q) (p .lent) (p .space);
+      below = s .pre .1 .below;
+    }
 
 -- the function's entry, seen from behind the search; what the search says of the network's choice by these lengths
 abbrev entry : tie.After-choose → tie.Start
 entry c = c .before .before .before .before .before .before .before .before .before .before .before .before .before .before .before .before .before .before .before .before .before .before .before .before .before
 
 chose : (c : tie.After-choose) → Chose (net (entry c)) (initial (net (entry c)) .lengths) (c .choose .result) (c .choose .last .1 .1 .1 .1 .1 .1 .1 .1 .1 .1 .1 .1 .1 .1 .0)
-chose c = rw (← (first (entry c))) (chose-net (c .choose .ensures .0))
+chose c = rw (← (first (entry c))) (chose-net (c .choose .ensures .chose))
 
 returns : tie.Need-returns
 returns c =
     let f = c .before .before .before .before .before .before .before .before .before .before .before .before in
     let s = entry f in
     let k = chose f in
-    let start = s .pre .1 .1 .1 .1 .state in
+    let start = s .pre .1 .state in
     rw (c .unjoined .ensures)
-    (solved-none (net s) (s .args .q) (s .pre .0) (now (s .args .flow)) (now (s .args .kept))
+    (solved-none (net s) (s .args .q) (s .pre .0 .lent) (now (s .args .flow)) (now (s .args .kept))
     (k .nothing (le-antisymm (k .capped) (c .before .if1 .taken)))
     (ap (λ t. t .flow) start)
     (ap (λ t. t .bestLengths) start))
@@ -73,70 +76,75 @@ run-requires : tie.Need-run-requires
 run-requires c κs =
     let t = c .before .before .before .before .before .before .before .before .before in
     let f = search-at t in
-    let p = entry f .pre in
+    let p = entry f .pre .0 in
     let k = f .choose .kept in (
-      p .0,
-      (
-        record {
-          dist = omega (arith, k .1 .1 .1 .1 .1 .1 .1 .1 .1 .1 .1 .0, p .1 .0 .dist);
-          front = omega (arith, k .1 .1 .1 .1 .1 .1 .1 .1 .1 .1 .1 .1 .0, p .1 .0 .front);
-          listed = omega (arith, k .1 .1 .1 .1 .1 .1 .1 .1 .1 .1 .1 .1 .1 .0, p .1 .0 .listed);
-          path = omega (arith, k .1 .1 .1 .1 .1 .1 .1 .1 .1 .1 .1 .1 .1 .1 .0, p .1 .0 .path);
-        },
-        (p .1 .1 .0, (p .1 .1 .1 .0, (f .choose .ensures .1, (chooses t, p .1 .1 .1 .1 .state)))),
-      ),
+      record {
+        lent = p .lent;
+        space = record {
+          dist = omega (arith, k .1 .1 .1 .1 .1 .1 .1 .1 .1 .1 .1 .0, p .space .dist);
+          front = omega (arith, k .1 .1 .1 .1 .1 .1 .1 .1 .1 .1 .1 .1 .0, p .space .front);
+          listed = omega (arith, k .1 .1 .1 .1 .1 .1 .1 .1 .1 .1 .1 .1 .1 .0, p .space .listed);
+          path = omega (arith, k .1 .1 .1 .1 .1 .1 .1 .1 .1 .1 .1 .1 .1 .1 .0, p .space .path);
+        };
+        into = p .into;
+        out = p .out;
+      },
+      record { below = f .choose .ensures .below; chooses = chooses t; start = entry f .pre .1 .state },
     )
 
--- behind the run: where something was chosen; the loads keep their size
+-- behind the run: where something was chosen, and from the end of the function the run; the loads keep their size
 abbrev choice-at : tie.After-run → tie.Else1
 choice-at c = c .before .before .before .before .before .before .before .before .before .before
+
+abbrev run-at : tie.After-answer → tie.After-run
+run-at c = c .before .before .before .before .before .before .before .before .before .before .before .before .before .before .before .before .before .before .before .before
 
 loaded : (c : tie.After-run) → length (c .run .last .1 .1 .1 .1 .1 .1 .1 .1 .1 .1 .1 .1 .0) ≡ arcs (net (entry (search-at (choice-at c))))
 loaded c =
     let s = entry (search-at (choice-at c)) in
     c .run .kept .1 .1 .1 .1 .1 .1 .1 .1 .1 .1 .1 .1 .0 ∙
-    (ap (λ t. length (t .loads)) (s .pre .1 .1 .1 .1 .state) ∙ reached-start (net s) (s .args .q) (s .pre .0 .sound) .valid .table .places)
+    (ap (λ t. length (t .loads)) (s .pre .1 .state) ∙ reached-start (net s) (s .args .q) (s .pre .0 .lent .sound) .valid .table .places)
 
 answer-requires : tie.Need-answer-requires
 answer-requires c κs =
     let f = c .before .before .before .before .before .before .before .before .before .before .before .before .before .before .before .before .before .before .before in
     let s = entry (search-at (choice-at f)) in
-    ranking (net s) (s .args .q) (s .pre .0) (chooses (choice-at f)) (f .run .last .1 .1 .1 .1 .1 .1 .1 .1 .1 .1 .1 .1 .0) (ap (λ t. t .loads) (f .run .ensures)) (loaded f)
+    ranking (net s) (s .args .q) (s .pre .0 .lent) (chooses (choice-at f)) (f .run .last .1 .1 .1 .1 .1 .1 .1 .1 .1 .1 .1 .1 .0) (ap (λ t. t .loads) (f .run .ensures)) (loaded f)
 
 same-length-7 : tie.Need-same-length-7
-same-length-7 c = c .before .before .before .before .before .before .before .before .before .before .before .before .before .before .before .before .before .before .before .before .run .kept .1 .1 .1 .1 .1 .1 .1 .1 .1 .1 .1 .0
+same-length-7 c = run-at c .run .kept .1 .1 .1 .1 .1 .1 .1 .1 .1 .1 .1 .0
 
 same-length-8 : tie.Need-same-length-8
-same-length-8 c = c .before .before .before .before .before .before .before .before .before .before .before .before .before .before .before .before .before .before .before .before .run .kept .1 .1 .1 .1 .1 .1 .1 .1 .1 .1 .1 .1 .1 .1 .0
+same-length-8 c = run-at c .run .kept .1 .1 .1 .1 .1 .1 .1 .1 .1 .1 .1 .1 .1 .1 .0
 
 same-length-9 : tie.Need-same-length-9
-same-length-9 c = c .before .before .before .before .before .before .before .before .before .before .before .before .before .before .before .before .before .before .before .before .run .kept .1 .1 .1 .1 .1 .1 .1 .1 .1 .1 .1 .1 .0
+same-length-9 c = run-at c .run .kept .1 .1 .1 .1 .1 .1 .1 .1 .1 .1 .1 .1 .0
 
 same-length-10 : tie.Need-same-length-10
-same-length-10 c = c .before .before .before .before .before .before .before .before .before .before .before .before .before .before .before .before .before .before .before .before .run .kept .1 .1 .1 .1 .1 .1 .1 .1 .1 .1 .1 .1 .1 .0
+same-length-10 c = run-at c .run .kept .1 .1 .1 .1 .1 .1 .1 .1 .1 .1 .1 .1 .1 .0
 
 same-length-11 : tie.Need-same-length-11
-same-length-11 c = c .before .before .before .before .before .before .before .before .before .before .before .before .before .before .before .before .before .before .before .before .run .kept .1 .1 .1 .1 .1 .1 .1 .1 .1 .1 .1 .1 .1 .1 .1 .0 ∙ c .before .before .before .before .before .before .before .before .before .before .before .before .before .before .before .before .before .before .before .before .before .before .before .before .before .before .before .before .before .before .before .before .before .before .before .before .before .before .before .before .before .choose .kept .1 .1 .1 .1 .1 .1 .1 .1 .1 .1 .0
+same-length-11 c = run-at c .run .kept .1 .1 .1 .1 .1 .1 .1 .1 .1 .1 .1 .1 .1 .1 .1 .0 ∙ search-at (choice-at (run-at c)) .choose .kept .1 .1 .1 .1 .1 .1 .1 .1 .1 .1 .0
 
 same-length-12 : tie.Need-same-length-12
-same-length-12 c = c .before .before .before .before .before .before .before .before .before .before .before .before .before .before .before .before .before .before .before .before .run .kept .1 .1 .1 .1 .1 .1 .1 .1 .1 .1 .1 .1 .1 .1 .1 .1 .0 ∙ c .before .before .before .before .before .before .before .before .before .before .before .before .before .before .before .before .before .before .before .before .before .before .before .before .before .before .before .before .before .before .before .before .before .before .before .before .before .before .before .before .before .choose .kept .1 .1 .1 .1 .1 .1 .1 .1 .1 .1 .1 .0
+same-length-12 c = run-at c .run .kept .1 .1 .1 .1 .1 .1 .1 .1 .1 .1 .1 .1 .1 .1 .1 .1 .0 ∙ search-at (choice-at (run-at c)) .choose .kept .1 .1 .1 .1 .1 .1 .1 .1 .1 .1 .1 .0
 
 same-length-13 : tie.Need-same-length-13
-same-length-13 c = c .before .before .before .before .before .before .before .before .before .before .before .before .before .before .before .before .before .before .before .before .run .kept .1 .1 .1 .1 .1 .1 .1 .1 .1 .1 .1 .1 .1 .1 .1 .1 .1 .0 ∙ c .before .before .before .before .before .before .before .before .before .before .before .before .before .before .before .before .before .before .before .before .before .before .before .before .before .before .before .before .before .before .before .before .before .before .before .before .before .before .before .before .before .choose .kept .1 .1 .1 .1 .1 .1 .1 .1 .1 .1 .1 .1 .0
+same-length-13 c = run-at c .run .kept .1 .1 .1 .1 .1 .1 .1 .1 .1 .1 .1 .1 .1 .1 .1 .1 .1 .0 ∙ search-at (choice-at (run-at c)) .choose .kept .1 .1 .1 .1 .1 .1 .1 .1 .1 .1 .1 .1 .0
 
 same-length-14 : tie.Need-same-length-14
-same-length-14 c = c .before .before .before .before .before .before .before .before .before .before .before .before .before .before .before .before .before .before .before .before .run .kept .1 .1 .1 .1 .1 .1 .1 .1 .1 .1 .1 .1 .1 .1 .1 .1 .1 .1 .0 ∙ c .before .before .before .before .before .before .before .before .before .before .before .before .before .before .before .before .before .before .before .before .before .before .before .before .before .before .before .before .before .before .before .before .before .before .before .before .before .before .before .before .before .choose .kept .1 .1 .1 .1 .1 .1 .1 .1 .1 .1 .1 .1 .1 .0
+same-length-14 c = run-at c .run .kept .1 .1 .1 .1 .1 .1 .1 .1 .1 .1 .1 .1 .1 .1 .1 .1 .1 .1 .0 ∙ search-at (choice-at (run-at c)) .choose .kept .1 .1 .1 .1 .1 .1 .1 .1 .1 .1 .1 .1 .1 .0
 
 same-length-15 : tie.Need-same-length-15
-same-length-15 c = c .before .before .before .before .before .before .before .before .before .before .before .before .before .before .before .before .before .before .before .before .run .kept .1 .1 .1 .1 .1 .1 .1 .1 .1 .1 .1 .1 .1 .1 .1 .1 .1 .1 .1 .0 ∙ c .before .before .before .before .before .before .before .before .before .before .before .before .before .before .before .before .before .before .before .before .before .before .before .before .before .before .before .before .before .before .before .before .before .before .before .before .before .before .before .before .before .choose .kept .1 .1 .1 .1 .1 .1 .1 .1 .1 .1 .1 .1 .1 .1 .0
+same-length-15 c = run-at c .run .kept .1 .1 .1 .1 .1 .1 .1 .1 .1 .1 .1 .1 .1 .1 .1 .1 .1 .1 .1 .0 ∙ search-at (choice-at (run-at c)) .choose .kept .1 .1 .1 .1 .1 .1 .1 .1 .1 .1 .1 .1 .1 .1 .0
 
 returns-2 : tie.Need-returns-2
 returns-2 c =
-    let f = c .before .before .before .before .before .before .before .before .before .before .before .before .before .before .before .before .before .before .before .before in
+    let f = run-at c in
     let s = entry (search-at (choice-at f)) in
     let l = f .run .last in
     rw (c .answer .ensures)
-    (solved-some (net s) (s .args .q) (s .pre .0) _ (picked (choice-at f) .chosen) (l .1 .1 .1 .1 .1 .1 .1 .1 .1 .1 .1 .0) (l .1 .1 .1 .1 .1 .1 .1 .1 .1 .1 .1 .1 .1 .1 .0) (l .1 .1 .1 .1 .1 .1 .1 .1 .1 .1 .1 .1 .0) (l .1 .1 .1 .1 .1 .1 .1 .1 .1 .1 .1 .1 .1 .0) (f .run .result) (f .run .ensures)
+    (solved-some (net s) (s .args .q) (s .pre .0 .lent) _ (picked (choice-at f) .chosen) (l .1 .1 .1 .1 .1 .1 .1 .1 .1 .1 .1 .0) (l .1 .1 .1 .1 .1 .1 .1 .1 .1 .1 .1 .1 .1 .1 .0) (l .1 .1 .1 .1 .1 .1 .1 .1 .1 .1 .1 .1 .0) (l .1 .1 .1 .1 .1 .1 .1 .1 .1 .1 .1 .1 .1 .0) (f .run .result) (f .run .ensures)
     (loaded f))
 
 pub outcome-spec : {M : Type 1} → statement M

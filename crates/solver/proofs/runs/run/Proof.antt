@@ -36,24 +36,24 @@ net s =
 
 threshold-requires : tie.Need-threshold-requires Inv-loop μ-loop
 threshold-requires c κs =
-    let k = c .before .before .before .before .before .before .before .before .before .before .before .before .before .before .before .before .before .before .pre .0 .sound .counts in
+    let k = c .before .before .before .before .before .before .before .before .before .before .before .before .before .before .before .before .before .before .pre .0 .lent .sound .counts in
     (k .of-arcs .least, k .of-arcs .most, k .precision .least, k .precision .most)
 
 begin-requires : tie.Need-begin-requires Inv-loop μ-loop
 begin-requires c κs =
     let s = c .before .before .before .before .before .before .before .before .before .before .before .before .before .before .before .before .before .before .before .before in
-    begin-weighing (net s) (s .args .q) (s .pre .0) (now (s .args .lengths)) (now (s .args .flow)) (now (s .args .loads)) (now (s .args .kept)) (s .pre .1 .1 .1 .1 .1 .1)
+    begin-weighing (net s) (s .args .q) (s .pre .0 .lent) (now (s .args .lengths)) (now (s .args .flow)) (now (s .args .loads)) (now (s .args .kept)) (s .pre .1 .start)
 
 loop-holds : tie.Need-loop-holds Inv-loop μ-loop
 loop-holds c =
     let s = c .before .before .before .before .before .before .before .before .before .before .before .before .before .before .before .before .before .before .before .before .before in
     let r = c .begin .result in
-    let start = s .pre .1 .1 .1 .1 .1 .1 in (
-      begin-running (net s) (s .args .q) (s .pre .0) (now (s .args .lengths)) (now (s .args .flow)) (now (s .args .loads)) (now (s .args .kept)) start r (c .begin .ensures),
+    let start = s .pre .1 .start in (
+      begin-running (net s) (s .args .q) (s .pre .0 .lent) (now (s .args .lengths)) (now (s .args .flow)) (now (s .args .loads)) (now (s .args .kept)) start r (c .begin .ensures),
       (
-        begin-noted (net s) (s .args .q) (s .pre .0) (now (s .args .lengths)) (now (s .args .flow)) (now (s .args .loads)) (now (s .args .kept)) start r (c .begin .ensures) _ (c .before .before .threshold .ensures),
+        begin-noted (net s) (s .args .q) (s .pre .0 .lent) (now (s .args .lengths)) (now (s .args .flow)) (now (s .args .loads)) (now (s .args .kept)) start r (c .begin .ensures) _ (c .before .before .threshold .ensures),
         (
-          s .pre .1 .1 .1 .1 .0,
+          s .pre .1 .below,
           record { flows = refl; loadings = refl; lengthens = refl; keeps = refl; dists = refl; fronts = refl; listings = refl; paths = refl },
         ),
       ),
@@ -64,16 +64,18 @@ iterate-requires c κs =
     let p = c .before .before .before .before .before .before .before .before .before .before .before .before .before .before .before .before .before .before .before .before .before .before .before .before .before .before .before .before .before .before .before .pre in
     let i = c .before .before .before .before .before .before .before .before .before .loop .inv in
     let same = i .1 .1 .1 in (
-      p .0,
-      (
-        record {
-          dist = omega (arith, same .dists, p .1 .0 .dist);
-          front = omega (arith, same .fronts, p .1 .0 .front);
-          listed = omega (arith, same .listings, p .1 .0 .listed);
-          path = omega (arith, same .paths, p .1 .0 .path);
-        },
-        (p .1 .1 .0, (p .1 .1 .1 .0, (i .1 .1 .0, (p .1 .1 .1 .1 .1 .0, (i .0 .reached, i .1 .0))))),
-      ),
+      record {
+        lent = p .0 .lent;
+        space = record {
+          dist = omega (arith, same .dists, p .0 .space .dist);
+          front = omega (arith, same .fronts, p .0 .space .front);
+          listed = omega (arith, same .listings, p .0 .space .listed);
+          path = omega (arith, same .paths, p .0 .space .path);
+        };
+        into = p .0 .into;
+        out = p .0 .out;
+      },
+      record { below = i .1 .1 .0; chooses = p .1 .chooses; reached = i .0 .reached; noted = i .1 .0 },
     )
 
 -- behind an iteration: the function's entry and the loop's beginning; the state before the iteration
@@ -89,7 +91,7 @@ old c = let l = turn c .loop in stateOf (l .lengths) (l .flow) (l .loads) (l .ke
 iterated : (c : tie.After-iterate Inv-loop μ-loop) →
     let l = c .iterate .last in
     Iterated (net (entry c)) (entry c .args .q) (old c) (l .1 .1 .1 .1 .1 .1 .1 .1 .1 .1 .1 .1 .1 .1 .0) (l .1 .1 .1 .1 .1 .1 .1 .1 .1 .1 .1 .1 .0) (l .1 .1 .1 .1 .1 .1 .1 .1 .1 .1 .1 .1 .1 .0) (l .1 .1 .1 .1 .1 .1 .1 .1 .1 .1 .1 .1 .1 .1 .1 .0) (c .iterate .result)
-iterated c = c .iterate .ensures .0
+iterated c = c .iterate .ensures .iterated
 
 sizes : (c : tie.After-iterate Inv-loop μ-loop) →
     let z = entry c .args in
@@ -110,53 +112,60 @@ sizes c =
       paths = k .1 .1 .1 .1 .1 .1 .1 .1 .1 .1 .1 .1 .1 .1 .1 .1 .1 .1 .1 .1 .0 ∙ i .paths;
     }
 
+-- the iteration, seen from where the run goes on and from where it ends
+abbrev going-at : tie.Else1 Inv-loop μ-loop → tie.After-iterate Inv-loop μ-loop
+going-at c = c .before .before .before .before .before .before .before .before .before .before .before .before .before .before .before .before .before .before .before
+
+abbrev ended-at : tie.Then1 Inv-loop μ-loop → tie.After-iterate Inv-loop μ-loop
+ended-at c = c .before .before .before .before .before .before .before .before .before .before .before .before .before .before .before .before .before .before .before
+
 loop-less : tie.Need-loop-less Inv-loop μ-loop
 loop-less c =
-    let f = c .before .before .before .before .before .before .before .before .before .before .before .before .before .before .before .before .before .before .before in
+    let f = going-at c in
     let s = entry f in
-    onward-less (net s) (s .args .q) (s .pre .0 .sound) (s .pre .1 .1 .1 .1 .1 .0) (turn f .loop .inv .0) (iterated f)
+    onward-less (net s) (s .args .q) (s .pre .0 .lent .sound) (s .pre .1 .chooses) (turn f .loop .inv .0) (iterated f)
 
 loop-again : tie.Need-loop-again Inv-loop μ-loop
 loop-again c =
-    let f = c .before .before .before .before .before .before .before .before .before .before .before .before .before .before .before .before .before .before .before in
+    let f = going-at c in
     let s = entry f in
     let i = turn f .loop .inv in (
-      onward-running (net s) (s .args .q) (s .pre .0 .sound) (s .pre .1 .1 .1 .1 .1 .0) (i .0) (iterated f) (c .if1 .left),
-      (onward-noted (i .1 .0) (iterated f), (f .iterate .ensures .1, sizes f)),
+      onward-running (net s) (s .args .q) (s .pre .0 .lent .sound) (s .pre .1 .chooses) (i .0) (iterated f) (c .if1 .left),
+      (onward-noted (i .1 .0) (iterated f), (f .iterate .ensures .below, sizes f)),
     )
 
 same-length : tie.Need-same-length Inv-loop μ-loop
-same-length c = sizes (c .before .before .before .before .before .before .before .before .before .before .before .before .before .before .before .before .before .before .before) .flows
+same-length c = sizes (ended-at c) .flows
 
 same-length-2 : tie.Need-same-length-2 Inv-loop μ-loop
-same-length-2 c = sizes (c .before .before .before .before .before .before .before .before .before .before .before .before .before .before .before .before .before .before .before) .loadings
+same-length-2 c = sizes (ended-at c) .loadings
 
 same-length-3 : tie.Need-same-length-3 Inv-loop μ-loop
-same-length-3 c = sizes (c .before .before .before .before .before .before .before .before .before .before .before .before .before .before .before .before .before .before .before) .lengthens
+same-length-3 c = sizes (ended-at c) .lengthens
 
 same-length-4 : tie.Need-same-length-4 Inv-loop μ-loop
-same-length-4 c = sizes (c .before .before .before .before .before .before .before .before .before .before .before .before .before .before .before .before .before .before .before) .keeps
+same-length-4 c = sizes (ended-at c) .keeps
 
 same-length-5 : tie.Need-same-length-5 Inv-loop μ-loop
-same-length-5 c = let f = c .before .before .before .before .before .before .before .before .before .before .before .before .before .before .before .before .before .before .before in f .iterate .ensures .1 .each ∙ sym (entry f .pre .1 .1 .1 .1 .0 .each)
+same-length-5 c = let f = ended-at c in f .iterate .ensures .below .each ∙ sym (entry f .pre .1 .below .each)
 
 same-length-6 : tie.Need-same-length-6 Inv-loop μ-loop
-same-length-6 c = sizes (c .before .before .before .before .before .before .before .before .before .before .before .before .before .before .before .before .before .before .before) .dists
+same-length-6 c = sizes (ended-at c) .dists
 
 same-length-7 : tie.Need-same-length-7 Inv-loop μ-loop
-same-length-7 c = sizes (c .before .before .before .before .before .before .before .before .before .before .before .before .before .before .before .before .before .before .before) .fronts
+same-length-7 c = sizes (ended-at c) .fronts
 
 same-length-8 : tie.Need-same-length-8 Inv-loop μ-loop
-same-length-8 c = sizes (c .before .before .before .before .before .before .before .before .before .before .before .before .before .before .before .before .before .before .before) .listings
+same-length-8 c = sizes (ended-at c) .listings
 
 same-length-9 : tie.Need-same-length-9 Inv-loop μ-loop
-same-length-9 c = sizes (c .before .before .before .before .before .before .before .before .before .before .before .before .before .before .before .before .before .before .before) .paths
+same-length-9 c = sizes (ended-at c) .paths
 
 returns : tie.Need-returns Inv-loop μ-loop
 returns c =
-    let f = c .before .before .before .before .before .before .before .before .before .before .before .before .before .before .before .before .before .before .before in
+    let f = ended-at c in
     let s = entry f in
-    onward-last (net s) (s .args .q) (s .pre .0 .sound) (s .pre .1 .1 .1 .1 .1 .0) (turn f .loop .inv .0) (iterated f) (c .if1 .taken)
+    onward-last (net s) (s .args .q) (s .pre .0 .lent .sound) (s .pre .1 .chooses) (turn f .loop .inv .0) (iterated f) (c .if1 .taken)
 
 pub run-spec : {M : Type 1} → statement M
 run-spec =

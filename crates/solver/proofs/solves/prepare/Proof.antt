@@ -20,23 +20,41 @@ start-requires c κs =
       },
     )
 
+-- from each call back to the one before it, from the first to the function's entry, and from the end of the function to the last
+abbrev entry : tie.After-start → tie.Start
+entry c = c .before .before .before .before .before .before .before .before .before .before .before .before
+
+abbrev start-at : tie.After-clear → tie.After-start
+start-at c = c .before .before .before .before
+
+abbrev clear-at : tie.After-clear2 → tie.After-clear
+clear-at c = c .before .before .before .before
+
+abbrev clear2-at : tie.After-clear3 → tie.After-clear2
+clear2-at c = c .before .before .before .before
+
+abbrev clear3-at : tie.After-slice-known10 → tie.After-clear3
+clear3-at c = c .before .before .before .before .before .before
+
 returns : tie.Need-returns
 returns c =
-    let s = c .before .before .before .before .before .before .before .before .before .before .before .before .before .before .before .before .before .before .before .before .before .before .before .before .before .before .before .before .before .before in
+    let kept = clear3-at c in
+    let flow = clear2-at kept in
+    let loads = clear-at flow in
+    let lengths = start-at loads in
+    let s = entry lengths in
     let a = s .args in
     record {
       state =
-          rw (c .before .before .before .before .before .before .before .before .before .before .before .before .before .before .before .before .before .before .start .ensures, c .before .before .before .before .before .before .before .before .before .before .before .before .before .before .clear .ensures, c .before .before .before .before .before .before .before .before .before .before .clear2 .ensures, c .before .before .before .before .before .before .clear3 .ensures)
-          (initial-is
+          initial-is
           (networkOf (a .n) (now (a .tails)) (now (a .heads)) (now (a .capacities)) (now (a .sources)) (now (a .sinks)))
           (a .q)
           (s .pre .0)
-          (now (a .flow))
-          (now (a .kept))
-          (now (a .loads))
-          (now (a .lengths))
-          (now (a .bounds))
-          (s .pre .1));
+          (s .pre .1)
+          (lengths .start .ensures)
+          (loads .clear .ensures)
+          (flow .clear2 .ensures)
+          (kept .clear3 .ensures);
       below = rw (c .before .before .clear4 .ensures) (below-zero _ _ (s .pre .1 .each));
     }
 

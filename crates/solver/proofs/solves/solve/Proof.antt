@@ -12,10 +12,10 @@ use Rattle.solver.proofs.solves.solve.Tie as tie
 
 -- 256 numbers are enough for the arcs, and 32 for the commodities
 room : (s : tie.Start) → length (now (s .args .tails)) ≤ length (replicate {A = ℕ} 256 0)
-room s = omega (arith, s .pre .0 .sound .counts .of-arcs .most, length-replicate {A = ℕ} 256 0)
+room s = omega (arith, s .pre .lent .sound .counts .of-arcs .most, length-replicate {A = ℕ} 256 0)
 
 rooms : (s : tie.Start) → length (now (s .args .sources)) ≤ length (replicate {A = ℕ} 32 0)
-rooms s = omega (arith, s .pre .0 .sound .counts .of-commodities .most, length-replicate {A = ℕ} 32 0)
+rooms s = omega (arith, s .pre .lent .sound .counts .of-commodities .most, length-replicate {A = ℕ} 32 0)
 
 slice-aggregate-solve-in-5 : tie.Need-slice-aggregate-solve-in-5
 slice-aggregate-solve-in-5 c = sym (length-take-le _ _ (room (c .before .before .before .before .before .before .before .before .before .before .before .before .before .before)))
@@ -28,25 +28,20 @@ slice-aggregate-solve-in-7 c = sym (length-take-le _ _ (rooms (c .before .before
 
 solve-in-requires : tie.Need-solve-in-requires
 solve-in-requires c κs =
-    let s = c .before .before .before .before .before .before .before .before .before .before .before .before .before .before .before .before .before .before .before .before in (
-      s .pre .0,
-      (
-        record {
-          flows = s .pre .1 .0;
-          keeps = s .pre .1 .1;
-          loadings = length-take-le _ _ (room s);
-          lengthens = length-take-le _ _ (room s);
-          each = length-take-le _ _ (rooms s);
-        },
-        (
-          record { first = lit≤ tt; next = lit≤ tt },
-          (
-            record { first = lit≤ tt; next = lit≤ tt },
-            record { dist = lit≤ tt; front = lit≤ tt; listed = lit≤ tt; path = lit≤ tt },
-          ),
-        ),
-      ),
-    )
+    let s = c .before .before .before .before .before .before .before .before .before .before .before .before .before .before .before .before .before .before .before .before in
+    record {
+      lent = s .pre .lent;
+      sized = record {
+        flows = s .pre .flows;
+        keeps = s .pre .keeps;
+        loadings = length-take-le _ _ (room s);
+        lengthens = length-take-le _ _ (room s);
+        each = length-take-le _ _ (rooms s);
+      };
+      into = record { first = lit≤ tt; next = lit≤ tt };
+      out = record { first = lit≤ tt; next = lit≤ tt };
+      space = record { dist = lit≤ tt; front = lit≤ tt; listed = lit≤ tt; path = lit≤ tt };
+    }
 
 pub solve-spec : {M : Type 1} → statement M
 solve-spec =
