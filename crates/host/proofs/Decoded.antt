@@ -4,10 +4,12 @@ use mathlib.Core.List.{List, _++_, append-nil}
 use Prim.Native.Nat.{ℕ}
 use native.Mathlib.Nat.{le-of-eq}
 use lib.ListN.{length, drop, drop-of-length-le}
+use Rattle.network.specs.Verdict.{firstRow, itemRows}
 use Rattle.numbers.specs.Numbers.{items, column}
 use Rattle.numbers.proofs.Columns.{length-column}
+use Rattle.solver.specs.Runs.{networkOf}
 use Rattle.host.specs.Decode.{Sizable}
-use Rattle.host.specs.Host.{networkIn}
+use Rattle.host.specs.Host.{networkIn, Served}
 use Rattle.host.specs.Judge.{Judging}
 
 -- A table that is filled whole.
@@ -34,3 +36,29 @@ judging n q belts pairs flow lengths answer running total z =
       counts = rw (t, s) (z .counts);
       open-for = record { room = rw (t, s) (z .room); full = z .full };
     }
+
+-- The tables hold the columns of the bytes.
+pub record Columns (belts pairs tails heads capacities sources sinks : List ℕ) : Type 0 where
+  pub of-tails : tails ≡ column belts 3 0 (items 3 belts)
+  pub of-heads : heads ≡ column belts 3 1 (items 3 belts)
+  pub of-capacities : capacities ≡ column belts 3 2 (items 3 belts)
+  pub of-sources : sources ≡ column pairs 2 0 (items 2 pairs)
+  pub of-sinks : sinks ≡ column pairs 2 1 (items 2 pairs)
+
+module _ {belts pairs tails heads capacities sources sinks : List ℕ} (k : Columns belts pairs tails heads capacities sources sinks) (n q : ℕ) where
+  decoded : networkOf n tails heads capacities sources sinks ≡ networkIn n belts pairs
+  unfolding networkIn
+  decoded = rw (k .of-tails, k .of-heads, k .of-capacities, k .of-sources, k .of-sinks) refl
+
+  pub judging-of :
+      (flow lengths answer running : List ℕ) (total : ℕ) → Sizable n q belts pairs flow lengths answer running total →
+      Judging (networkOf n tails heads capacities sources sinks) q flow lengths answer running total
+  judging-of flow lengths answer running total z = rw decoded (judging n q belts pairs flow lengths answer running total z)
+
+  pub served-of :
+      {total result : ℕ} {flow lengths answer running flow' lengths' answer' running' : List ℕ} →
+      let net = networkOf n tails heads capacities sources sinks in
+      Served net q (firstRow (itemRows net)) total flow lengths answer running flow' lengths' answer' running' result →
+      let net' = networkIn n belts pairs in
+      Served net' q (firstRow (itemRows net')) total flow lengths answer running flow' lengths' answer' running' result
+  served-of h = rw decoded at h

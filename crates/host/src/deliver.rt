@@ -4,10 +4,10 @@ ghost use mathlib.Core.Path.{_≡_};
 ghost use mathlib.Core.List.{[], _∷_};
 ghost use Prim.Native.Nat.{_+_, _*_, _≤_, _<_, _^_};
 ghost use lib.ListN.{length};
-ghost use Rattle.network.specs.Network.{arcs, commodities};
 ghost use Rattle.numbers.specs.Numbers.{count, written};
 ghost use Rattle.method.specs.Answer.{numbersOf};
 ghost use Rattle.solver.specs.Runs.{networkOf, Lent};
+ghost use Rattle.solver.specs.Solved.{Solving};
 ghost use Rattle.host.specs.Deliver.{Open, Delivered};
 
 // The seven numbers of the answer.
@@ -52,10 +52,8 @@ fn deliver_in(
     answer: &mut [u8],
     table: &mut [u8],
 )
-    requires lent { ⌜ Lent (networkOf n (now tails) (now heads) (now capacities) (now sources) (now sinks)) q ⌝ }
+    requires solving { ⌜ Solving (networkOf n (now tails) (now heads) (now capacities) (now sources) (now sinks)) q (now flows) (now kept) ⌝ }
     requires room { ⌜ Open (networkOf n (now tails) (now heads) (now capacities) (now sources) (now sinks)) (now flow) (now lengths) (now answer) (now table) running ⌝ }
-    requires flows { ⌜ length (now flows) ≡ commodities (networkOf n (now tails) (now heads) (now capacities) (now sources) (now sinks)) * arcs (networkOf n (now tails) (now heads) (now capacities) (now sources) (now sinks)) ⌝ }
-    requires keeps { ⌜ length (now kept) ≡ arcs (networkOf n (now tails) (now heads) (now capacities) (now sources) (now sinks)) ⌝ }
     ensures { λ r. ⌜ Delivered (networkOf n (now (tails .entry)) (now (heads .entry)) (now (capacities .entry)) (now (sources .entry)) (now (sinks .entry))) q running (now (flow .entry)) (now (lengths .entry)) (now (answer .entry)) (now (table .entry)) (now (flow .exit)) (now (lengths .exit)) (now (answer .exit)) (now (table .exit)) ⌝ }
 {
     let a = solver::solves::solve(n, q, tails, heads, capacities, sources, sinks, flows, kept);

@@ -3,8 +3,11 @@ use borrow.Author.Needs.{needs}
 use denote.Ref.{now}
 use mathlib.Core.Path.{_≡_, sym, ap, _∙_}
 use mathlib.Core.List.{List}
+use Prim.Native.Nat.{ℕ}
+use Rattle.network.specs.Network.{Network}
 use Rattle.network.specs.Refusal.{hostNumber}
 use Rattle.network.specs.Verdict.{Row, firstRow}
+use Rattle.network.specs.declared.Tables.{Tables}
 use Rattle.network.specs.declared.Verdict.{Verdict}
 use Rattle.network.specs.declared.Verdict.the-variants.{Accepted, Refused}
 use Rattle.network.proofs.HostNumber.{verdict-fits}
@@ -14,14 +17,34 @@ use Rattle.host.proofs.Judged.{served-refused}
 use Rattle.host.proofs.vithmork_solve.Statement.{statement}
 use Rattle.host.proofs.vithmork_solve.Tie as tie
 
+-- the lent tables' sizes, the running count and the network at entry
+abbrev tables : tie.Start → Tables
+tables s = tablesIn (now (s .args .flow)) (now (s .args .length)) (now (s .args .answer)) (now (s .args .count))
+
+abbrev running : tie.Start → ℕ
+running s = runningIn (now (s .args .count))
+
+abbrev net : tie.Start → Network
+net s = networkIn (s .args .n) (now (s .args .belts)) (now (s .args .pairs))
+
+-- from each call back to the one before it, and from the first to the function's entry
+abbrev entry : tie.After-check-sizes → tie.Start
+entry c = c .before .before .before .before .before .before .before .before .before .before .before .before .before .before .before .before .before .before .before
+
+abbrev told-at : tie.After-decode → tie.After-enum-told2
+told-at c = c .before .before .before .before .before
+
+abbrev decode-at : tie.After-slice-known8 → tie.After-decode
+decode-at c = c .before .before .before .before .before .before .before .before
+
 -- the rows that were looked at are those of the definition
 abbrev looked : (s : tie.Start) → List Row
-looked s = sizesIn (s .args .n) (s .args .q) (now (s .args .belts)) (now (s .args .pairs)) (tablesIn (now (s .args .flow)) (now (s .args .length)) (now (s .args .answer)) (now (s .args .count))) (runningIn (now (s .args .count)))
+looked s = sizesIn (s .args .n) (s .args .q) (now (s .args .belts)) (now (s .args .pairs)) (tables s) (running s)
 
 abbrev judged : (s : tie.Start) → Verdict
 judged s = verdictIn (s .args .n) (s .args .q) (now (s .args .belts)) (now (s .args .pairs)) (now (s .args .flow)) (now (s .args .length)) (now (s .args .answer)) (now (s .args .count))
 
-sizes : (c : tie.After-check-sizes) → c .check-sizes .result ≡ firstRow (looked (c .before .before .before .before .before .before .before .before .before .before .before .before .before .before .before .before .before .before .before))
+sizes : (c : tie.After-check-sizes) → c .check-sizes .result ≡ firstRow (looked (entry c))
 sizes c =
     rw (
       c .before .before .before .before .before .before .before .before .before .before .before .before .items .ensures,
@@ -34,39 +57,39 @@ sizes c =
     )
     at (c .check-sizes .ensures)
 
-refused : (c : tie.After-enum-told) → judged (c .before .before .before .before .before .before .before .before .before .before .before .before .before .before .before .before .before .before .before .before .before) ≡ Refused (c .enum-told .given .0 .0)
+refused : (c : tie.After-enum-told) → judged (entry (c .before .before)) ≡ Refused (c .enum-told .given .0 .0)
 refused c =
-    let s = c .before .before .before .before .before .before .before .before .before .before .before .before .before .before .before .before .before .before .before .before .before in
-    refused-in (s .args .n) (s .args .q) (now (s .args .belts)) (now (s .args .pairs)) (tablesIn (now (s .args .flow)) (now (s .args .length)) (now (s .args .answer)) (now (s .args .count))) (runningIn (now (s .args .count))) _ (sym (sizes (c .before .before)) ∙ c .enum-told .given .1)
+    let s = entry (c .before .before) in
+    refused-in (s .args .n) (s .args .q) (now (s .args .belts)) (now (s .args .pairs)) (tables s) (running s) _ (sym (sizes (c .before .before)) ∙ c .enum-told .given .1)
 
-number : (c : tie.After-enum-told) → c .before .before .check-sizes .result ≡ judged (c .before .before .before .before .before .before .before .before .before .before .before .before .before .before .before .before .before .before .before .before .before)
+number : (c : tie.After-enum-told) → c .before .before .check-sizes .result ≡ judged (entry (c .before .before))
 number c = c .enum-told .given .1 ∙ sym (refused c)
 
 host-number-requires : tie.Need-host-number-requires
 host-number-requires c κs =
-    let s = c .before .before .before .before .before .before .before .before .before .before .before .before .before .before .before .before .before .before .before .before .before in
-    rw (number c) (verdict-fits (networkIn (s .args .n) (now (s .args .belts)) (now (s .args .pairs))) (s .args .q) (tablesIn (now (s .args .flow)) (now (s .args .length)) (now (s .args .answer)) (now (s .args .count))) (runningIn (now (s .args .count))))
+    let s = entry (c .before .before) in
+    rw (number c) (verdict-fits (net s) (s .args .q) (tables s) (running s))
 
 returns : tie.Need-returns
 returns c =
-    let s = c .before .before .before .before .before .before .before .before .before .before .before .before .before .before .before .before .before .before .before .before .before .before in
-    served-refused (networkIn (s .args .n) (now (s .args .belts)) (now (s .args .pairs))) (s .args .q) (judged s) (runningIn (now (s .args .count))) (now (s .args .flow)) (now (s .args .length)) (now (s .args .answer)) (now (s .args .count)) (c .host-number .result)
+    let s = entry (c .before .before .before) in
+    served-refused (net s) (s .args .q) (judged s) (running s) (now (s .args .flow)) (now (s .args .length)) (now (s .args .answer)) (now (s .args .count)) (c .host-number .result)
     (c .before .enum-told .given .0 .0) (refused (c .before)) (c .host-number .ensures ∙ ap hostNumber (number (c .before)))
 
-passed : (c : tie.After-enum-told2) → firstRow (looked (c .before .before .before .before .before .before .before .before .before .before .before .before .before .before .before .before .before .before .before .before .before)) ≡ Accepted
+passed : (c : tie.After-enum-told2) → firstRow (looked (entry (c .before .before))) ≡ Accepted
 passed c = sym (sizes (c .before .before)) ∙ c .enum-told2 .given .1
 
 decode-requires : tie.Need-decode-requires
 decode-requires c κs =
-    let s = c .before .before .before .before .before .before .before .before .before .before .before .before .before .before .before .before .before .before .before .before .before .before .before .before .before in
+    let s = entry (c .before .before .before .before .before .before) in
     rw (c .before .before .before .before .before .before .before .running-in .ensures)
-    (sizable-in (s .args .n) (s .args .q) (now (s .args .belts)) (now (s .args .pairs)) (now (s .args .flow)) (now (s .args .length)) (now (s .args .answer)) (now (s .args .count)) (runningIn (now (s .args .count))) (passed (c .before .before .before .before)))
+    (sizable-in (s .args .n) (s .args .q) (now (s .args .belts)) (now (s .args .pairs)) (now (s .args .flow)) (now (s .args .length)) (now (s .args .answer)) (now (s .args .count)) (running s) (passed (c .before .before .before .before)))
 
 returns-2 : tie.Need-returns-2
 returns-2 c =
-    let s = c .before .before .before .before .before .before .before .before .before .before .before .before .before .before .before .before .before .before .before .before .before .before .before .before .before .before .before .before .before .before .before .before .before .before in
-    rw (accepted-in (s .args .n) (s .args .q) (now (s .args .belts)) (now (s .args .pairs)) (tablesIn (now (s .args .flow)) (now (s .args .length)) (now (s .args .answer)) (now (s .args .count))) (runningIn (now (s .args .count))) (passed (c .before .before .before .before .before .before .before .before .before .before .before .before .before)), ← (c .before .before .before .before .before .before .before .before .before .before .before .before .before .before .before .before .running-in .ensures))
-    (c .before .before .before .before .before .before .before .before .decode .ensures)
+    let s = entry (told-at (decode-at c) .before .before) in
+    rw (accepted-in (s .args .n) (s .args .q) (now (s .args .belts)) (now (s .args .pairs)) (tables s) (running s) (passed (told-at (decode-at c))), ← (told-at (decode-at c) .before .before .before .running-in .ensures))
+    (decode-at c .decode .ensures)
 
 pub vithmork-solve-spec : {M : Type 1} → statement M
 vithmork-solve-spec =

@@ -1,14 +1,37 @@
 -- `host::decode::decode_in` meets its contract: the columns of the bytes are the network's lists. Assumes nothing.
 use borrow.Author.Needs.{needs}
 use denote.Ref.{now}
-use mathlib.Core.Path.{_≡_, _∙_}
+use mathlib.Core.Path.{_∙_}
 use native.Mathlib.Omega.{arith}
 use lib.Dec.{lit<}
-use Rattle.numbers.specs.Numbers.{items, column}
-use Rattle.host.specs.Host.{networkIn}
-use Rattle.host.proofs.Decoded.{column-of, judging}
+use Rattle.host.proofs.Decoded.{Columns, column-of, judging-of, served-of}
 use Rattle.host.proofs.decode.decode_in.Statement.{statement}
 use Rattle.host.proofs.decode.decode_in.Tie as tie
+
+-- from the last column back to those before it and to the function's entry, and to the last column from what comes after it
+abbrev tails-at : tie.After-read-column5 → tie.After-read-column
+tails-at c = c .before .before .before .before .before .before .before .before .before .before .before .before .before .before .before .before
+
+abbrev heads-at : tie.After-read-column5 → tie.After-read-column2
+heads-at c = c .before .before .before .before .before .before .before .before .before .before .before .before
+
+abbrev capacities-at : tie.After-read-column5 → tie.After-read-column3
+capacities-at c = c .before .before .before .before .before .before .before .before
+
+abbrev sources-at : tie.After-read-column5 → tie.After-read-column4
+sources-at c = c .before .before .before .before
+
+abbrev entry : tie.After-read-column5 → tie.Start
+entry c = c .before .before .before .before .before .before .before .before .before .before .before .before .before .before .before .before .before .before .before .before .before .before .before .before .before .before .before .before .before
+
+abbrev read-at : tie.After-judge-arg9 → tie.After-read-column5
+read-at c = c .before .before .before .before .before .before .before .before .before .before .before
+
+abbrev judge-at : tie.After-slice-known18 → tie.After-judge
+judge-at c = c .before .before .before .before .before .before .before .before
+
+abbrev lent-at : tie.After-judge → tie.After-judge-arg9
+lent-at c = c .before
 
 read-column-requires-5 : tie.Need-read-column-requires-5
 read-column-requires-5 c κs =
@@ -16,48 +39,37 @@ read-column-requires-5 c κs =
     (lit< tt, omega (arith, p .for-sources), omega (arith, p .for-sources, p .for-sinks))
 
 -- each table has its column
-tails : (c : tie.After-read-column5) → c .before .before .before .before .before .before .before .before .before .before .before .before .before .before .before .before .read-column .last .1 .1 .1 .1 .0 ≡ column (now (c .before .before .before .before .before .before .before .before .before .before .before .before .before .before .before .before .before .before .before .before .before .before .before .before .before .before .before .before .before .args .belts)) 3 0 (items 3 (now (c .before .before .before .before .before .before .before .before .before .before .before .before .before .before .before .before .before .before .before .before .before .before .before .before .before .before .before .before .before .args .belts)))
-tails c =
-    let s = c .before .before .before .before .before .before .before .before .before .before .before .before .before .before .before .before .before .before .before .before .before .before .before .before .before .before .before .before .before in
-    c .before .before .before .before .before .before .before .before .before .before .before .before .before .before .before .before .read-column .ensures ∙ column-of _ (now (s .args .tails)) 3 0 _ (s .pre .1 .for-tails) (s .pre .1 .for-tails)
-
-heads : (c : tie.After-read-column5) → c .before .before .before .before .before .before .before .before .before .before .before .before .read-column2 .last .1 .1 .1 .1 .0 ≡ column (now (c .before .before .before .before .before .before .before .before .before .before .before .before .before .before .before .before .before .before .before .before .before .before .before .before .before .before .before .before .before .args .belts)) 3 1 (items 3 (now (c .before .before .before .before .before .before .before .before .before .before .before .before .before .before .before .before .before .before .before .before .before .before .before .before .before .before .before .before .before .args .belts)))
-heads c =
-    let s = c .before .before .before .before .before .before .before .before .before .before .before .before .before .before .before .before .before .before .before .before .before .before .before .before .before .before .before .before .before in
-    c .before .before .before .before .before .before .before .before .before .before .before .before .read-column2 .ensures ∙ column-of _ (now (s .args .heads)) 3 1 _ (s .pre .1 .for-heads) (s .pre .1 .for-tails)
-
-capacities : (c : tie.After-read-column5) → c .before .before .before .before .before .before .before .before .read-column3 .last .1 .1 .1 .1 .0 ≡ column (now (c .before .before .before .before .before .before .before .before .before .before .before .before .before .before .before .before .before .before .before .before .before .before .before .before .before .before .before .before .before .args .belts)) 3 2 (items 3 (now (c .before .before .before .before .before .before .before .before .before .before .before .before .before .before .before .before .before .before .before .before .before .before .before .before .before .before .before .before .before .args .belts)))
-capacities c =
-    let s = c .before .before .before .before .before .before .before .before .before .before .before .before .before .before .before .before .before .before .before .before .before .before .before .before .before .before .before .before .before in
-    c .before .before .before .before .before .before .before .before .read-column3 .ensures ∙ column-of _ (now (s .args .capacities)) 3 2 _ (s .pre .1 .for-capacities) (s .pre .1 .for-tails)
-
-sources : (c : tie.After-read-column5) → c .before .before .before .before .read-column4 .last .1 .1 .1 .1 .0 ≡ column (now (c .before .before .before .before .before .before .before .before .before .before .before .before .before .before .before .before .before .before .before .before .before .before .before .before .before .before .before .before .before .args .pairs)) 2 0 (items 2 (now (c .before .before .before .before .before .before .before .before .before .before .before .before .before .before .before .before .before .before .before .before .before .before .before .before .before .before .before .before .before .args .pairs)))
-sources c =
-    let s = c .before .before .before .before .before .before .before .before .before .before .before .before .before .before .before .before .before .before .before .before .before .before .before .before .before .before .before .before .before in
-    c .before .before .before .before .read-column4 .ensures ∙ column-of _ (now (s .args .sources)) 2 0 _ (s .pre .1 .for-sources) (s .pre .1 .for-sources)
-
-sinks : (c : tie.After-read-column5) → c .read-column5 .last .1 .1 .1 .1 .0 ≡ column (now (c .before .before .before .before .before .before .before .before .before .before .before .before .before .before .before .before .before .before .before .before .before .before .before .before .before .before .before .before .before .args .pairs)) 2 1 (items 2 (now (c .before .before .before .before .before .before .before .before .before .before .before .before .before .before .before .before .before .before .before .before .before .before .before .before .before .before .before .before .before .args .pairs)))
-sinks c =
-    let s = c .before .before .before .before .before .before .before .before .before .before .before .before .before .before .before .before .before .before .before .before .before .before .before .before .before .before .before .before .before in
-    c .read-column5 .ensures ∙ column-of _ (now (s .args .sinks)) 2 1 _ (s .pre .1 .for-sinks) (s .pre .1 .for-sources)
+columns : (c : tie.After-read-column5) →
+    Columns (now (entry c .args .belts)) (now (entry c .args .pairs)) (tails-at c .read-column .last .1 .1 .1 .1 .0)
+    (heads-at c .read-column2 .last .1 .1 .1 .1 .0) (capacities-at c .read-column3 .last .1 .1 .1 .1 .0) (sources-at c .read-column4 .last .1 .1 .1 .1 .0)
+    (c .read-column5 .last .1 .1 .1 .1 .0)
+columns c =
+    let s = entry c in
+    let p = s .pre .1 in
+    record {
+      of-tails = tails-at c .read-column .ensures ∙ column-of _ (now (s .args .tails)) 3 0 _ (p .for-tails) (p .for-tails);
+      of-heads = heads-at c .read-column2 .ensures ∙ column-of _ (now (s .args .heads)) 3 1 _ (p .for-heads) (p .for-tails);
+      of-capacities = capacities-at c .read-column3 .ensures ∙ column-of _ (now (s .args .capacities)) 3 2 _ (p .for-capacities) (p .for-tails);
+      of-sources = sources-at c .read-column4 .ensures ∙ column-of _ (now (s .args .sources)) 2 0 _ (p .for-sources) (p .for-sources);
+      of-sinks = c .read-column5 .ensures ∙ column-of _ (now (s .args .sinks)) 2 1 _ (p .for-sinks) (p .for-sources);
+    }
 
 judge-requires : tie.Need-judge-requires
-unfolding networkIn
 judge-requires c κs =
-    let s = c .before .before .before .before .before .before .before .before .before .before .before .before .before .before .before .before .before .before .before .before .before .before .before .before .before .before .before .before .before .before .before .before .before .before .before .before .before .before .before .before in
-    rw (tails (c .before .before .before .before .before .before .before .before .before .before .before), heads (c .before .before .before .before .before .before .before .before .before .before .before), capacities (c .before .before .before .before .before .before .before .before .before .before .before), sources (c .before .before .before .before .before .before .before .before .before .before .before), sinks (c .before .before .before .before .before .before .before .before .before .before .before))
-    (judging (s .args .n) (s .args .q) (now (s .args .belts)) (now (s .args .pairs)) (now (s .args .flow)) (now (s .args .lengths)) (now (s .args .answer))
-    (now (s .args .table)) (s .args .running) (s .pre .0))
+    let a = entry (read-at c) .args in
+    judging-of (columns (read-at c)) (a .n) (a .q) (now (a .flow)) (now (a .lengths)) (now (a .answer)) (now (a .table)) (a .running)
+    (entry (read-at c) .pre .0)
 
 same-length : tie.Need-same-length
-same-length c = c .before .before .before .before .before .before .before .before .before .before .before .before .before .before .before .before .before .before .before .before .before .before .before .before .before .before .before .before .before .before .before .before .before .before .before .before .read-column .kept .1 .1 .1 .1 .0
+same-length c = tails-at (read-at (lent-at (judge-at c))) .read-column .kept .1 .1 .1 .1 .0
 
 same-length-2 : tie.Need-same-length-2
-same-length-2 c = c .before .before .before .before .before .before .before .before .before .before .before .before .before .before .before .before .before .before .before .before .before .before .before .before .before .before .before .before .before .before .before .before .read-column2 .kept .1 .1 .1 .1 .0
+same-length-2 c = heads-at (read-at (lent-at (judge-at c))) .read-column2 .kept .1 .1 .1 .1 .0
 
 returns : tie.Need-returns
-unfolding networkIn
-returns c = rw (tails (c .before .before .before .before .before .before .before .before .before .before .before .before .before .before .before .before .before .before .before .before), heads (c .before .before .before .before .before .before .before .before .before .before .before .before .before .before .before .before .before .before .before .before), capacities (c .before .before .before .before .before .before .before .before .before .before .before .before .before .before .before .before .before .before .before .before), sources (c .before .before .before .before .before .before .before .before .before .before .before .before .before .before .before .before .before .before .before .before), sinks (c .before .before .before .before .before .before .before .before .before .before .before .before .before .before .before .before .before .before .before .before)) at (c .before .before .before .before .before .before .before .before .judge .ensures)
+returns c =
+    let f = read-at (lent-at (judge-at c)) in
+    served-of (columns f) (entry f .args .n) (entry f .args .q) (judge-at c .judge .ensures)
 
 pub decode-in-spec : {M : Type 1} → statement M
 decode-in-spec =

@@ -25,14 +25,12 @@ slice-aggregate-deliver-in-2 c = sym (length-take-le _ (replicate {A = ℕ} 256 
 deliver-in-requires : tie.Need-deliver-in-requires
 deliver-in-requires c κs =
     let s = c .before .before .before .before .before .before .before .before .before .before .before .before .before .before .before in (
-      s .pre .0,
-      (
-        s .pre .1,
-        (
-          length-take-le _ (replicate {A = ℕ} 8192 0) (few s),
-          length-take-le _ (replicate {A = ℕ} 256 0) (s .pre .0 .sound .counts .of-arcs .most),
-        ),
-      ),
+      record {
+        lent = s .pre .0;
+        flows = length-take-le _ (replicate {A = ℕ} 8192 0) (few s);
+        keeps = length-take-le _ (replicate {A = ℕ} 256 0) (s .pre .0 .sound .counts .of-arcs .most);
+      },
+      s .pre .1,
     )
 
 pub deliver-spec : {M : Type 1} → statement M
