@@ -10,8 +10,9 @@ use Rattle.network.specs.declared.Verdict.the-variants.{Accepted, Refused}
 use Rattle.network.proofs.Decided.{accepted-quiet}
 use Rattle.network.proofs.FirstRow.{first-refuses, first-accepts}
 use Rattle.network.proofs.Sizes.{sizes-kept}
+use Rattle.solver.specs.Runs.{networkOf}
 use Rattle.records.specs.Copied.{Copied}
-use Rattle.records.specs.Parts.{Sizable, Judging}
+use Rattle.records.specs.Parts.{Sizable, ArcsParted, PairsParted, Judging}
 use Rattle.records.specs.Records.{networkIn, tablesIn, verdictIn, Recorded, Replied}
 use Rattle.records.specs.declared.Arc.{Arc}
 use Rattle.records.specs.declared.Reply.{Reply}
@@ -60,6 +61,26 @@ judging n q records pairs flow lengths z =
       counts = rw (t, s) (z .counts);
       room = rw (t, s) (z .room);
     }
+
+-- The parted lists are the network's.
+module _ {arcs : List Arc} {pairs places tails heads capacities sources sinks : List ℕ} (a : ArcsParted arcs places tails heads capacities)
+    (p : PairsParted pairs sources sinks) (n q : ℕ) where
+  parted : networkOf n tails heads capacities sources sinks ≡ networkIn n (take (length places) arcs) pairs
+  unfolding networkIn
+  parted = rw (a .all-tails, a .all-heads, a .all-capacities, p .all-sources, p .all-sinks) refl
+
+  pub judging-of :
+      (flow lengths : List ℕ) → Sizable n q (length (take (length places) arcs)) pairs flow lengths →
+      Judging (networkOf n tails heads capacities sources sinks) q flow lengths
+  judging-of flow lengths z = rw parted (judging n q (take (length places) arcs) pairs flow lengths z)
+
+  pub replied-of :
+      {flow lengths flow' lengths' : List ℕ} {r : Reply} →
+      let net = networkOf n tails heads capacities sources sinks in
+      Replied net q (firstRow (itemRows net)) flow lengths flow' lengths' r →
+      let net' = networkIn n (take (length places) arcs) pairs in
+      Replied net' q (firstRow (itemRows net')) flow lengths flow' lengths' r
+  replied-of h = rw parted at h
 
 -- Of every slice that the array is a copy of: its sizes are refused, or they pass and its arcs and commodities decide.
 module _ (n q : ℕ) (copy : List Arc) (m : ℕ) (records : List Arc) (pairs flow lengths : List ℕ) (c : Copied copy m records) where

@@ -28,13 +28,8 @@ returns-3 c = turned-down _ (c .before .before .before .before .before .pre) (rw
 
 returns-4 : tie.Need-returns-4
 returns-4 c =
-    rw
-    (c .with-source .ensures)
-    (source-added _
-    (c .before .before .before .before .line .given .1)
-    _
-    (c .before .enum-told3 .given .1)
-    (c .before .before .before .before .before .before .before .before .before .pre))
+    rw (c .with-source .ensures)
+    (source-added _ (c .before .before .before .before .line .given .1) _ (c .before .enum-told3 .given .1) (c .before .before .before .before .before .before .before .before .before .pre))
 
 returns-5 : tie.Need-returns-5
 unfolding following once
@@ -45,13 +40,8 @@ returns-5 c =
 
 returns-6 : tie.Need-returns-6
 returns-6 c =
-    rw
-    (c .with-sink .ensures)
-    (sink-added _
-    (c .before .before .before .before .line2 .given .1)
-    _
-    (c .before .enum-told5 .given .1)
-    (c .before .before .before .before .before .before .before .before .before .pre))
+    rw (c .with-sink .ensures)
+    (sink-added _ (c .before .before .before .before .line2 .given .1) _ (c .before .enum-told5 .given .1) (c .before .before .before .before .before .before .before .before .before .pre))
 
 returns-7 : tie.Need-returns-7
 unfolding following once

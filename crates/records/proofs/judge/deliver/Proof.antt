@@ -25,7 +25,7 @@ slice-aggregate-solve-2 c = sym (keeps (c .before .before .before .before .befor
 solve-requires : tie.Need-solve-requires
 solve-requires c κs =
     let s = c .before .before .before .before .before .before .before .before .before in
-    (s .pre .0, (flows s, keeps s))
+    record { lent = s .pre .0; flows = flows s; keeps = keeps s }
 
 returns : tie.Need-returns
 returns c =

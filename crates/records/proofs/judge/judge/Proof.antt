@@ -17,36 +17,43 @@ net s =
     networkOf (s .args .n) (now (s .args .tails)) (now (s .args .heads)) (now (s .args .capacities)) (now (s .args .sources))
     (now (s .args .sinks))
 
+-- from each call back to the one before it, and from the first to the function's entry
+abbrev entry : tie.After-check-arcs → tie.Start
+entry c = c .before .before .before .before .before .before .before .before
+
+abbrev arcs-at : tie.After-check-commodities → tie.After-check-arcs
+arcs-at c = c .before .before .before
+
 -- the arcs are refused, so the call is
-of-arcs : (c : tie.After-arcs) → c .before .before .check-arcs .result ≡ firstRow (itemRows (net (c .before .before .before .before .before .before .before .before .before .before)))
+of-arcs : (c : tie.After-arcs) → c .before .before .check-arcs .result ≡ firstRow (itemRows (net (entry (c .before .before))))
 unfolding itemRows arcRows
 of-arcs c = refused-first _ _ (c .before .before .check-arcs .ensures) (c .arcs .given .1)
 
 returns : tie.Need-returns
 returns c =
-    let s = c .before .before .before .before .before .before .before .before .before .before .before in
+    let s = entry (c .before .before .before) in
     replied-refused (net s) (s .args .q) (now (s .args .flow)) (now (s .args .lengths)) (firstRow (itemRows (net s))) _
     (sym (of-arcs (c .before)) ∙ c .before .arcs .given .1)
 
 -- the arcs pass, so the commodities decide
-of-commodities : (c : tie.After-check-commodities) → c .check-commodities .result ≡ firstRow (itemRows (net (c .before .before .before .before .before .before .before .before .before .before .before)))
+of-commodities : (c : tie.After-check-commodities) → c .check-commodities .result ≡ firstRow (itemRows (net (entry (arcs-at c))))
 unfolding itemRows arcRows commodityRows
 of-commodities c =
-    accepted-first _ _ (c .before .before .before .check-arcs .ensures) (c .before .enum-told .given .1) (c .check-commodities .ensures)
+    accepted-first _ _ (arcs-at c .check-arcs .ensures) (c .before .enum-told .given .1) (c .check-commodities .ensures)
 
 returns-2 : tie.Need-returns-2
 returns-2 c =
-    let s = c .before .before .before .before .before .before .before .before .before .before .before .before .before .before in
+    let s = entry (arcs-at (c .before .before .before)) in
     replied-refused (net s) (s .args .q) (now (s .args .flow)) (now (s .args .lengths)) (firstRow (itemRows (net s))) _
     (sym (of-commodities (c .before .before .before)) ∙ c .before .commodities .given .1)
 
 -- nothing is refused
-accepted : (c : tie.After-enum-told2) → firstRow (itemRows (net (c .before .before .before .before .before .before .before .before .before .before .before .before .before))) ≡ Accepted
+accepted : (c : tie.After-enum-told2) → firstRow (itemRows (net (entry (arcs-at (c .before .before))))) ≡ Accepted
 accepted c = sym (of-commodities (c .before .before)) ∙ c .enum-told2 .given .1
 
 deliver-requires : tie.Need-deliver-requires
 deliver-requires c κs =
-    let s = c .before .before .before .before .before .before .before .before .before .before .before .before .before .before .before in
+    let s = entry (arcs-at (c .before .before .before .before)) in
     (lends (net s) (s .args .q) (now (s .args .flow)) (now (s .args .lengths)) (s .pre) (accepted (c .before .before)), s .pre .room)
 
 returns-3 : tie.Need-returns-3

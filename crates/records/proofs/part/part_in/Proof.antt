@@ -4,8 +4,7 @@ use native.Mathlib.Omega.{arith}
 use lib.ListN.{length, take}
 use lib.Seq.{length-take-le}
 use Rattle.records.specs.Parts.{Sizable}
-use Rattle.records.specs.Records.{networkIn}
-use Rattle.records.proofs.Served.{judging}
+use Rattle.records.proofs.Served.{judging-of, replied-of}
 use borrow.Author.Needs.{needs}
 use Rattle.records.proofs.part.part_in.Statement.{statement}
 use Rattle.records.proofs.part.part_in.Tie as tie
@@ -14,30 +13,24 @@ use Rattle.records.proofs.part.part_in.Tie as tie
 sized : (s : tie.Start) → Sizable (s .args .n) (s .args .q) (length (take (length (now (s .args .tails))) (s .args .arcs))) (now (s .args .pairs)) (now (s .args .flow)) (now (s .args .lengths))
 sized s = rw (length-take-le (length (now (s .args .tails))) (s .args .arcs) (omega (arith, s .good .1 .1 .0))) (s .pre .0)
 
+-- from each call back to the one before it, and from the first to the function's entry
+abbrev entry : tie.After-part-arcs → tie.Start
+entry c = c .before .before .before .before .before .before .before .before .before .before .before .before
+
+abbrev arcs-at : tie.After-part-pairs → tie.After-part-arcs
+arcs-at c = c .before .before .before .before .before .before .before .before .before
+
 judge-requires : tie.Need-judge-requires
-unfolding networkIn
 judge-requires c κs =
-    let s = c .before .before .before .before .before .before .before .before .before .before .before .before .before .before .before .before .before .before .before .before .before .before .before .before .before .before .before .before .before .before .before .before in
-    rw (
-      c .before .before .before .before .before .before .before .before .before .before .before .before .before .before .before .before .before .before .before .before .part-arcs .ensures .all-tails,
-      c .before .before .before .before .before .before .before .before .before .before .before .before .before .before .before .before .before .before .before .before .part-arcs .ensures .all-heads,
-      c .before .before .before .before .before .before .before .before .before .before .before .before .before .before .before .before .before .before .before .before .part-arcs .ensures .all-capacities,
-      c .before .before .before .before .before .before .before .before .before .before .before .part-pairs .ensures .all-sources,
-      c .before .before .before .before .before .before .before .before .before .before .before .part-pairs .ensures .all-sinks,
-    )
-    (judging (s .args .n) (s .args .q) (take (length (now (s .args .tails))) (s .args .arcs)) (now (s .args .pairs)) (now (s .args .flow)) (now (s .args .lengths)) (sized s))
+    let f = c .before .before .before .before .before .before .before .before .before .before .before in
+    let s = entry (arcs-at f) in
+    judging-of (arcs-at f .part-arcs .ensures) (f .part-pairs .ensures) (s .args .n) (s .args .q) (now (s .args .flow)) (now (s .args .lengths)) (sized s)
 
 returns : tie.Need-returns
-unfolding networkIn
 returns c =
-    rw (
-      c .before .before .before .before .before .before .before .before .before .before .before .before .before .before .before .before .before .before .before .before .before .before .before .before .before .part-arcs .ensures .all-tails,
-      c .before .before .before .before .before .before .before .before .before .before .before .before .before .before .before .before .before .before .before .before .before .before .before .before .before .part-arcs .ensures .all-heads,
-      c .before .before .before .before .before .before .before .before .before .before .before .before .before .before .before .before .before .before .before .before .before .before .before .before .before .part-arcs .ensures .all-capacities,
-      c .before .before .before .before .before .before .before .before .before .before .before .before .before .before .before .before .part-pairs .ensures .all-sources,
-      c .before .before .before .before .before .before .before .before .before .before .before .before .before .before .before .before .part-pairs .ensures .all-sinks,
-    )
-    at (c .before .before .before .before .judge .ensures)
+    let f = c .before .before .before .before .before .before .before .before .before .before .before .before .before .before .before .before in
+    let s = entry (arcs-at f) in
+    replied-of (arcs-at f .part-arcs .ensures) (f .part-pairs .ensures) (s .args .n) (s .args .q) (c .before .before .before .before .judge .ensures)
 
 pub part-in-spec : {M : Type 1} → statement M
 part-in-spec =

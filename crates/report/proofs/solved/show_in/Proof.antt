@@ -17,28 +17,42 @@ net s =
     networkOf (s .args .n) (now (s .args .tails)) (now (s .args .heads)) (now (s .args .capacities)) (now (s .args .sources))
     (now (s .args .sinks))
 
+-- from each call back to the one before it, and from the first to the function's entry
+abbrev entry : tie.After-solve → tie.Start
+entry c = c .before .before .before .before .before .before .before .before .before .before .before
+
+abbrev solve-at : tie.After-put-answer → tie.After-solve
+solve-at c = c .before .before .before .before .before .before
+
+abbrev answer-at : tie.After-put-belts → tie.After-put-answer
+answer-at c = c .before .before .before .before .before
+
 solve-requires : tie.Need-solve-requires
 solve-requires c κs =
     let s = c .before .before .before .before .before .before .before .before .before .before in
-    (s .pre .0 .lent, (one-row (net s) (now (s .args .flow)) (s .pre .0 .one) (s .pre .1 .0), s .pre .1 .1))
+    record { lent = s .pre .0 .lent; flows = one-row (net s) (now (s .args .flow)) (s .pre .0 .one) (s .pre .1 .0); keeps = s .pre .1 .1 }
 
 put-answer-requires : tie.Need-put-answer-requires
 put-answer-requires c κs =
-    let s = c .before .before .before .before .before .before .before .before .before .before .before .before .before .before .before .before in
-    (total-small (net s) (s .pre .0) (c .before .before .before .before .before .solve .ensures), omega (arith, s .pre .0 .enough))
+    let f = c .before .before .before .before .before in
+    let s = entry f in
+    (total-small (net s) (s .pre .0) (f .solve .ensures), omega (arith, s .pre .0 .enough))
 
 put-belts-requires : tie.Need-put-belts-requires
 put-belts-requires c κs =
-    let s = c .before .before .before .before .before .before .before .before .before .before .before .before .before .before .before .before .before .before .before .before .before in
-    let v = c .before .before .before .before .before .before .before .before .before .before .solve in
-    let p = c .before .before .before .before .put-answer in
+    let f = c .before .before .before .before in
+    let s = entry (solve-at f) in
+    let v = solve-at f .solve in
+    let p = f .put-answer in
     rw (p .kept .0)
     (belted (net s) (s .pre .0) (v .ensures) _ (v .kept .1 .1 .1 .1 .1 .1 .1 .0 ∙ s .pre .1 .0) (put-within (p .ensures) (answer-length _)))
 
 returns : tie.Need-returns
 returns c =
-    let s = c .before .before .before .before .before .before .before .before .before .before .before .before .before .before .before .before .before .before .before .before .before .before .before .before in
-    shown (net s) (s .pre .0) (c .before .before .before .before .before .before .before .before .before .before .before .before .before .solve .ensures) (c .before .before .before .before .before .before .before .put-answer .ensures) (c .before .before .put-belts .ensures)
+    let b = c .before .before in
+    let a = answer-at b in
+    let s = entry (solve-at a) in
+    shown (net s) (s .pre .0) (solve-at a .solve .ensures) (a .put-answer .ensures) (b .put-belts .ensures)
 
 pub show-in-spec : {M : Type 1} → statement M
 show-in-spec =
