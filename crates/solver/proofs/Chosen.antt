@@ -13,15 +13,16 @@ use Rattle.method.specs.Iteration.{State, advance, iteration}
 use Rattle.method.proofs.Reached.{Reached}
 use Rattle.method.proofs.Sized.{reached-sizes}
 use Rattle.paths.specs.Far.{far}
+use Rattle.choice.specs.Calls.{Choosing}
 use Rattle.choice.specs.Chose.{Picked, Chose}
 use Rattle.paths.specs.Frontier.{Frontier}
 use Rattle.choice.specs.Search.{Search}
 use Rattle.choice.specs.declared.Selected.{Selected}
 use Rattle.choice.proofs.Bare.{bareOf, search-bare, chose-net}
 use Rattle.choice.proofs.Ready.{sound-search}
-use Rattle.solver.specs.Runs.{Lent, Space, Chooses}
+use Rattle.solver.specs.Runs.{Lent, Space, Placed, Bounding, Chooses}
 
-pub surveyed :
+surveyed :
     (net : Network) (q : ℕ) → Lent net q → (s : State) → Reached net q s → {nodes fronts marks places : ℕ} → Space nodes fronts marks places →
     Search (bareOf net) (s .lengths) nodes places
 surveyed net q lent s r space =
@@ -31,10 +32,25 @@ surveyed net q lent s r space =
     (sound-search (lent .sound) (λ e l. (z .length-low e l, z .length-high e l)) (le-of-eq (sym (r .valid .lengths))) (omega (arith, space .dist))
     (omega (arith, space .path)))
 
-pub fronted : (net : Network) (q : ℕ) → Lent net q → {nodes fronts marks places : ℕ} → Space nodes fronts marks places → Frontier (net .nodes) fronts marks
+fronted : (net : Network) (q : ℕ) → Lent net q → {nodes fronts marks places : ℕ} → Space nodes fronts marks places → Frontier (net .nodes) fronts marks
 fronted net q lent space =
     let few : net .nodes ≤ 64 = lent .sound .counts .of-nodes .most in
     record { front = omega (arith, space .front); listed = omega (arith, space .listed) }
+
+-- At every state that the run reaches, a choice can be made by its lengths.
+pub choosing :
+    {net : Network} {q : ℕ} {first-in next-in first-out next-out l bounds : List ℕ} {nodes fronts marks places : ℕ} →
+    Placed net q first-in next-in first-out next-out nodes fronts marks places → Bounding net l bounds → (s : State) → Reached net q s →
+    l ≡ s .lengths → Choosing (bareOf net) l first-in next-in first-out next-out bounds nodes fronts marks places
+choosing {net} {q} p below s r e =
+    record {
+      search = rw e (surveyed net q (p .lent) s r (p .space));
+      some = p .lent .sound .counts .of-commodities .least;
+      into = p .into;
+      out = p .out;
+      room = fronted net q (p .lent) (p .space);
+      below = below;
+    }
 
 -- Where something is chosen whatever the lengths, the search picks it.
 pub picks : (net : Network) → Chooses net → (l : List ℕ) (r : Selected) (path : List ℕ) → Chose (bareOf net) l r path → Picked net l r path

@@ -1,7 +1,7 @@
 -- `solver::iterations::iterate` meets its contract: the search gives the method's choice, and the step follows it. Assumes nothing.
 use borrow.Author.Needs.{needs}
 use denote.Ref.{now}
-use mathlib.Core.Path.{sym, ap, _∙_}
+use mathlib.Core.Path.{refl, sym, ap, _∙_}
 use mathlib.Core.List.{List}
 use Prim.Native.Nat.{ℕ, _≤_}
 use native.Mathlib.Omega.{arith}
@@ -12,7 +12,7 @@ use Rattle.method.specs.Iteration.{State}
 use Rattle.choice.specs.Chose.{Picked}
 use Rattle.step.specs.Progress.{stateOf}
 use Rattle.solver.specs.Runs.{networkOf}
-use Rattle.solver.proofs.Chosen.{surveyed, fronted, picks}
+use Rattle.solver.proofs.Chosen.{choosing, picks}
 use Rattle.solver.proofs.Iterated.{iterated}
 use Rattle.solver.proofs.Longer.{below-next}
 use Rattle.solver.proofs.Noted.{kept-ready}
@@ -32,15 +32,7 @@ state s = stateOf (now (s .args .lengths)) (now (s .args .flow)) (now (s .args .
 choose-requires : tie.Need-choose-requires
 choose-requires c κs =
     let s = c .before .before .before .before .before .before .before .before .before .before .before .before .before .before .before .before .before .before .before .before .before .before .before .before in
-    let p = s .pre .0 in
-    record {
-      search = surveyed (net s) (s .args .q) (p .lent) (state s) (s .pre .1 .reached) (p .space);
-      some = p .lent .sound .counts .of-commodities .least;
-      into = p .into;
-      out = p .out;
-      room = fronted (net s) (s .args .q) (p .lent) (p .space);
-      below = s .pre .1 .below;
-    }
+    choosing (s .pre .0) (s .pre .1 .below) (state s) (s .pre .1 .reached) refl
 
 -- the function's entry, seen from behind the search; what was found, and the table of arcs then
 abbrev entry : tie.After-choose → tie.Start

@@ -13,7 +13,7 @@ use Rattle.method.proofs.Reached.{reached-start}
 use Rattle.choice.specs.Chose.{Picked, Chose}
 use Rattle.choice.proofs.Bare.{chose-net}
 use Rattle.solver.specs.Runs.{networkOf, Chooses}
-use Rattle.solver.proofs.Chosen.{surveyed, fronted}
+use Rattle.solver.proofs.Chosen.{choosing}
 use Rattle.solver.proofs.Solving.{solved-none, solved-some, ranking}
 use Rattle.solver.proofs.outcomes.outcome.Statement.{statement}
 use Rattle.solver.proofs.outcomes.outcome.Tie as tie
@@ -30,17 +30,7 @@ first s = ap (λ t. t .lengths) (s .pre .1 .state)
 choose-requires : tie.Need-choose-requires
 choose-requires c κs =
     let s = c .before .before .before .before .before .before .before .before .before .before .before .before .before .before .before .before .before .before .before .before .before .before .before .before in
-    let p = s .pre .0 in
-    record {
-      search =
-          rw (first s)
-          (surveyed (net s) (s .args .q) (p .lent) (initial (net s)) (reached-start (net s) (s .args .q) (p .lent .sound)) (p .space));
-      some = p .lent .sound .counts .of-commodities .least;
-      into = p .into;
-      out = p .out;
-      room = fronted (net s) (s .args .q) (p .lent) (p .space);
-      below = s .pre .1 .below;
-    }
+    choosing (s .pre .0) (s .pre .1 .below) (initial (net s)) (reached-start (net s) (s .args .q) (s .pre .0 .lent .sound)) (first s)
 
 -- the function's entry, seen from behind the search; what the search says of the network's choice by these lengths
 abbrev entry : tie.After-choose → tie.Start
