@@ -27,6 +27,7 @@ pub record Choice : Type 0 where
   pub commodity : ℕ
   pub path : List ℕ
 
+-- the choice of path p for commodity i
 abbrev pub choiceOf : ℕ → List ℕ → Choice
 choiceOf i p = record { commodity = i; path = p }
 

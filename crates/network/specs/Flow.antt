@@ -29,10 +29,11 @@ loadOf net f e = sum (commodities net) (λ i. f i e)
 pub record Keeps (net : Network) (d : ℕ) (f : ℕ → ℕ → ℕ) : Type 0 where
   pub within : (e : ℕ) → e < arcs net → loadOf net f e ≤ d * capacity net e
 
--- What leaves the sources, each commodity's own amount at its own source, and what enters them.
+-- What leaves the sources, each commodity's own amount at its own source.
 unfoldable pub leaving : Network → (ℕ → ℕ → ℕ) → ℕ
 leaving net f = sum (commodities net) (λ i. outflow net (f i) (source net i))
 
+-- What enters them.
 unfoldable pub entering : Network → (ℕ → ℕ → ℕ) → ℕ
 entering net f = sum (commodities net) (λ i. inflow net (f i) (source net i))
 

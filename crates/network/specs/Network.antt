@@ -22,17 +22,22 @@ arcs net = length (net .tails)
 abbrev pub commodities : Network → ℕ
 commodities net = length (net .sources)
 
+-- where arc e starts
 abbrev pub tail : Network → ℕ → ℕ
 tail net e = getD (net .tails) e 0
 
+-- where it ends
 abbrev pub head : Network → ℕ → ℕ
 head net e = getD (net .heads) e 0
 
+-- what it can carry, in totes an hour
 abbrev pub capacity : Network → ℕ → ℕ
 capacity net e = getD (net .capacities) e 0
 
+-- where commodity i comes from
 abbrev pub source : Network → ℕ → ℕ
 source net i = getD (net .sources) i 0
 
+-- where it goes
 abbrev pub sink : Network → ℕ → ℕ
 sink net i = getD (net .sinks) i 0

@@ -16,6 +16,7 @@ pub record Row : Type 0 where
   pub holds : Bool
   pub refusal : Refusal
 
+-- the row with condition b and refusal r
 abbrev pub row : Bool → Refusal → Row
 row b r = record { holds = b; refusal = r }
 

@@ -30,6 +30,7 @@ pub record ArcsParted (arcs : List Arc) (places tails heads capacities : List �
   pub all-heads : heads ≡ map (λ a. a .head) (take (length places) arcs)
   pub all-capacities : capacities ≡ map (λ a. a .capacity) (take (length places) arcs)
 
+-- Each place has its number, of the complete pairs.
 pub record PairsParted (pairs sources sinks : List ℕ) : Type 0 where
   pub all-sources : sources ≡ sourcesIn pairs
   pub all-sinks : sinks ≡ sinksIn pairs

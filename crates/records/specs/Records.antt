@@ -16,12 +16,13 @@ use Rattle.records.specs.Reply.{replyOf, numberIn, valuesIn}
 use Rattle.records.specs.declared.Arc.{Arc}
 use Rattle.records.specs.declared.Reply.{Reply}
 
--- A pair is an item of two numbers, source and sink; an incomplete last item is not read.
+-- The sources of the pairs: a pair is an item of two numbers, source and sink; an incomplete last item is not read.
 unfoldable pub sourcesIn : List ℕ → List ℕ
 sourcesIn [] = []
 sourcesIn (x ∷ []) = []
 sourcesIn (x ∷ y ∷ pairs) = x ∷ sourcesIn pairs
 
+-- Their sinks.
 unfoldable pub sinksIn : List ℕ → List ℕ
 sinksIn [] = []
 sinksIn (x ∷ []) = []

@@ -28,6 +28,7 @@ stateOf lengths flow loads kept p =
 abbrev pub begunWith : ℕ → Progress
 begunWith d = record { total = 0; count = 0; bound = 1; alpha = 0; best = 0; weight = d; halved = false; ended = false }
 
+-- The same where D does not matter.
 abbrev pub begun : Progress
 begun = begunWith 0
 
