@@ -7,7 +7,7 @@ use mathlib.Core.Path.{ap}
 use Rattle.length.proofs.Bounds.{threshold-most}
 use Rattle.network.specs.Network.{Network, arcs}
 use Rattle.method.specs.declared.Answer.{Answer}
-use Rattle.solver.specs.Runs.{Lent}
+use Rattle.run.specs.Runs.{Lent}
 use Rattle.solver.specs.Solved.{Solved}
 
 pub count-small : (net : Network) (q : ℕ) → Lent net q → (a : Answer) (flow kept : List ℕ) → Solved net q a flow kept → a .count ≤ 376832

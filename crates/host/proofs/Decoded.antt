@@ -7,7 +7,7 @@ use lib.ListN.{length, drop, drop-of-length-le}
 use Rattle.network.specs.Verdict.{firstRow, itemRows}
 use Rattle.numbers.specs.Numbers.{items, column}
 use Rattle.numbers.proofs.Columns.{length-column}
-use Rattle.solver.specs.Runs.{networkOf}
+use Rattle.run.specs.Runs.{networkOf}
 use Rattle.host.specs.Decode.{Sizable}
 use Rattle.host.specs.Host.{networkIn, Served}
 use Rattle.host.specs.Judge.{Judging}

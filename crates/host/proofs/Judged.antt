@@ -14,7 +14,7 @@ use Rattle.network.proofs.Decided.{quiet-accepted, no-refusal}
 use Rattle.network.proofs.FirstRow.{first-accepts}
 use Rattle.network.proofs.HostNumber.{verdict-fits}
 use Rattle.network.proofs.Sizes.{sizes-quiet}
-use Rattle.solver.specs.Runs.{Lent}
+use Rattle.run.specs.Runs.{Lent}
 use Rattle.host.specs.Deliver.{Delivered}
 use Rattle.host.specs.Host.{tablesIn, afterwards, Served}
 use Rattle.host.specs.Judge.{Judging}

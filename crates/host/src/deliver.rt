@@ -6,7 +6,7 @@ ghost use Prim.Native.Nat.{_+_, _*_, _≤_, _<_, _^_};
 ghost use lib.ListN.{length};
 ghost use Rattle.numbers.specs.Numbers.{count, written};
 ghost use Rattle.method.specs.Answer.{numbersOf};
-ghost use Rattle.solver.specs.Runs.{networkOf, Lent};
+ghost use Rattle.run.specs.Runs.{networkOf, Lent};
 ghost use Rattle.solver.specs.Solved.{Solving};
 ghost use Rattle.host.specs.Deliver.{Open, Delivered};
 

@@ -5,7 +5,7 @@ use network::checks::check_arcs;
 use network::checks::check_commodities;
 use network::numbers::host_number;
 ghost use Rattle.network.specs.Verdict.{firstRow, itemRows};
-ghost use Rattle.solver.specs.Runs.{networkOf};
+ghost use Rattle.run.specs.Runs.{networkOf};
 ghost use Rattle.host.specs.Host.{Served};
 ghost use Rattle.host.specs.Judge.{Judging};
 

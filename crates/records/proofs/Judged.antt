@@ -16,7 +16,7 @@ use Rattle.network.proofs.Sizes.{sizes-quiet}
 use Rattle.method.specs.Answer.{outcome, after}
 use Rattle.method.specs.Guarantee.{Guarantee}
 use Rattle.method.specs.declared.Answer.{Answer}
-use Rattle.solver.specs.Runs.{Lent}
+use Rattle.run.specs.Runs.{Lent}
 use Rattle.host.specs.Host.{afterwards}
 use Rattle.records.specs.Parts.{Judging}
 use Rattle.records.specs.Records.{tablesIn, Replied}

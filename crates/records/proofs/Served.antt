@@ -10,7 +10,7 @@ use Rattle.network.specs.declared.Verdict.the-variants.{Accepted, Refused}
 use Rattle.network.proofs.Decided.{accepted-quiet}
 use Rattle.network.proofs.FirstRow.{first-refuses, first-accepts}
 use Rattle.network.proofs.Sizes.{sizes-kept}
-use Rattle.solver.specs.Runs.{networkOf}
+use Rattle.run.specs.Runs.{networkOf}
 use Rattle.records.specs.Copied.{Copied}
 use Rattle.records.specs.Parts.{Sizable, ArcsParted, PairsParted, Judging}
 use Rattle.records.specs.Records.{networkIn, tablesIn, verdictIn, Recorded, Replied}

@@ -4,7 +4,7 @@ use network::Verdict;
 use network::checks::check_arcs;
 use network::checks::check_commodities;
 ghost use Rattle.network.specs.Verdict.{firstRow, itemRows};
-ghost use Rattle.solver.specs.Runs.{networkOf, Lent};
+ghost use Rattle.run.specs.Runs.{networkOf, Lent};
 ghost use Rattle.network.specs.declared.Verdict.the-variants.{Accepted};
 ghost use Rattle.records.specs.Parts.{Judging, Roomy};
 ghost use Rattle.records.specs.Records.{Replied};

@@ -11,7 +11,7 @@ use Rattle.network.proofs.Accepted.{accepted-sound}
 use Rattle.network.proofs.Decided.{quiet-accepted}
 use Rattle.network.proofs.FirstRow.{first-accepts}
 use Rattle.network.proofs.Sizes.{sizes-quiet}
-use Rattle.solver.specs.Runs.{Lent}
+use Rattle.run.specs.Runs.{Lent}
 use Rattle.dimacs.proofs.Holds.{OneCommodity}
 use Rattle.report.specs.Listing.{enough, verdictOn}
 

@@ -9,7 +9,7 @@ use Rattle.network.specs.declared.Verdict.{Verdict}
 use Rattle.network.specs.declared.Verdict.the-variants.{Accepted}
 use Rattle.method.specs.Answer.{outcome}
 use Rattle.method.specs.Guarantee.{Guarantee}
-use Rattle.solver.specs.Runs.{Lent}
+use Rattle.run.specs.Runs.{Lent}
 use Rattle.report.specs.Decimal.{decimal}
 use Rattle.report.specs.Listing.{verdictRows}
 use Rattle.report.specs.Put.{Put}

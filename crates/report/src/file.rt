@@ -9,7 +9,7 @@ ghost use mathlib.Core.List.{[], _∷_};
 ghost use Prim.Native.Nat.{_+_, _≤_};
 ghost use lib.ListN.{length};
 ghost use Rattle.dimacs.proofs.Holds.{OneCommodity};
-ghost use Rattle.solver.specs.Runs.{networkOf};
+ghost use Rattle.run.specs.Runs.{networkOf};
 ghost use Rattle.report.specs.Listed.{Listed};
 ghost use Rattle.report.specs.Listing.{verdictOn};
 ghost use Rattle.report.specs.Shown.{Shown};

@@ -4,7 +4,7 @@ use crate::rows::put_belt;
 ghost use mathlib.Core.Path.{_≡_};
 ghost use lib.ListN.{length};
 ghost use Rattle.network.specs.declared.Verdict.the-variants.{Accepted};
-ghost use Rattle.solver.specs.Runs.{networkOf};
+ghost use Rattle.run.specs.Runs.{networkOf};
 ghost use Rattle.report.specs.Put.{Put};
 ghost use Rattle.report.specs.Shown.{beltsOf, Belted, Ready, Shown};
 

@@ -17,7 +17,7 @@ use Rattle.method.proofs.Guaranteed.{guarantee}
 use Rattle.tables.specs.Calls.{Ranking}
 use Rattle.step.specs.declared.Progress.{Progress}
 use Rattle.step.specs.Progress.{stateOf, begun}
-use Rattle.solver.specs.Runs.{Lent, Chooses}
+use Rattle.run.specs.Runs.{Lent, Chooses}
 use Rattle.solver.specs.Solved.{Sized, Solved, answerOf, noAnswer}
 
 -- The lengths that the start leaves.

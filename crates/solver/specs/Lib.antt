@@ -1,4 +1,2 @@
-pub mod Noted
 pub mod Prepared
-pub mod Runs
 pub mod Solved

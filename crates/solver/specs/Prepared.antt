@@ -5,7 +5,7 @@ use Prim.Native.Nat.{ℕ, _≤_}
 use Rattle.network.specs.Network.{Network}
 use Rattle.method.specs.Iteration.{initial}
 use Rattle.step.specs.Progress.{stateOf, begun}
-use Rattle.solver.specs.Runs.{Lent, Space, Bounding}
+use Rattle.run.specs.Runs.{Lent, Space, Bounding}
 use Rattle.solver.specs.Solved.{Sized}
 
 -- Room for the lists of the arcs at each node: a first arc for each node number, and a next arc for each arc.

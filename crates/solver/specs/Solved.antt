@@ -8,7 +8,7 @@ use Rattle.method.specs.Answer.{outcome}
 use Rattle.method.specs.Guarantee.{Guarantee}
 use Rattle.method.specs.declared.Answer.{Answer}
 use Rattle.step.specs.declared.Progress.{Progress}
-use Rattle.solver.specs.Runs.{Lent}
+use Rattle.run.specs.Runs.{Lent}
 
 -- A network, and tables of just the size that its outcome has.
 pub record Solving (net : Network) (q : ℕ) (flow kept : List ℕ) : Type 0 where

@@ -1,5 +1,3 @@
-// The solver: the run of the method on lent tables of numbers.
-pub mod iterations;
+// The solver: the outcome of the method on lent tables of numbers.
 pub mod outcomes;
-pub mod runs;
 pub mod solves;

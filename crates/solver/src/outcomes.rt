@@ -1,6 +1,6 @@
 // The outcome from the tables of the start: no answer where no commodity is joined, else that of the run.
-use crate::runs;
 use method::Answer;
+use run::runs;
 use step::Progress;
 use tables::loads;
 ghost use mathlib.Core.Path.{_≡_};
@@ -9,7 +9,7 @@ ghost use lib.ListN.{length};
 ghost use Rattle.method.specs.Answer.{fullest};
 ghost use Rattle.tables.specs.Calls.{Ranking};
 ghost use Rattle.solver.specs.Prepared.{Cleared};
-ghost use Rattle.solver.specs.Runs.{networkOf, Placed};
+ghost use Rattle.run.specs.Runs.{networkOf, Placed};
 ghost use Rattle.solver.specs.Solved.{Solved, answerOf, noAnswer};
 
 // The answer: the fullest arc gives the scale.

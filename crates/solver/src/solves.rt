@@ -6,7 +6,7 @@ use tables::lengths;
 use tables::loads;
 ghost use lib.ListN.{length};
 ghost use Rattle.solver.specs.Prepared.{Cleared, Working};
-ghost use Rattle.solver.specs.Runs.{networkOf, Lent};
+ghost use Rattle.run.specs.Runs.{networkOf, Lent};
 ghost use Rattle.solver.specs.Solved.{Solving, Sized, Solved};
 
 // The tables before the first choice: lengths at their start, zeros in the others. Most of the network is taken for the contract, which speaks of it.

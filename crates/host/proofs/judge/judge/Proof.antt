@@ -8,7 +8,7 @@ use Rattle.network.specs.Refusal.{hostNumber}
 use Rattle.network.specs.Verdict.{firstRow, itemRows, arcRows, commodityRows}
 use Rattle.network.specs.declared.Verdict.the-variants.{Accepted}
 use Rattle.network.proofs.FirstRow.{refused-first, accepted-first}
-use Rattle.solver.specs.Runs.{networkOf}
+use Rattle.run.specs.Runs.{networkOf}
 use Rattle.host.proofs.Judged.{fits, lends, served-refused, served-accepted}
 use Rattle.host.proofs.judge.judge.Statement.{statement}
 use Rattle.host.proofs.judge.judge.Tie as tie

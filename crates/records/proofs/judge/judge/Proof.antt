@@ -5,7 +5,7 @@ use Rattle.network.specs.Network.{Network}
 use Rattle.network.specs.Verdict.{firstRow, itemRows, arcRows, commodityRows}
 use Rattle.network.specs.declared.Verdict.the-variants.{Accepted}
 use Rattle.network.proofs.FirstRow.{refused-first, accepted-first}
-use Rattle.solver.specs.Runs.{networkOf}
+use Rattle.run.specs.Runs.{networkOf}
 use Rattle.records.proofs.Judged.{lends, replied-refused}
 use borrow.Author.Needs.{needs}
 use Rattle.records.proofs.judge.judge.Statement.{statement}

@@ -6,7 +6,7 @@ use Rattle.network.specs.Network.{Network}
 use Rattle.network.specs.Verdict.{itemRows, arcRows, commodityRows}
 use Rattle.network.specs.declared.Verdict.the-variants.{Refused}
 use Rattle.network.proofs.FirstRow.{refused-first, accepted-first}
-use Rattle.solver.specs.Runs.{networkOf}
+use Rattle.run.specs.Runs.{networkOf}
 use Rattle.report.specs.Listing.{verdictOn}
 use Rattle.report.proofs.Judged.{judged, lends}
 use Rattle.report.proofs.Written.{shown-refused, shown-accepted}

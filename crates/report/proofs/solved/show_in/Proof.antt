@@ -3,7 +3,7 @@ use denote.Ref.{now}
 use mathlib.Core.Path.{_∙_}
 use native.Mathlib.Omega.{arith}
 use Rattle.network.specs.Network.{Network}
-use Rattle.solver.specs.Runs.{networkOf}
+use Rattle.run.specs.Runs.{networkOf}
 use Rattle.report.proofs.Lengths.{answer-length}
 use Rattle.report.proofs.Puts.{put-within}
 use Rattle.report.proofs.Showing.{one-row, total-small, belted, shown}

@@ -12,8 +12,8 @@ use Rattle.method.proofs.Guaranteed.{always}
 use Rattle.method.proofs.Reached.{reached-start}
 use Rattle.choice.specs.Chose.{Picked, Chose}
 use Rattle.choice.proofs.Bare.{chose-net}
-use Rattle.solver.specs.Runs.{networkOf, Chooses}
-use Rattle.solver.proofs.Chosen.{choosing}
+use Rattle.run.specs.Runs.{networkOf, Chooses}
+use Rattle.run.proofs.Chosen.{choosing}
 use Rattle.solver.proofs.Solving.{solved-none, solved-some, ranking}
 use Rattle.solver.proofs.outcomes.outcome.Statement.{statement}
 use Rattle.solver.proofs.outcomes.outcome.Tie as tie

@@ -4,7 +4,7 @@ use denote.Ref.{now}
 use mathlib.Core.Path.{sym, _∙_}
 use native.Mathlib.Omega.{arith}
 use Rattle.choice.proofs.Bounds.{below-zero}
-use Rattle.solver.specs.Runs.{networkOf}
+use Rattle.run.specs.Runs.{networkOf}
 use Rattle.solver.proofs.Solving.{initial-is}
 use Rattle.solver.proofs.solves.prepare.Statement.{statement}
 use Rattle.solver.proofs.solves.prepare.Tie as tie

@@ -1,4 +1,4 @@
--- `solver::runs::run` meets its contract: the loop is the definition's, and what is left of m * T falls with each iteration.
+-- `run::runs::run` meets its contract: the loop is the definition's, and what is left of m * T falls with each iteration.
 -- Assumes nothing.
 use denote.Ref.{now}
 use mathlib.Core.Path.{refl, sym, _∙_}
@@ -7,15 +7,15 @@ use Rattle.network.specs.Network.{Network}
 use Rattle.method.specs.Iteration.{State}
 use Rattle.choice.specs.Below.{Below}
 use Rattle.choice.specs.Search.{bare}
-use Rattle.solver.specs.Noted.{Noted, Iterated}
+use Rattle.run.specs.Noted.{Noted, Iterated}
 use Rattle.step.specs.Progress.{stateOf}
-use Rattle.solver.specs.Runs.{networkOf}
-use Rattle.solver.proofs.Begun.{begin-weighing, begin-noted, begin-running}
-use Rattle.solver.proofs.Onward.{onward-less, onward-last, onward-running, onward-noted}
-use Rattle.solver.proofs.Running.{left, Running}
-use Rattle.solver.proofs.Same.{Same}
-use Rattle.solver.proofs.runs.run.Statement.{statement}
-use Rattle.solver.proofs.runs.run.Tie as tie
+use Rattle.run.specs.Runs.{networkOf}
+use Rattle.run.proofs.Begun.{begin-weighing, begin-noted, begin-running}
+use Rattle.run.proofs.Onward.{onward-less, onward-last, onward-running, onward-noted}
+use Rattle.run.proofs.Running.{left, Running}
+use Rattle.run.proofs.Same.{Same}
+use Rattle.run.proofs.runs.run.Statement.{statement}
+use Rattle.run.proofs.runs.run.Tie as tie
 
 abbrev Inv-loop : tie.InvT-loop
 Inv-loop n q tails heads capacities sources sinks first-in next-in first-out next-out flow₀ loads₀ lengths₀ kept₀ bounds₀ dist₀ front₀ listed₀ path₀ threshold p₀ flow loads lengths kept bounds dist front listed path p =

@@ -12,11 +12,11 @@ use Rattle.method.proofs.Sized.{reached-sizes}
 use Rattle.tables.specs.Calls.{Weighing}
 use Rattle.tables.specs.Tables.{weightOf}
 use Rattle.step.specs.declared.Progress.{Progress}
-use Rattle.solver.specs.Noted.{Noted}
+use Rattle.run.specs.Noted.{Noted}
 use Rattle.step.specs.Progress.{stateOf, begun, begunWith}
-use Rattle.solver.specs.Runs.{Lent}
-use Rattle.solver.proofs.Noted.{weight-same}
-use Rattle.solver.proofs.Running.{Running, running-start}
+use Rattle.run.specs.Runs.{Lent}
+use Rattle.run.proofs.Noted.{weight-same}
+use Rattle.run.proofs.Running.{Running, running-start}
 
 module _ (net : Network) (q : ℕ) (lent : Lent net q) (L F Y K : List ℕ) (start : stateOf L F Y K begun ≡ initial net) where
   first : L ≡ initial net .lengths

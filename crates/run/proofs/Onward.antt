@@ -8,10 +8,10 @@ use Rattle.network.specs.Sound.{Sound}
 use Rattle.method.specs.Iteration.{State}
 use Rattle.method.specs.Run.{run}
 use Rattle.step.specs.declared.Progress.{Progress}
-use Rattle.solver.specs.Noted.{Noted, Iterated}
+use Rattle.run.specs.Noted.{Noted, Iterated}
 use Rattle.step.specs.Progress.{stateOf}
-use Rattle.solver.specs.Runs.{Chooses}
-use Rattle.solver.proofs.Running.{left, Running, running-less, running-last, running-next}
+use Rattle.run.specs.Runs.{Chooses}
+use Rattle.run.proofs.Running.{left, Running, running-less, running-last, running-next}
 
 module _ (net : Network) (q : ℕ) (sound : Sound net q) (chooses : Chooses net) {s : State} (running : Running net q s)
     {L F Y K : List ℕ} {r : Progress} (w : Iterated net q s L F Y K r) where

@@ -1,9 +1,9 @@
--- `solver::runs::begin` meets its contract. Assumes nothing.
+-- `run::runs::begin` meets its contract. Assumes nothing.
 use borrow.Author.Needs.{needs}
 use mathlib.Core.Path.{ap}
 use Rattle.step.specs.Progress.{begunWith}
-use Rattle.solver.proofs.runs.begin.Statement.{statement}
-use Rattle.solver.proofs.runs.begin.Tie as tie
+use Rattle.run.proofs.runs.begin.Statement.{statement}
+use Rattle.run.proofs.runs.begin.Tie as tie
 
 returns : tie.Need-returns
 returns c = ap begunWith (c .weight .ensures .0)

@@ -16,7 +16,7 @@ use Rattle.method.specs.Run.{ended, runs, run}
 use Rattle.method.proofs.Ends.{next-count, next-valid}
 use Rattle.method.proofs.Reached.{Reached, reached-start, not-ended}
 use Rattle.method.proofs.Sized.{reached-count}
-use Rattle.solver.specs.Runs.{Chooses}
+use Rattle.run.specs.Runs.{Chooses}
 
 -- How many iterations there may still be: m * T less the count.
 abbrev pub left : Network → ℕ → State → ℕ

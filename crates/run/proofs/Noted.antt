@@ -18,10 +18,10 @@ use Rattle.method.proofs.Instance.{seen}
 use Rattle.method.proofs.Reached.{Reached}
 use Rattle.step.specs.declared.Progress.{Progress}
 use Rattle.step.specs.Progress.{ofCapacities}
-use Rattle.solver.specs.Noted.{Noted}
-use Rattle.solver.specs.Runs.{Lent}
+use Rattle.run.specs.Noted.{Noted}
+use Rattle.run.specs.Runs.{Lent}
 use Rattle.step.specs.Steps.{Kept}
-use Rattle.solver.proofs.Running.{ended-is}
+use Rattle.run.proofs.Running.{ended-is}
 
 -- D by the capacities alone.
 pub weight-same : (net : Network) (l : List ℕ) → length (net .capacities) ≡ arcs net → weight (ofCapacities (net .capacities)) l ≡ weight net l

@@ -1,7 +1,7 @@
--- `solver::iterations::forget` meets its contract: the two ways of the branch are the two cases of the definition. Assumes nothing.
+-- `run::iterations::forget` meets its contract: the two ways of the branch are the two cases of the definition. Assumes nothing.
 use borrow.Author.Needs.{needs}
-use Rattle.solver.proofs.iterations.forget.Statement.{statement}
-use Rattle.solver.proofs.iterations.forget.Tie as tie
+use Rattle.run.proofs.iterations.forget.Statement.{statement}
+use Rattle.run.proofs.iterations.forget.Tie as tie
 
 returns : tie.Need-returns
 returns c = rw (c .before .before .before .before .if1 .taken) (c .before .before .clear .ensures)

@@ -12,13 +12,13 @@ use Rattle.method.specs.Run.{ended}
 use Rattle.method.proofs.Times.{update-length}
 use Rattle.step.specs.declared.Progress.{Progress}
 use Rattle.step.specs.Progress.{stateOf}
-use Rattle.solver.specs.Noted.{Iterated}
-use Rattle.solver.specs.Runs.{Lent}
+use Rattle.run.specs.Noted.{Iterated}
+use Rattle.run.specs.Runs.{Lent}
 use Rattle.step.specs.Steps.{Stepped}
-use Rattle.solver.proofs.Chosen.{iteration-is}
-use Rattle.solver.proofs.Noted.{weight-same}
-use Rattle.solver.proofs.OfCapacities.{advance-same}
-use Rattle.solver.proofs.Running.{ended-is}
+use Rattle.run.proofs.Chosen.{iteration-is}
+use Rattle.run.proofs.Noted.{weight-same}
+use Rattle.run.proofs.OfCapacities.{advance-same}
+use Rattle.run.proofs.Running.{ended-is}
 
 module _ (net : Network) (q : ℕ) (lent : Lent net q) (t : ℕ) (e : t ≡ threshold (arcs net) q) (s : State) (places : length (s .loads) ≡ arcs net)
     (i : ℕ) (path : List ℕ) (h : choice net (s .lengths) ≡ some (choiceOf i path)) (lengths flow loads kept : List ℕ) (r : Progress)

@@ -1,4 +1,4 @@
--- `solver::iterations::iterate` meets its contract: the search gives the method's choice, and the step follows it. Assumes nothing.
+-- `run::iterations::iterate` meets its contract: the search gives the method's choice, and the step follows it. Assumes nothing.
 use borrow.Author.Needs.{needs}
 use denote.Ref.{now}
 use mathlib.Core.Path.{refl, sym, ap, _∙_}
@@ -11,14 +11,14 @@ use Rattle.network.specs.Network.{Network}
 use Rattle.method.specs.Iteration.{State}
 use Rattle.choice.specs.Chose.{Picked}
 use Rattle.step.specs.Progress.{stateOf}
-use Rattle.solver.specs.Runs.{networkOf}
-use Rattle.solver.proofs.Chosen.{choosing, picks}
-use Rattle.solver.proofs.Iterated.{iterated}
-use Rattle.solver.proofs.Longer.{below-next}
-use Rattle.solver.proofs.Noted.{kept-ready}
-use Rattle.solver.proofs.Ready.{ready}
-use Rattle.solver.proofs.iterations.iterate.Statement.{statement}
-use Rattle.solver.proofs.iterations.iterate.Tie as tie
+use Rattle.run.specs.Runs.{networkOf}
+use Rattle.run.proofs.Chosen.{choosing, picks}
+use Rattle.run.proofs.Iterated.{iterated}
+use Rattle.run.proofs.Longer.{below-next}
+use Rattle.run.proofs.Noted.{kept-ready}
+use Rattle.run.proofs.Ready.{ready}
+use Rattle.run.proofs.iterations.iterate.Statement.{statement}
+use Rattle.run.proofs.iterations.iterate.Tie as tie
 
 -- the network and the state at entry
 abbrev net : (s : tie.Start) → Network

@@ -8,7 +8,7 @@ ghost use Rattle.method.specs.Run.{run};
 ghost use Rattle.tables.specs.Calls.{Weighing};
 ghost use Rattle.tables.specs.Tables.{weightOf};
 ghost use Rattle.step.specs.Progress.{stateOf, begun, begunWith};
-ghost use Rattle.solver.specs.Runs.{networkOf, Placed, Starting};
+ghost use Rattle.run.specs.Runs.{networkOf, Placed, Starting};
 
 // Nothing drawn yet, the least fraction 1 over 0, and D of the first lengths.
 fn begin(capacities: &[u64], lengths: &[u64]) -> Progress

@@ -9,7 +9,7 @@ use Rattle.method.specs.Run.{ended}
 use Rattle.method.proofs.Reached.{Reached}
 use Rattle.step.specs.declared.Progress.{Progress}
 use Rattle.step.specs.Progress.{stateOf}
-use Rattle.solver.specs.Runs.{Bounding, Chooses}
+use Rattle.run.specs.Runs.{Bounding, Chooses}
 
 -- What is noted beside the state: T, and D of the lengths.
 pub record Noted (net : Network) (q t : ℕ) (lengths : List ℕ) (p : Progress) : Type 0 where

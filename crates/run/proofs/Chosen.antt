@@ -20,7 +20,7 @@ use Rattle.choice.specs.Search.{Search}
 use Rattle.choice.specs.declared.Selected.{Selected}
 use Rattle.choice.proofs.Bare.{bareOf, search-bare, chose-net}
 use Rattle.choice.proofs.Ready.{sound-search}
-use Rattle.solver.specs.Runs.{Lent, Space, Placed, Bounding, Chooses}
+use Rattle.run.specs.Runs.{Lent, Space, Placed, Bounding, Chooses}
 
 surveyed :
     (net : Network) (q : ℕ) → Lent net q → (s : State) → Reached net q s → {nodes fronts marks places : ℕ} → Space nodes fronts marks places →

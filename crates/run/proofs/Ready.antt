@@ -24,7 +24,7 @@ use Rattle.method.proofs.Times.{update-length}
 use Rattle.tables.specs.Calls.{Settling}
 use Rattle.step.specs.Progress.{longer}
 use Rattle.step.specs.Steps.{Stepping}
-use Rattle.solver.specs.Runs.{Lent}
+use Rattle.run.specs.Runs.{Lent}
 use Rattle.tables.specs.Tables.{Under, Capacities}
 use Rattle.tables.proofs.OnPath.{draw-at, draw-most, below-under}
 

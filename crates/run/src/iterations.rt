@@ -4,9 +4,9 @@ use tables::loads;
 ghost use mathlib.Core.Bool.{cond};
 ghost use mathlib.Core.Path.{_≡_};
 ghost use lib.ListN.{length, replicate};
-ghost use Rattle.solver.specs.Noted.{Iterating, Onward};
+ghost use Rattle.run.specs.Noted.{Iterating, Onward};
 ghost use Rattle.step.specs.Progress.{stateOf};
-ghost use Rattle.solver.specs.Runs.{networkOf, Placed};
+ghost use Rattle.run.specs.Runs.{networkOf, Placed};
 
 // The bounds of the distances, 0 again where the lengths were halved: only then can a distance fall.
 fn forget(halved: bool, bounds: &mut [u64])

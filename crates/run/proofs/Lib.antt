@@ -1,0 +1,10 @@
+pub mod Begun
+pub mod Chosen
+pub mod Iterated
+pub mod Longer
+pub mod Noted
+pub mod OfCapacities
+pub mod Onward
+pub mod Ready
+pub mod Running
+pub mod Same
