@@ -1,6 +1,6 @@
 #!/usr/bin/env bash
 # Times the static library against the second solver, and sees that it cannot
-# allocate; about five minutes, most of them the plain form's at q 16. Arguments
+# allocate; three to five minutes, most of them the plain form's at q 16. Arguments
 # go to the program: --q 4, --fast (without the plain form), --seed 7.
 set -eu
 cd "$(dirname "$0")/.."
