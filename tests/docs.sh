@@ -16,7 +16,7 @@ uses() { sed -nE '/\.declared\./d; s/^use Rattle·([a-z_]+)(·specs)?\.(specs|pr
 # "FILE NAME" for each name in `name` (crate/proofs/File), `name`, `name` and `name` (all crate/proofs/File), and with a comma for the bracket
 mentions() {
     tr '\n' ' ' <"$1" | sed 's/  */ /g' |
-        grep -oE '(`[A-Za-z][A-Za-z-]*`(,| and| \(|;)? ?)+(both |all |and its neighbours, )?[a-z]+/(specs|proofs)/[A-Za-z]+' |
+        grep -oE '(`[A-Za-z][A-Za-z-]*`(,| and| \(|;)? ?)+(both |all )?[a-z]+/(specs|proofs)/[A-Za-z]+' |
         while read -r mention; do
             for name in $(grep -oE '`[A-Za-z][A-Za-z-]*`' <<<"$mention" | tr -d '`'); do
                 echo "crates/${mention##*[ (]}.antt $name"
