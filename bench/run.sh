@@ -5,7 +5,7 @@
 set -eu
 cd "$(dirname "$0")/.."
 tests/second/archive.sh
-archive=target/staticlib/libhost.a
+archive=target/staticlib/libvithmork.a
 
 # To allocate, code must name a function that it lacks or make a system call:
 # the archive may name only those that move and compare bytes.

@@ -12,9 +12,9 @@ echo '#include "vithmork.h"' >"$made/header.cpp"
 c++ -std=c++17 $strict -c -o "$made/header.o" "$made/header.cpp"
 for program in examples/*.c; do
     name=$(basename "$program" .c)
-    cc -std=c99 $strict -o "$made/$name" "$program" target/staticlib/libhost.a
+    cc -std=c99 $strict -o "$made/$name" "$program" target/staticlib/libvithmork.a
     "$made/$name" | diff "tests/$name.expected" -
 done
-cc -std=c99 $strict -o "$made/refusals" tests/refusals.c target/staticlib/libhost.a
+cc -std=c99 $strict -o "$made/refusals" tests/refusals.c target/staticlib/libvithmork.a
 "$made/refusals"
 echo "c_example: the header is C99 and C++17, the examples print what they should, and refusals read as they should"

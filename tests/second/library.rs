@@ -1,6 +1,6 @@
 //! The one call into the static library, and the only unsafe code here.
 
-#[link(name = "host", kind = "static")]
+#[link(name = "vithmork", kind = "static")]
 extern "C" {
     fn vithmork_solve(
         n: u64,

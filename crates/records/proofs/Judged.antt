@@ -17,7 +17,7 @@ use Rattle.method.specs.Answer.{outcome, after}
 use Rattle.method.specs.Guarantee.{Guarantee}
 use Rattle.method.specs.declared.Answer.{Answer}
 use Rattle.run.specs.Runs.{Lent}
-use Rattle.host.specs.Host.{afterwards}
+use Rattle.vithmork.specs.Host.{afterwards}
 use Rattle.records.specs.Parts.{Judging}
 use Rattle.records.specs.Records.{tablesIn, Replied}
 use Rattle.records.specs.Reply.{replyOf, numberIn, valuesIn}

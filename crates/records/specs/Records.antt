@@ -11,7 +11,7 @@ use Rattle.network.specs.declared.Verdict.{Verdict}
 use Rattle.network.specs.declared.Verdict.the-variants.{Accepted}
 use Rattle.method.specs.Answer.{outcome, numbersOf, after}
 use Rattle.method.specs.Guarantee.{Guarantee}
-use Rattle.host.specs.Host.{afterwards}
+use Rattle.vithmork.specs.Host.{afterwards}
 use Rattle.records.specs.Reply.{replyOf, numberIn, valuesIn}
 use Rattle.records.specs.declared.Arc.{Arc}
 use Rattle.records.specs.declared.Reply.{Reply}

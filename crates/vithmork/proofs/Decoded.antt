@@ -1,0 +1,64 @@
+-- The columns read are the network in the bytes. Assumes nothing.
+use mathlib.Core.Path.{_≡_, refl}
+use mathlib.Core.List.{List, _++_, append-nil}
+use Prim.Native.Nat.{ℕ}
+use native.Mathlib.Nat.{le-of-eq}
+use lib.ListN.{length, drop, drop-of-length-le}
+use Rattle.network.specs.Verdict.{firstRow, itemRows}
+use Rattle.numbers.specs.Numbers.{items, column}
+use Rattle.numbers.proofs.Columns.{length-column}
+use Rattle.run.specs.Runs.{networkOf}
+use Rattle.vithmork.specs.Decode.{Sizable}
+use Rattle.vithmork.specs.Host.{networkIn, Served}
+use Rattle.vithmork.specs.Judge.{Judging}
+
+-- A table that is filled whole.
+pub filled : (xs out : List ℕ) (n : ℕ) → length out ≡ n → xs ++ drop n out ≡ xs
+filled xs out n h = rw (drop-of-length-le out {i = n} (le-of-eq h), append-nil) refl
+
+-- The first n of n items, whatever n is called.
+pub column-of : (s out : List ℕ) (k j n : ℕ) → length out ≡ items k s → n ≡ items k s → column s k j n ++ drop n out ≡ column s k j (items k s)
+column-of s out k j n h e = rw e (filled (column s k j (items k s)) out (items k s) h)
+
+pub judging :
+    (n q : ℕ) (belts pairs flow lengths answer running : List ℕ) (total : ℕ) → Sizable n q belts pairs flow lengths answer running total →
+    Judging (networkIn n belts pairs) q flow lengths answer running total
+unfolding networkIn
+judging n q belts pairs flow lengths answer running total z =
+    let m = items 3 belts in
+    let k = items 2 pairs in
+    let t = length-column belts 3 0 m in
+    let s = length-column pairs 2 0 k in
+    record {
+      heads = rw (length-column belts 3 1 m, t) refl;
+      capacities = rw (length-column belts 3 2 m, t) refl;
+      sinks = rw (length-column pairs 2 1 k, s) refl;
+      counts = rw (t, s) (z .counts);
+      open-for = record { room = rw (t, s) (z .room); full = z .full };
+    }
+
+-- The tables hold the columns of the bytes.
+pub record Columns (belts pairs tails heads capacities sources sinks : List ℕ) : Type 0 where
+  pub of-tails : tails ≡ column belts 3 0 (items 3 belts)
+  pub of-heads : heads ≡ column belts 3 1 (items 3 belts)
+  pub of-capacities : capacities ≡ column belts 3 2 (items 3 belts)
+  pub of-sources : sources ≡ column pairs 2 0 (items 2 pairs)
+  pub of-sinks : sinks ≡ column pairs 2 1 (items 2 pairs)
+
+module _ {belts pairs tails heads capacities sources sinks : List ℕ} (k : Columns belts pairs tails heads capacities sources sinks) (n q : ℕ) where
+  decoded : networkOf n tails heads capacities sources sinks ≡ networkIn n belts pairs
+  unfolding networkIn
+  decoded = rw (k .of-tails, k .of-heads, k .of-capacities, k .of-sources, k .of-sinks) refl
+
+  pub judging-of :
+      (flow lengths answer running : List ℕ) (total : ℕ) → Sizable n q belts pairs flow lengths answer running total →
+      Judging (networkOf n tails heads capacities sources sinks) q flow lengths answer running total
+  judging-of flow lengths answer running total z = rw decoded (judging n q belts pairs flow lengths answer running total z)
+
+  pub served-of :
+      {total result : ℕ} {flow lengths answer running flow' lengths' answer' running' : List ℕ} →
+      let net = networkOf n tails heads capacities sources sinks in
+      Served net q (firstRow (itemRows net)) total flow lengths answer running flow' lengths' answer' running' result →
+      let net' = networkIn n belts pairs in
+      Served net' q (firstRow (itemRows net')) total flow lengths answer running flow' lengths' answer' running' result
+  served-of h = rw decoded at h
