@@ -6,7 +6,7 @@ use Prim.Native.Nat.{ℕ, zero, suc, _+_, _*_, _-_, _/_, _%_, _^_, _≤_, _<_}
 use native.Mathlib.Nat.{pow-suc, mul-le-mul, div-add-mod, mod-lt, lt-of-lt-of-le, pow-le-pow-right}
 use native.Mathlib.Omega.{arith}
 use lib.ListN.{getD, take, set, replicate}
-use Rattle.arith.specs.Limbs.{base, width, limit, value, Limbs, Writes}
+use Rattle.arith.specs.Limbs.{base, width, limit, fromLimbs, Limbs, Writes}
 use Rattle.arith.proofs.Values.{value-take, value-set, value-all}
 use Rattle.arith.proofs.Writing.{limbs-set, limbs-zeros}
 
@@ -14,10 +14,10 @@ use Rattle.arith.proofs.Writing.{limbs-set, limbs-zeros}
 pub record Carried (k : ℕ) (xs ys r : List ℕ) (c i : ℕ) : Type 0 where
   pub limbs : Limbs width r
   pub small : c < base
-  pub sum : value (take i r) + base ^ i * c ≡ value (take i xs) * k + value (take i ys)
+  pub sum : fromLimbs (take i r) + base ^ i * c ≡ fromLimbs (take i xs) * k + fromLimbs (take i ys)
 
 pub carried-start : (k : ℕ) (xs ys : List ℕ) → Carried k xs ys (replicate width 0) 0 0
-unfolding value
+unfolding fromLimbs
 carried-start k xs ys = record { limbs = limbs-zeros width; small = omega arith; sum = omega arith }
 
 -- What a turn cuts into a limb and the next carry. It fits 64 bits.
@@ -43,7 +43,7 @@ module _ {k : ℕ} {xs ys r : List ℕ} {c i : ℕ} (lx : Limbs width xs) (ly : 
         small = omega (arith, turn-fits (getD xs i 0) k (getD ys i 0) c (lx .below i) hk (ly .below i) (w .small));
         sum =
             rw (value-set r i (t % base) (omega (arith, w .limbs .size)), value-take xs i, value-take ys i, pow-suc base i)
-            (turn-sum (value (take i r)) (base ^ i) c (value (take i xs)) k (value (take i ys)) (getD xs i 0) (getD ys i 0) (t / base) (t % base) (w .sum) (div-add-mod t base));
+            (turn-sum (fromLimbs (take i r)) (base ^ i) c (fromLimbs (take i xs)) k (fromLimbs (take i ys)) (getD xs i 0) (getD ys i 0) (t / base) (t % base) (w .sum) (div-add-mod t base));
       }
 
 no-carry : (v p c n : ℕ) → v + p * c ≡ n → n < p → v ≡ n
@@ -51,13 +51,13 @@ no-carry v p zero n e h = omega arith
 no-carry v p (suc c) n e h = omega arith
 
 -- What fits leaves no carry.
-pub carried-end : {k : ℕ} {xs ys r : List ℕ} {c i : ℕ} → Carried k xs ys r c i → Limbs width xs → Limbs width ys → width ≤ i → value xs * k + value ys < limit → Writes r (value xs * k + value ys)
+pub carried-end : {k : ℕ} {xs ys r : List ℕ} {c i : ℕ} → Carried k xs ys r c i → Limbs width xs → Limbs width ys → width ≤ i → fromLimbs xs * k + fromLimbs ys < limit → Writes r (fromLimbs xs * k + fromLimbs ys)
 unfolding limit
 carried-end {k} {xs} {ys} {r} {c} {i} w lx ly hi h =
     record {
       limbs = w .limbs;
       number =
-          no-carry (value r) (base ^ i) c (value xs * k + value ys)
+          no-carry (fromLimbs r) (base ^ i) c (fromLimbs xs * k + fromLimbs ys)
           (rw (value-all xs lx hi, value-all ys ly hi, value-all r (w .limbs) hi) at (w .sum))
           (lt-of-lt-of-le h (pow-le-pow-right {n = base} (omega arith) hi));
     }

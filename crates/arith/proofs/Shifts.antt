@@ -6,17 +6,17 @@ use Prim.Native.Nat.{ℕ, zero, suc, _+_, _*_, _-_, _^_, _≤_, _<_}
 use native.Mathlib.Nat.{pow-suc, pow-le-pow-right, lt-of-lt-of-le}
 use native.Mathlib.Omega.{arith}
 use lib.ListN.{getD, take, set, replicate}
-use Rattle.arith.specs.Limbs.{base, width, limit, value, Limbs, Writes}
+use Rattle.arith.specs.Limbs.{base, width, limit, fromLimbs, Limbs, Writes}
 use Rattle.arith.proofs.Values.{value-take, value-set, value-all}
 use Rattle.arith.proofs.Writing.{limbs-set, limbs-zeros}
 
 -- After i limbs of xs: they stand in r, one place up.
 pub record Shifted (xs r : List ℕ) (i : ℕ) : Type 0 where
   pub limbs : Limbs width r
-  pub moved : value (take (suc i) r) ≡ base * value (take i xs)
+  pub moved : fromLimbs (take (suc i) r) ≡ base * fromLimbs (take i xs)
 
 pub shifted-start : (xs : List ℕ) → Shifted xs (replicate width 0) 0
-unfolding value
+unfolding fromLimbs
 shifted-start xs = record { limbs = limbs-zeros width; moved = omega arith }
 
 pub shifted-step : {xs r : List ℕ} {i : ℕ} → Limbs width xs → suc i < width → Shifted xs r i → Shifted xs (set r (suc i) (getD xs i 0)) (suc i)
@@ -32,14 +32,14 @@ top-zero : (n v p d q : ℕ) → n ≡ v + p * d → q ≡ p * base → base * n
 top-zero n v p zero q e f h = omega arith
 top-zero n v p (suc d) q e f h = omega (arith, ap (λ t. base * t) e)
 
-pub shifted-end : {xs r : List ℕ} {i : ℕ} → Shifted xs r i → Limbs width xs → width ≤ suc i → base * value xs < limit → Writes r (base * value xs)
+pub shifted-end : {xs r : List ℕ} {i : ℕ} → Shifted xs r i → Limbs width xs → width ≤ suc i → base * fromLimbs xs < limit → Writes r (base * fromLimbs xs)
 unfolding limit
 shifted-end {xs} {r} {i} s l h fits =
     record {
       limbs = s .limbs;
       number =
           sym (value-all r (s .limbs) h) ∙ s .moved ∙ ap (λ t. base * t)
-          (top-zero (value xs) (value (take i xs)) (base ^ i) (getD xs i 0) (base ^ suc i)
+          (top-zero (fromLimbs xs) (fromLimbs (take i xs)) (base ^ i) (getD xs i 0) (base ^ suc i)
           (sym (value-all xs l h) ∙ value-take xs i) (pow-suc base i)
           (lt-of-lt-of-le fits (pow-le-pow-right {n = base} (omega arith) h)));
     }

@@ -5,3 +5,4 @@ pub mod Lists
 pub mod Member
 pub mod Scan
 pub mod Sum
+pub mod Times

@@ -17,9 +17,9 @@ unfoldable pub limit : ℕ
 limit = base ^ width
 
 -- the number that limbs write
-unfoldable pub value : List ℕ → ℕ
-value [] = 0
-value (x ∷ xs) = x + base * value xs
+unfoldable pub fromLimbs : List ℕ → ℕ
+fromLimbs [] = 0
+fromLimbs (x ∷ xs) = x + base * fromLimbs xs
 
 -- xs is n limbs
 pub record Limbs (n : ℕ) (xs : List ℕ) : Type 0 where
@@ -29,4 +29,4 @@ pub record Limbs (n : ℕ) (xs : List ℕ) : Type 0 where
 -- xs is the limbs of a wide number, and writes v
 pub record Writes (xs : List ℕ) (v : ℕ) : Type 0 where
   pub limbs : Limbs width xs
-  pub number : value xs ≡ v
+  pub number : fromLimbs xs ≡ v

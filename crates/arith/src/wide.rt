@@ -2,7 +2,7 @@
 ghost use Prim.Native.Nat.{_+_, _*_, _<_};
 ghost use mathlib.Core.Path.{_≡_};
 ghost use lib.Dec.{ltb};
-ghost use Rattle.arith.specs.Limbs.{base, width, limit, value, Limbs, Writes};
+ghost use Rattle.arith.specs.Limbs.{base, width, limit, fromLimbs, Limbs, Writes};
 
 // What a limb is below.
 const BASE: u64 = 0x1_0000_0000;
@@ -28,8 +28,8 @@ impl Wide {
     // self * k + other, for one limb k: t is below 2 ^ 64, since limbs and carry are below 2 ^ 32.
     fn times_plus(self, k: u64, other: Wide) -> Wide
         requires { ⌜ Limbs width (self .limbs) × Limbs width (other .limbs) × (k < base)
-            × (value (self .limbs) * k + value (other .limbs) < limit) ⌝ }
-        ensures { λ r. ⌜ Writes (r .limbs) (value (self .limbs) * k + value (other .limbs)) ⌝ }
+            × (fromLimbs (self .limbs) * k + fromLimbs (other .limbs) < limit) ⌝ }
+        ensures { λ r. ⌜ Writes (r .limbs) (fromLimbs (self .limbs) * k + fromLimbs (other .limbs)) ⌝ }
     {
         let x = self.limbs;
         let y = other.limbs;
@@ -47,8 +47,8 @@ impl Wide {
 
     // self * 2 ^ 32.
     fn shifted(self) -> Wide
-        requires { ⌜ Limbs width (self .limbs) × (base * value (self .limbs) < limit) ⌝ }
-        ensures { λ r. ⌜ Writes (r .limbs) (base * value (self .limbs)) ⌝ }
+        requires { ⌜ Limbs width (self .limbs) × (base * fromLimbs (self .limbs) < limit) ⌝ }
+        ensures { λ r. ⌜ Writes (r .limbs) (base * fromLimbs (self .limbs)) ⌝ }
     {
         let x = self.limbs;
         let mut r = [0; LIMBS];
@@ -60,19 +60,10 @@ impl Wide {
         Wide { limbs: r }
     }
 
-    // self + other.
-    pub fn plus(self, other: Wide) -> Wide
-        requires { ⌜ Limbs width (self .limbs) × Limbs width (other .limbs)
-            × (value (self .limbs) + value (other .limbs) < limit) ⌝ }
-        ensures { λ r. ⌜ Writes (r .limbs) (value (self .limbs) + value (other .limbs)) ⌝ }
-    {
-        self.times_plus(1, other)
-    }
-
     // self * k: the two limbs of k one after the other.
     pub fn times(self, k: u64) -> Wide
-        requires { ⌜ Limbs width (self .limbs) × (value (self .limbs) * k < limit) ⌝ }
-        ensures { λ r. ⌜ Writes (r .limbs) (value (self .limbs) * k) ⌝ }
+        requires { ⌜ Limbs width (self .limbs) × (fromLimbs (self .limbs) * k < limit) ⌝ }
+        ensures { λ r. ⌜ Writes (r .limbs) (fromLimbs (self .limbs) * k) ⌝ }
     {
         let high = self.times_plus(k / BASE, Wide::from(0));
         self.times_plus(k % BASE, high.shifted())
@@ -81,7 +72,7 @@ impl Wide {
     // Whether self is less than other: the highest limbs that differ decide.
     pub fn less(self, other: Wide) -> bool
         requires { ⌜ Limbs width (self .limbs) × Limbs width (other .limbs) ⌝ }
-        ensures { λ r. ⌜ r ≡ ltb (value (self .limbs)) (value (other .limbs)) ⌝ }
+        ensures { λ r. ⌜ r ≡ ltb (fromLimbs (self .limbs)) (fromLimbs (other .limbs)) ⌝ }
     {
         let x = self.limbs;
         let y = other.limbs;

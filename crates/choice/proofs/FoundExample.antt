@@ -11,8 +11,7 @@ use Rattle.arith.specs.Lists.{upFrom, upTo, flat}
 use Rattle.network.specs.Ends.{Ends}
 use Rattle.network.specs.Network.{Network}
 use Rattle.network.specs.Path.{pathLength}
-use Rattle.network.specs.Verdict.{firstRow, outside, loose, short, sizeRows, arcRows, commodityRows, itemRows, rows, verdict}
-use Rattle.network.specs.declared.Tables.{Tables}
+use Rattle.network.specs.Verdict.{verdict, outside, loose, sizeConditions, arcConditions, commodityConditions, itemConditions, verdictOn}
 use Rattle.network.specs.declared.Verdict.the-variants.{Accepted}
 use Rattle.network.proofs.Accepted.{accepted-sound}
 use Rattle.network.proofs.Sounds.{sound-ends}
@@ -26,10 +25,6 @@ use Rattle.choice.proofs.Found.{closest-none, closest-choice}
 use Rattle.choice.proofs.Graphs.{graphOf, distances-graph}
 use Rattle.paths.proofs.WalkExample.{floor, lengths, near, away, bounded, to-3, to-1, walk}
 
--- Tables with just enough room for the larger of the two networks below.
-abbrev tables : Tables
-tables = record { flow = 6; length = 3; answer = 7; count = 1 }
-
 -- Twice the commodity from 1 to 3.
 abbrev twice : Network
 twice = floor (1 ∷ 1 ∷ []) (3 ∷ 3 ∷ [])
@@ -38,12 +33,12 @@ twice = floor (1 ∷ 1 ∷ []) (3 ∷ 3 ∷ [])
 abbrev parted : Network
 parted = floor (3 ∷ []) (1 ∷ [])
 
-accepted : (verdict twice 4 tables 0 ≡ Accepted) × (verdict parted 4 tables 0 ≡ Accepted)
-unfolding upFrom upTo flat firstRow outside loose short sizeRows arcRows commodityRows itemRows rows verdict
+accepted : (verdictOn twice 4 [] ≡ Accepted) × (verdictOn parted 4 [] ≡ Accepted)
+unfolding upFrom upTo flat verdict outside loose sizeConditions arcConditions commodityConditions itemConditions verdictOn
 accepted = (refl, refl)
 
-ends : (net : Network) → verdict net 4 tables 0 ≡ Accepted → Ends net
-ends net h = sound-ends net 4 (accepted-sound net 4 tables 0 h .0)
+ends : (net : Network) → verdictOn net 4 [] ≡ Accepted → Ends net
+ends net h = sound-ends net 4 (accepted-sound net 4 [] h .0)
 
 -- What holds of 0, and of 0 and 1, and of 0 to 3, holds below 1, 2 and 4.
 one : (P : ℕ → Type 0) → P 0 → (i : ℕ) → i < 1 → P i

@@ -8,7 +8,7 @@ use lib.ListN.{take, take-append-drop}
 use borrow.Author.Tests.{eq-eqb, ne-eqb}
 use Rattle.network.specs.declared.Refusal.the-variants.{Layout}
 use Rattle.network.specs.declared.Verdict.the-variants.{Accepted}
-use Rattle.dimacs.specs.Outcome.{refused, networkOf, complete, closing}
+use Rattle.dimacs.specs.File.{refused, networkRead, complete, closing}
 use Rattle.dimacs.specs.Result.{padded, resultOf}
 use Rattle.dimacs.specs.Stage.{readingOf, Tidy, Held}
 use Rattle.dimacs.specs.declared.Maybe.the-variants.{Missing, Given}
@@ -54,7 +54,7 @@ module _ {s : Stage} {t : Tally} {ts hs cs : List ℕ} (e : s ≡ Past t) (h : H
           capacities = cs;
         })
         (resultOf (closing (readingOf s ts hs cs)))
-    unfolding closing complete resultOf networkOf
+    unfolding closing complete resultOf networkRead
     all-there k =
         let g = held-as e h in
         let n = entries (g .tails) (omega arith) in

@@ -11,7 +11,7 @@ use native.Mathlib.Omega.{arith}
 use lib.ListN.{length, getD, drop, drop-of-length-le}
 use lib.Seq.{drop-cons}
 use borrow.Author.Tests.{le-leb, lt-leb}
-use Rattle.dimacs.specs.Number.{digit, every, value, numberOf}
+use Rattle.dimacs.specs.Number.{digit, every, fromDigits, numberOf}
 
 -- The first i digits of the word w have the value x.
 pub record DigitsRead (w : List ℕ) (i x : ℕ) : Type 0 where
@@ -19,7 +19,7 @@ pub record DigitsRead (w : List ℕ) (i x : ℕ) : Type 0 where
   pub most : length w ≤ 9
   pub within : i ≤ length w
   pub digits : every digit w ≡ every digit (drop i w)
-  pub worth : value 0 w ≡ value x (drop i w)
+  pub worth : fromDigits 0 w ≡ fromDigits x (drop i w)
   pub small : x < 10 ^ i
 
 pub digit-in : (b : ℕ) → 48 ≤ b → b ≤ 57 → digit b ≡ true
@@ -47,7 +47,7 @@ module _ (w : List ℕ) where
 
   pub digit-read : (i x : ℕ) → DigitsRead w i x → i < length w → 48 ≤ getD w i 0 → getD w i 0 ≤ 57 →
       DigitsRead w (i + 1) (x * 10 + (getD w i 0 - 48))
-  unfolding every value
+  unfolding every fromDigits
   digit-read i x r h l m =
       rw add-one
       record {
@@ -60,10 +60,10 @@ module _ (w : List ℕ) where
       }
 
   pub number-read : (i x : ℕ) → DigitsRead w i x → length w ≤ i → some x ≡ numberOf w
-  unfolding numberOf every value
+  unfolding numberOf every fromDigits
   number-read i x r h =
       let d : every digit w ≡ true = r .digits ∙ rw (drop-of-length-le w h) in
-      let v : value 0 w ≡ x = r .worth ∙ rw (drop-of-length-le w h) in
+      let v : fromDigits 0 w ≡ x = r .worth ∙ rw (drop-of-length-le w h) in
       rw (le-leb 1 (length w) (r .least), le-leb (length w) 9 (r .most), d, v)
 
   pub no-number : (i x : ℕ) → DigitsRead w i x → i < length w → digit (getD w i 0) ≡ false → none ≡ numberOf w

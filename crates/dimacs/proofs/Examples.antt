@@ -5,21 +5,21 @@ use mathlib.Core.List.{List, [], _∷_, _++_}
 use Prim.Native.Nat.{ℕ}
 use Prim.Native.String.{String}
 use lib.Dec.{T}
-use Rattle.arith.specs.Lists.{keep}
-use Rattle.network.specs.Refusal.{number, place}
+use Rattle.arith.specs.Lists.{same, keep}
+use Rattle.network.specs.Refusal.{code}
 use Rattle.network.specs.Verdict.{outside}
-use Rattle.dimacs.specs.Meaning.{same, shaped, given, problemLine, sourceOrSink, terminalLine, arcLine, lettered, meaning}
-use Rattle.dimacs.specs.Number.{digit, every, value, numberOf}
-use Rattle.dimacs.specs.Outcome.{Outcome, holds, refused, networkOf, complete, closing, parsed}
+use Rattle.dimacs.specs.Meaning.{shaped, given, problemLine, sourceOrSink, terminalLine, arcLine, lettered, meaning}
+use Rattle.dimacs.specs.Number.{digit, every, fromDigits, numberOf}
+use Rattle.dimacs.specs.File.{File, holds, refused, networkRead, complete, closing, parsed}
 use Rattle.dimacs.specs.Pieces.{lead, pieces, lineFeed, linesOf, blank, filled, wordsOf}
 use Rattle.dimacs.specs.Progress.{begun, withSource, withSink, withArc}
 use Rattle.dimacs.specs.Reading.{opening, once, following, next, readLines}
 use Rattle.dimacs.specs.Text.{bytes}
 
 -- An outcome in numbers: 0, the nodes, source, sink, tails, heads and capacities; or a refusal's number and place.
-answer : Outcome → List ℕ
+answer : File → List ℕ
 answer (holds net) = 0 ∷ net .nodes ∷ net .sources ++ net .sinks ++ net .tails ++ net .heads ++ net .capacities
-answer (refused r) = number r ∷ place r ∷ []
+answer (refused r) = code r .number ∷ code r .place ∷ []
 
 pub record Case : Type 0 where
   pub file : String
@@ -85,5 +85,5 @@ cases =
     []
 
 pub layout-cases : T (right cases)
-unfolding right answer parsed closing complete networkOf readLines next following once opening withArc withSink withSource begun outside meaning lettered arcLine terminalLine sourceOrSink problemLine given shaped same numberOf value every digit wordsOf filled keep blank linesOf lineFeed pieces lead
+unfolding right answer parsed closing complete networkRead readLines next following once opening withArc withSink withSource begun outside meaning lettered arcLine terminalLine sourceOrSink problemLine given shaped same numberOf fromDigits every digit wordsOf filled keep blank linesOf lineFeed pieces lead
 layout-cases = tt

@@ -9,10 +9,11 @@ use lib.Seq.{take-at}
 use Rattle.network.specs.Network.{Network}
 use Rattle.network.specs.declared.Refusal.{Refusal}
 use Rattle.network.specs.declared.Verdict.the-variants.{Accepted, Refused}
-use Rattle.dimacs.specs.Outcome.{Outcome, holds, refused, parsed}
+use Rattle.dimacs.specs.File.{File, holds, refused, parsed}
+use Rattle.dimacs.specs.OneCommodity.{OneCommodity}
 use Rattle.dimacs.specs.Result.{padded, resultOf}
 use Rattle.dimacs.specs.declared.Parsed.{Parsed}
-use Rattle.dimacs.proofs.Holds.{OneCommodity, network-sizes}
+use Rattle.dimacs.proofs.Holds.{network-sizes}
 
 -- the network that the reader hands over: the first entries of its tables
 abbrev pub handedOver : Parsed → Network
@@ -52,7 +53,7 @@ module _ (text : List ℕ) {r : Parsed} (e : r ≡ resultOf (parsed text)) where
   unfolding resultOf
   accepted-holds v = by (parsed text) refl
     where
-      by : (o : Outcome) → parsed text ≡ o → parsed text ≡ holds (handedOver r)
+      by : (o : File) → parsed text ≡ o → parsed text ≡ holds (handedOver r)
       by (holds net) h = h ∙ ap holds (sym (ap handedOver (e ∙ ap resultOf h) ∙ unpadded net (network-sizes text h)))
       by (refused w) h = let q : r .verdict ≡ Refused w = ap (λ (x : Parsed). x .verdict) (e ∙ ap resultOf h) in cc
 
@@ -61,6 +62,6 @@ module _ (text : List ℕ) {r : Parsed} (e : r ≡ resultOf (parsed text)) where
   unfolding resultOf
   refused-why {w} v = by (parsed text) refl
     where
-      by : (o : Outcome) → parsed text ≡ o → parsed text ≡ refused w
+      by : (o : File) → parsed text ≡ o → parsed text ≡ refused w
       by (holds net) h = let q : r .verdict ≡ Accepted = ap (λ (x : Parsed). x .verdict) (e ∙ ap resultOf h) in cc
       by (refused u) h = let q : r .verdict ≡ Refused u = ap (λ (x : Parsed). x .verdict) (e ∙ ap resultOf h) in cc

@@ -9,34 +9,25 @@ use native.Mathlib.Omega.{arith}
 use lib.Dec.{ltb, eqb}
 use lib.ListN.{length}
 use borrow.Author.Tests.{ltb-false, eqb-true}
-use Rattle.network.specs.Network.{Network, arcs}
-use Rattle.network.specs.Refusal.{place}
-use Rattle.network.specs.Sound.{Within}
+use Rattle.network.specs.Network.{Network}
+use Rattle.network.specs.Refusal.{code}
 use Rattle.network.specs.declared.Refusal.{Refusal}
 use Rattle.network.specs.declared.Refusal.the-variants.{Layout, LongFile}
-use Rattle.dimacs.specs.Outcome.{Outcome, holds, refused, networkOf, complete, closing, parsed}
+use Rattle.dimacs.specs.File.{File, holds, refused, networkRead, complete, closing, parsed}
+use Rattle.dimacs.specs.OneCommodity.{OneCommodity}
 use Rattle.dimacs.specs.Pieces.{lineFeed, linesOf}
 use Rattle.dimacs.specs.Progress.{Progress}
 use Rattle.dimacs.specs.Reading.{Reading, before, past, down, readLines}
 use Rattle.dimacs.proofs.Pieces.{few-pieces}
 use Rattle.dimacs.proofs.Sized.{Kept, Sized, lines-sized}
 
--- What a file holds: a network of 2 to 64 nodes, 1 to 256 arcs and one commodity.
-pub record OneCommodity (net : Network) : Type 0 where
-  pub of-nodes : Within 2 64 (net .nodes)
-  pub of-arcs : Within 1 256 (arcs net)
-  pub of-heads : length (net .heads) ≡ arcs net
-  pub of-capacities : length (net .capacities) ≡ arcs net
-  pub of-sources : length (net .sources) ≡ 1
-  pub of-sinks : length (net .sinks) ≡ 1
-
-abbrev Bounded : Outcome → Type 0
+abbrev Bounded : File → Type 0
 Bounded (holds net) = OneCommodity net
-Bounded (refused r) = place r ≤ 65536
+Bounded (refused r) = code r .place ≤ 65536
 
 module _ (p : Progress) (k : Kept p) where
-  full : (a b : ℕ) (t : Bool) → eqb (length (p .tails)) (p .wanted) ≡ t → Bounded (cond t (holds (networkOf p a b)) (refused (Layout 0)))
-  unfolding networkOf
+  full : (a b : ℕ) (t : Bool) → eqb (length (p .tails)) (p .wanted) ≡ t → Bounded (cond t (holds (networkRead p a b)) (refused (Layout 0)))
+  unfolding networkRead
   full a b false e = omega arith
   full a b true e =
       record {
@@ -74,5 +65,5 @@ module _ (text : List ℕ) where
   pub network-sizes : {net : Network} → parsed text ≡ holds net → OneCommodity net
   network-sizes e = rw e at (parsed-bounded text)
 
-  pub refusal-place : {r : Refusal} → parsed text ≡ refused r → place r ≤ 65536
+  pub refusal-place : {r : Refusal} → parsed text ≡ refused r → code r .place ≤ 65536
   refusal-place e = rw e at (parsed-bounded text)

@@ -12,7 +12,7 @@ use Rattle.arith.specs.Scan.{until, scan}
 use Rattle.network.specs.declared.Refusal.the-variants.{LongFile}
 use Rattle.dimacs.specs.Meaning.{meaning}
 use Rattle.dimacs.specs.Pieces.{lineFeed, linesOf, pieces}
-use Rattle.dimacs.specs.Outcome.{closing, refused, parsed}
+use Rattle.dimacs.specs.File.{closing, refused, parsed}
 use Rattle.dimacs.specs.Reading.{before, next, readLines}
 use Rattle.dimacs.specs.Stage.{readingOf, Tidy, Held, Reached}
 use Rattle.dimacs.specs.declared.Line.{Line}

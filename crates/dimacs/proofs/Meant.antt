@@ -7,7 +7,8 @@ use mathlib.Core.Option.{Option}
 use Prim.Native.Nat.{ℕ}
 use native.Mathlib.Omega.{arith}
 use lib.ListN.{length, getD}
-use Rattle.dimacs.specs.Meaning.{word, same, shaped, given, sourceOrSink, problemLine, terminalLine, arcLine, lettered, meaning}
+use Rattle.arith.specs.Lists.{same}
+use Rattle.dimacs.specs.Meaning.{word, shaped, given, sourceOrSink, problemLine, terminalLine, arcLine, lettered, meaning}
 use Rattle.dimacs.specs.Number.{numberOf}
 use Rattle.dimacs.specs.Pieces.{wordsOf}
 use Rattle.dimacs.specs.Scan.{optionOf}

@@ -3,10 +3,10 @@
 use mathlib.Core.Path.{_≡_, sym}
 use mathlib.Core.Bool.{true, false}
 use mathlib.Core.List.{List}
-use Prim.Native.Nat.{ℕ, _≤_, _<_}
+use Prim.Native.Nat.{ℕ}
 use native.Mathlib.Omega.{arith}
 use lib.ListN.{drop-of-length-le}
-use borrow.Author.Tests.{lt-ltb, le-ltb}
+use Rattle.bounds.specs.Bounds.{leastNodes, mostNodes, mostArcs}
 use Rattle.network.specs.Verdict.{outside}
 use Rattle.network.specs.declared.Refusal.{Refusal}
 use Rattle.network.specs.declared.Refusal.the-variants.{Nodes, Arcs}
@@ -18,36 +18,24 @@ use Rattle.dimacs.specs.declared.Stage.{Stage}
 use Rattle.dimacs.specs.declared.Stage.the-variants.{Down}
 
 -- a table of the right size, all in use
-full : {n : ℕ} {xs : List ℕ} → Tidy n xs → Tidy 256 xs
-full {n} {xs} t = record { size = t .size; zeros = drop-of-length-le xs {i = 256} (omega arith) }
+full : {n : ℕ} {xs : List ℕ} → Tidy n xs → Tidy mostArcs xs
+full {n} {xs} t = record { size = t .size; zeros = drop-of-length-le xs {i = mostArcs} (omega arith) }
 
 -- Turned down: of the tables only their size counts.
 pub turned-down : {read : Reading} {s : Stage} {ts hs cs : List ℕ} (r : Refusal) → Held s ts hs cs → read ≡ down r → Reached read (Down r) ts hs cs
 turned-down r h e =
     record { reading = sym e; held = record { room = tt; tails = full (h .tails); heads = full (h .heads); capacities = full (h .capacities) } }
 
-pub outside-below : (lo hi x : ℕ) → x < lo → outside lo hi x ≡ true
-unfolding outside
-outside-below lo hi x h = rw (lt-ltb x lo h)
-
-pub outside-above : (lo hi x : ℕ) → lo ≤ x → hi < x → outside lo hi x ≡ true
-unfolding outside
-outside-above lo hi x h l = rw (le-ltb x lo h, lt-ltb hi x l)
-
-pub inside : (lo hi x : ℕ) → lo ≤ x → x ≤ hi → outside lo hi x ≡ false
-unfolding outside
-inside lo hi x h l = rw (le-ltb x lo h, le-ltb hi x l)
-
 module _ (i n m : ℕ) where
-  pub nodes-outside : outside 2 64 n ≡ true → opening i (Problem n m) ≡ down Nodes
+  pub nodes-outside : outside leastNodes mostNodes n ≡ true → opening i (Problem n m) ≡ down Nodes
   unfolding opening
   nodes-outside h = rw h
 
-  pub arcs-outside : outside 2 64 n ≡ false → outside 1 256 m ≡ true → opening i (Problem n m) ≡ down Arcs
+  pub arcs-outside : outside leastNodes mostNodes n ≡ false → outside 1 mostArcs m ≡ true → opening i (Problem n m) ≡ down Arcs
   unfolding opening
   arcs-outside h l = rw (h, l)
 
-  pub opened : outside 2 64 n ≡ false → outside 1 256 m ≡ false → opening i (Problem n m) ≡ past (begun n m)
+  pub opened : outside leastNodes mostNodes n ≡ false → outside 1 mostArcs m ≡ false → opening i (Problem n m) ≡ past (begun n m)
   unfolding opening
   opened h l = rw (h, l)
 

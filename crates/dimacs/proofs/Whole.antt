@@ -6,10 +6,12 @@ use Prim.Native.Nat.{ℕ, _≤_}
 use native.Mathlib.Omega.{arith}
 use lib.ListN.{length, length-append, length-replicate}
 use Rattle.network.specs.Network.{Network}
-use Rattle.dimacs.specs.Outcome.{Outcome, holds, refused, parsed}
-use Rattle.dimacs.specs.Result.{padded, resultOf}
+use Rattle.network.specs.Refusal.{hostNumber}
+use Rattle.dimacs.specs.File.{File, holds, refused, parsed}
+use Rattle.dimacs.specs.OneCommodity.{OneCommodity}
+use Rattle.dimacs.specs.Result.{padded, resultOf, fileNumber, Read}
 use Rattle.dimacs.specs.declared.Parsed.{Parsed}
-use Rattle.dimacs.proofs.Holds.{OneCommodity, network-sizes}
+use Rattle.dimacs.proofs.Holds.{network-sizes}
 
 -- The three tables have 256 places, of which the arcs fill the first ones.
 pub record Whole (r : Parsed) : Type 0 where
@@ -22,7 +24,7 @@ padded-whole : (xs : List ℕ) → length xs ≤ 256 → length (padded xs) ≡ 
 unfolding padded
 padded-whole xs h = simp (length-append, length-replicate) (omega arith)
 
-outcome-whole : (o : Outcome) → ((net : Network) → o ≡ holds net → OneCommodity net) → Whole (resultOf o)
+outcome-whole : (o : File) → ((net : Network) → o ≡ holds net → OneCommodity net) → Whole (resultOf o)
 unfolding resultOf
 outcome-whole (holds net) f =
     let s = f net refl in
@@ -36,3 +38,12 @@ outcome-whole (refused r) f = record { few = omega arith; tails = refl; heads = 
 
 pub whole : (text : List ℕ) {r : Parsed} → r ≡ resultOf (parsed text) → Whole r
 whole text e = rw e (outcome-whole (parsed text) (λ net h. network-sizes text h))
+
+-- What the reader's contract says follows from what it hands over.
+pub read-whole : (text : List ℕ) {r : Parsed} → r ≡ resultOf (parsed text) → Read text r
+unfolding resultOf fileNumber
+read-whole text {r} e = record { result = e; number = rw e (by (parsed text)) }
+  where
+    by : (f : File) → hostNumber (resultOf f .verdict) ≡ fileNumber f
+    by (holds net) = refl
+    by (refused w) = refl

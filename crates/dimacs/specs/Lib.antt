@@ -1,6 +1,7 @@
+pub mod File
 pub mod Meaning
 pub mod Number
-pub mod Outcome
+pub mod OneCommodity
 pub mod Pieces
 pub mod Progress
 pub mod Reading

@@ -1,22 +1,16 @@
 -- What one line says. Document 01, "File and listing": "Their first letter decides".
-use mathlib.Core.Bool.{Bool, true, false, cond, _&&_}
+use mathlib.Core.Bool.{Bool, cond, _&&_}
 use mathlib.Core.List.{List, [], _∷_}
 use mathlib.Core.Option.{Option, none, some}
 use Prim.Native.Nat.{ℕ}
 use lib.Dec.{eqb}
 use lib.ListN.{length, getD}
+use Rattle.arith.specs.Lists.{same}
 use Rattle.dimacs.specs.Number.{numberOf}
 use Rattle.dimacs.specs.Pieces.{wordsOf}
 use Rattle.dimacs.specs.Text.{bytes}
 use Rattle.dimacs.specs.declared.Line.{Line}
 use Rattle.dimacs.specs.declared.Line.the-variants.{Comment, Problem, Source, Sink, Arc, Broken}
-
--- the same bytes
-unfoldable pub same : List ℕ → List ℕ → Bool
-same [] [] = true
-same [] (y ∷ ys) = false
-same (x ∷ xs) [] = false
-same (x ∷ xs) (y ∷ ys) = eqb x y && same xs ys
 
 -- word i of a line's words, counted from 0; empty where there are fewer
 abbrev pub word : List (List ℕ) → ℕ → List ℕ
@@ -32,13 +26,13 @@ given none f = Broken
 given (some x) f = f x
 
 -- what follows from the number of a word
-abbrev pub numbered : List ℕ → (ℕ → Line) → Line
-numbered w f = given (numberOf w) f
+abbrev pub givenNumber : List ℕ → (ℕ → Line) → Line
+givenNumber w f = given (numberOf w) f
 
 -- "p max n m": the letter, the word max and two numbers
 unfoldable pub problemLine : List (List ℕ) → Line
 problemLine ws =
-    cond (shaped 4 ws && same (word ws 1) (bytes "max")) (numbered (word ws 2) (λ n. numbered (word ws 3) (λ m. Problem n m))) Broken
+    cond (shaped 4 ws && same (word ws 1) (bytes "max")) (givenNumber (word ws 2) (λ n. givenNumber (word ws 3) (λ m. Problem n m))) Broken
 
 -- node v with the word s or t
 unfoldable pub sourceOrSink : List ℕ → ℕ → Line
@@ -46,11 +40,11 @@ sourceOrSink w v = cond (same w (bytes "s")) (Source v) (cond (same w (bytes "t"
 
 -- an n line, "(station, s or t)"
 unfoldable pub terminalLine : List (List ℕ) → Line
-terminalLine ws = cond (shaped 3 ws) (numbered (word ws 1) (λ v. sourceOrSink (word ws 2) v)) Broken
+terminalLine ws = cond (shaped 3 ws) (givenNumber (word ws 1) (λ v. sourceOrSink (word ws 2) v)) Broken
 
 -- an a line, "(tail, head, capacity)"
 unfoldable pub arcLine : List (List ℕ) → Line
-arcLine ws = cond (shaped 4 ws) (numbered (word ws 1) (λ u. numbered (word ws 2) (λ v. numbered (word ws 3) (λ c. Arc u v c)))) Broken
+arcLine ws = cond (shaped 4 ws) (givenNumber (word ws 1) (λ u. givenNumber (word ws 2) (λ v. givenNumber (word ws 3) (λ c. Arc u v c)))) Broken
 
 -- The first byte decides: c (99), p (112), n (110) or a (97). "Anything else breaks the layout."
 unfoldable pub lettered : ℕ → List (List ℕ) → Line

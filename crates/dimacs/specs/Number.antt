@@ -16,10 +16,10 @@ every f [] = true
 every f (x ∷ xs) = f x && every f xs
 
 -- the value of digits, the highest first, that follow digits of value x
-unfoldable pub value : ℕ → List ℕ → ℕ
-value x [] = x
-value x (b ∷ bs) = value (x * 10 + (b - 48)) bs
+unfoldable pub fromDigits : ℕ → List ℕ → ℕ
+fromDigits x [] = x
+fromDigits x (b ∷ bs) = fromDigits (x * 10 + (b - 48)) bs
 
 -- The number of a word: 1 to 9 digits, and nothing else. Zeros may lead.
 unfoldable pub numberOf : List ℕ → Option ℕ
-numberOf w = cond (leb 1 (length w) && leb (length w) 9 && every digit w) (some (value 0 w)) none
+numberOf w = cond (leb 1 (length w) && leb (length w) 9 && every digit w) (some (fromDigits 0 w)) none

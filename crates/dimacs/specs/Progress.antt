@@ -13,45 +13,23 @@ pub record Progress : Type 0 where
   pub heads : List ℕ
   pub capacities : List ℕ
 
--- just after the line p max n m
+-- these seven parts
+abbrev pub progress : ℕ → ℕ → Option ℕ → Option ℕ → List ℕ → List ℕ → List ℕ → Progress
+progress n m s t us vs cs = record { nodes = n; wanted = m; source = s; sink = t; tails = us; heads = vs; capacities = cs }
+
+-- just past the line p max n m
 unfoldable pub begun : ℕ → ℕ → Progress
-begun n m = record { nodes = n; wanted = m; source = none; sink = none; tails = []; heads = []; capacities = [] }
+begun n m = progress n m none none [] [] []
 
--- after the line n v s
+-- past the line n v s
 unfoldable pub withSource : ℕ → Progress → Progress
-withSource v p =
-    record {
-      nodes = p .nodes;
-      wanted = p .wanted;
-      source = some v;
-      sink = p .sink;
-      tails = p .tails;
-      heads = p .heads;
-      capacities = p .capacities;
-    }
+withSource v p = progress (p .nodes) (p .wanted) (some v) (p .sink) (p .tails) (p .heads) (p .capacities)
 
--- after the line n v t
+-- past the line n v t
 unfoldable pub withSink : ℕ → Progress → Progress
-withSink v p =
-    record {
-      nodes = p .nodes;
-      wanted = p .wanted;
-      source = p .source;
-      sink = some v;
-      tails = p .tails;
-      heads = p .heads;
-      capacities = p .capacities;
-    }
+withSink v p = progress (p .nodes) (p .wanted) (p .source) (some v) (p .tails) (p .heads) (p .capacities)
 
--- after the line a u v c
+-- past the line a u v c
 unfoldable pub withArc : ℕ → ℕ → ℕ → Progress → Progress
 withArc u v c p =
-    record {
-      nodes = p .nodes;
-      wanted = p .wanted;
-      source = p .source;
-      sink = p .sink;
-      tails = p .tails ++ (u ∷ []);
-      heads = p .heads ++ (v ∷ []);
-      capacities = p .capacities ++ (c ∷ []);
-    }
+    progress (p .nodes) (p .wanted) (p .source) (p .sink) (p .tails ++ (u ∷ [])) (p .heads ++ (v ∷ [])) (p .capacities ++ (c ∷ []))

@@ -5,6 +5,7 @@ use mathlib.Core.Option.{Option, none, some}
 use Prim.Native.Nat.{ℕ, suc}
 use lib.Dec.{ltb}
 use lib.ListN.{length}
+use Rattle.bounds.specs.Bounds.{leastNodes, mostNodes, mostArcs}
 use Rattle.network.specs.Verdict.{outside}
 use Rattle.network.specs.declared.Refusal.{Refusal}
 use Rattle.network.specs.declared.Refusal.the-variants.{Nodes, Arcs, Layout}
@@ -22,7 +23,7 @@ pub data Reading : Type 0 where
 -- Line i before the p line. "9 before 1 or 2 on its p line": a faulty p line is Broken; of the two counts n comes first.
 unfoldable pub opening : ℕ → Line → Reading
 opening i Comment = before
-opening i (Problem n m) = cond (outside 2 64 n) (down Nodes) (cond (outside 1 256 m) (down Arcs) (past (begun n m)))
+opening i (Problem n m) = cond (outside leastNodes mostNodes n) (down Nodes) (cond (outside 1 mostArcs m) (down Arcs) (past (begun n m)))
 opening i (Source v) = down (Layout i)
 opening i (Sink v) = down (Layout i)
 opening i (Arc u v c) = down (Layout i)

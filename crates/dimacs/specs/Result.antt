@@ -1,18 +1,21 @@
--- The outcome of a file as the reader hands it over.
+-- What a file comes to, as the reader hands it over.
+use mathlib.Core.Path.{_≡_}
 use mathlib.Core.List.{List, _++_}
 use Prim.Native.Nat.{ℕ, _-_}
 use lib.ListN.{length, replicate}
+use Rattle.bounds.specs.Bounds.{mostArcs}
 use Rattle.network.specs.Network.{source, sink}
+use Rattle.network.specs.Refusal.{hostNumber}
 use Rattle.network.specs.declared.Verdict.the-variants.{Accepted, Refused}
-use Rattle.dimacs.specs.Outcome.{Outcome, holds, refused}
+use Rattle.dimacs.specs.File.{File, holds, refused, parsed}
 use Rattle.dimacs.specs.declared.Parsed.{Parsed}
 
--- the numbers, and zeros up to 256 places
+-- the numbers, and zeros up to a place for each arc that a file may have
 unfoldable pub padded : List ℕ → List ℕ
-padded xs = xs ++ replicate (256 - length xs) 0
+padded xs = xs ++ replicate (mostArcs - length xs) 0
 
 -- A network fills the tables from the front; of a refused file every number is 0.
-unfoldable pub resultOf : Outcome → Parsed
+unfoldable pub resultOf : File → Parsed
 resultOf (holds net) =
     record {
       verdict = Accepted;
@@ -31,7 +34,17 @@ resultOf (refused r) =
       arcs = 0;
       source = 0;
       sink = 0;
-      tails = replicate 256 0;
-      heads = replicate 256 0;
-      capacities = replicate 256 0;
+      tails = replicate mostArcs 0;
+      heads = replicate mostArcs 0;
+      capacities = replicate mostArcs 0;
     }
+
+-- Its number as a host call would return it: 0, or the refusal's number and place.
+unfoldable pub fileNumber : File → ℕ
+fileNumber (holds net) = 0
+fileNumber (refused r) = hostNumber (Refused r)
+
+-- The contract of the reader, for a file of the bytes text: what is handed over, and document 01's number of the verdict in it.
+pub record Read (text : List ℕ) (r : Parsed) : Type 0 where
+  pub result : r ≡ resultOf (parsed text)
+  pub number : hostNumber (r .verdict) ≡ fileNumber (parsed text)

@@ -3,6 +3,7 @@ use mathlib.Core.Path.{_≡_}
 use mathlib.Core.List.{List}
 use Prim.Native.Nat.{ℕ, _-_, _≤_}
 use lib.ListN.{length, take, drop, replicate}
+use Rattle.bounds.specs.Bounds.{mostArcs}
 use Rattle.dimacs.specs.Progress.{Progress}
 use Rattle.dimacs.specs.Reading.{Reading, before, past, down}
 use Rattle.dimacs.specs.Scan.{optionOf}
@@ -29,21 +30,21 @@ readingOf Before ts hs cs = before
 readingOf (Past t) ts hs cs = past (progressOf t ts hs cs)
 readingOf (Down r) ts hs cs = down r
 
--- a table of 256 numbers, which are 0 from place n on
+-- a table with a place for each arc that a file may have, whose numbers are 0 from place n on
 pub record Tidy (n : ℕ) (xs : List ℕ) : Type 0 where
-  pub size : length xs ≡ 256
-  pub zeros : drop n xs ≡ replicate (256 - n) 0
+  pub size : length xs ≡ mostArcs
+  pub zeros : drop n xs ≡ replicate (mostArcs - n) 0
 
 -- how many places of a table may be other than 0
 abbrev pub used : Stage → ℕ
 used Before = 0
 used (Past t) = t .found
-used (Down r) = 256
+used (Down r) = mostArcs
 
 -- the arcs wanted have room in the tables
 abbrev pub Room : Stage → Type 0
 Room Before = Unit {0}
-Room (Past t) = (t .found ≤ t .wanted) × (t .wanted ≤ 256)
+Room (Past t) = (t .found ≤ t .wanted) × (t .wanted ≤ mostArcs)
 Room (Down r) = Unit {0}
 
 -- what a stage and its tables keep between two lines

@@ -1,4 +1,5 @@
 // The reader of the DIMACS maximum flow layout: from the bytes of a file to a network of one commodity, or a refusal.
+use bounds::MOST_ARCS;
 use network::Refusal;
 use network::Verdict;
 
@@ -54,7 +55,7 @@ pub struct Parsed {
     pub arcs: usize,
     pub source: u64,
     pub sink: u64,
-    pub tails: [u64; 256],
-    pub heads: [u64; 256],
-    pub capacities: [u64; 256],
+    pub tails: [u64; MOST_ARCS],
+    pub heads: [u64; MOST_ARCS],
+    pub capacities: [u64; MOST_ARCS],
 }

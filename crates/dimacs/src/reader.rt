@@ -7,14 +7,19 @@ use crate::Stop;
 use crate::Tally;
 use crate::lines::meaning;
 use crate::words::scan;
+use bounds::LEAST_NODES;
+use bounds::MOST_ARCS;
+use bounds::MOST_BYTES;
+use bounds::MOST_NODES;
 use network::Refusal;
 use network::Verdict;
+use network::checks::outside;
 ghost use mathlib.Core.Path.{_≡_};
 ghost use mathlib.Core.List.{List};
 ghost use Prim.Native.Nat.{ℕ, _+_, _<_};
-ghost use Rattle.dimacs.specs.Outcome.{closing, parsed, refused};
+ghost use Rattle.dimacs.specs.File.{closing, refused};
 ghost use Rattle.dimacs.specs.Reading.{opening, following, next};
-ghost use Rattle.dimacs.specs.Result.{resultOf};
+ghost use Rattle.dimacs.specs.Result.{resultOf, Read};
 ghost use Rattle.dimacs.specs.Stage.{progressOf, readingOf, Held, Reached};
 
 // A line before the p line.
@@ -24,13 +29,11 @@ fn begin(place: u64, line: Line) -> Stage
     match line {
         Line::Comment => Stage::Before,
         Line::Problem(n, m) => {
-            match n {
-                2..=64 => {}
-                _ => return Stage::Down(Refusal::Nodes),
+            if outside(LEAST_NODES, MOST_NODES, n) {
+                return Stage::Down(Refusal::Nodes);
             }
-            match m {
-                1..=256 => {}
-                _ => return Stage::Down(Refusal::Arcs),
+            if outside(1, MOST_ARCS as u64, m) {
+                return Stage::Down(Refusal::Arcs);
             }
             Stage::Past(Tally {
                 nodes: n,
@@ -153,7 +156,7 @@ fn next(
 fn refuse(why: Refusal) -> Parsed
     ensures { λ r. ⌜ r ≡ resultOf (refused why) ⌝ }
 {
-    let none = [0u64; 256];
+    let none = [0u64; MOST_ARCS];
     Parsed {
         verdict: Verdict::Refused(why),
         nodes: 0,
@@ -167,7 +170,12 @@ fn refuse(why: Refusal) -> Parsed
 }
 
 // The end of the file, which shows what is missing.
-fn finish(stage: Stage, tails: [u64; 256], heads: [u64; 256], capacities: [u64; 256]) -> Parsed
+fn finish(
+    stage: Stage,
+    tails: [u64; MOST_ARCS],
+    heads: [u64; MOST_ARCS],
+    capacities: [u64; MOST_ARCS],
+) -> Parsed
     requires { ⌜ Held stage tails heads capacities ⌝ }
     ensures { λ r. ⌜ r ≡ resultOf (closing (readingOf stage tails heads capacities)) ⌝ }
 {
@@ -203,14 +211,14 @@ fn finish(stage: Stage, tails: [u64; 256], heads: [u64; 256], capacities: [u64; 
 
 // What a file of these bytes comes to.
 pub fn read(text: &[u8]) -> Parsed
-    ensures { λ r. ⌜ r ≡ resultOf (parsed (now (text .entry))) ⌝ }
+    ensures { λ r. ⌜ Read (now (text .entry)) r ⌝ }
 {
-    if 65536 < text.len() {
+    if MOST_BYTES < text.len() {
         return refuse(Refusal::LongFile);
     }
-    let mut tails = [0u64; 256];
-    let mut heads = [0u64; 256];
-    let mut capacities = [0u64; 256];
+    let mut tails = [0u64; MOST_ARCS];
+    let mut heads = [0u64; MOST_ARCS];
+    let mut capacities = [0u64; MOST_ARCS];
     let mut stage = Stage::Before;
     let mut at = 0;
     let mut place: u64 = 1;

@@ -1,35 +1,22 @@
 -- One computed test for all entries of a list, and what it tells of each.
 -- Assumes nothing.
-use mathlib.Core.Bool.{Bool, true, false}
+use mathlib.Core.Bool.{Bool, true, false, _&&_, _||_}
 use mathlib.Core.List.{List, [], _∷_}
 use mathlib.Core.Logic.{_⊎_, inl, inr}
 use Prim.Native.Nat.{ℕ, zero, suc, _+_, _<_}
 use native.Mathlib.Nat.{add-zero, add-suc, suc-add, le-of-suc-le-suc, not-suc-le-zero}
 use lib.Dec.{T}
 use lib.ListN.{length, getD}
+use Rattle.arith.proofs.Same.{and-parts}
 
--- Two tests that both pass
-abbrev pub and : Bool → Bool → Bool
-and true b = b
-and false b = false
-
--- Two tests of which one passes
-abbrev pub or : Bool → Bool → Bool
-or true b = true
-or false b = b
-
-pub and-parts : (a b : Bool) → T (and a b) → T a × T b
-and-parts true b t = (tt, t)
-and-parts false b t = absurd t
-
-pub or-cases : (a b : Bool) → T (or a b) → T a ⊎ T b
+pub or-cases : (a b : Bool) → T (a || b) → T a ⊎ T b
 or-cases true b t = inl tt
 or-cases false b t = inr t
 
 -- The test passes at each entry, which it is given with its place; the first place is i.
 abbrev pub every : {A : Type 0} → (ℕ → A → Bool) → ℕ → List A → Bool
 every f i [] = true
-every f i (x ∷ xs) = and (f i x) (every f (suc i) xs)
+every f i (x ∷ xs) = f i x && every f (suc i) xs
 
 -- So it passes at the entry at k, with its place. (Past the end the entry is d.)
 pub at-every : {A : Type 0} (f : ℕ → A → Bool) (i : ℕ) (xs : List A) (d : A) → T (every f i xs) → (k : ℕ) → k < length xs → T (f (i + k) (getD xs k d))

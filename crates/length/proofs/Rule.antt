@@ -1,7 +1,7 @@
 -- The table follows document 01's rule: L is the least whole number, at least 1, with (1 + 1/q)^L ≥ m. There is only one such number.
 -- Assumes nothing.
 use mathlib.Core.Path.{_≡_}
-use mathlib.Core.Bool.{Bool, not}
+use mathlib.Core.Bool.{Bool, not, _&&_, _||_}
 use mathlib.Core.Logic.{⊎-elim}
 use Prim.Native.Nat.{ℕ, zero, suc, _+_, _-_, _*_, _^_, _≤_, _<_}
 use native.Mathlib.Nat.{pow-suc, add-suc, add-zero, mul-le-mul-right, add-sub-of-le, lt-of-not-le, not-le-of-lt}
@@ -9,7 +9,8 @@ use native.Mathlib.Omega.{arith}
 use lib.Dec.{T, leb, leb→le, nleb→lt}
 use Rattle.length.specs.Level.{level, Level}
 use Rattle.length.specs.Levels.{levels}
-use Rattle.length.proofs.Every.{and, or, and-parts, or-cases}
+use Rattle.arith.proofs.Same.{and-parts}
+use Rattle.length.proofs.Every.{or-cases}
 use Rattle.length.proofs.Lookup.{tested, lookup}
 
 -- (1 + 1/q)^l ≥ m, multiplied by q^l
@@ -18,7 +19,7 @@ enough m q l = leb (m * q ^ l) ((q + 1) ^ l)
 
 -- l is enough, and is 1 or follows a number that is not.
 rule : ℕ → ℕ → ℕ → Bool
-rule m q l = and (leb 1 l) (and (enough m q l) (or (leb l 1) (not (enough m q (l - 1)))))
+rule m q l = leb 1 l && (enough m q l && (leb l 1 || not (enough m q (l - 1))))
 
 passes : T (tested rule)
 unfolding levels rule enough
@@ -35,8 +36,8 @@ down m q j (suc d) h =
 ruled : (m q l : ℕ) → T (rule m q l) → Level m q l
 unfolding rule enough
 ruled m q l t =
-    let first : Bool = or (leb l 1) (not (enough m q (l - 1))) in
-    let (positive, more) = and-parts (leb 1 l) (and (enough m q l) first) t in
+    let first : Bool = leb l 1 || not (enough m q (l - 1)) in
+    let (positive, more) = and-parts (leb 1 l) (enough m q l && first) t in
     let (reached, new) = and-parts (enough m q l) first more in
     record {
       least = leb→le 1 l positive;

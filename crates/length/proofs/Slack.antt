@@ -1,12 +1,12 @@
 -- The room that the roundings have (guarantee, section 3, test S): with R = 2^20 and p = q + 1, m * q * L is below R, and
 -- ((R + 1) / (R - m * q * L))^8 is at most (p / q)^L. A second computed test over the table L.
 -- Assumes nothing.
-use mathlib.Core.Bool.{Bool}
+use mathlib.Core.Bool.{Bool, _&&_}
 use Prim.Native.Nat.{ℕ, _+_, _-_, _*_, _^_, _≤_, _<_}
 use lib.Dec.{T, leb, ltb, leb→le, ltb→lt}
 use Rattle.length.specs.Level.{level}
 use Rattle.length.specs.Levels.{levels}
-use Rattle.length.proofs.Every.{and, and-parts}
+use Rattle.arith.proofs.Same.{and-parts}
 use Rattle.length.proofs.Lookup.{tested, lookup}
 
 small : ℕ → ℕ → ℕ → Bool
@@ -16,7 +16,7 @@ room : ℕ → ℕ → ℕ → Bool
 room m q l = leb ((2 ^ 20 + 1) ^ 8 * q ^ l) ((2 ^ 20 - m * q * l) ^ 8 * (q + 1) ^ l)
 
 both : ℕ → ℕ → ℕ → Bool
-both m q l = and (small m q l) (room m q l)
+both m q l = small m q l && room m q l
 
 passes : T (tested both)
 unfolding levels small room both

@@ -2,11 +2,12 @@
 -- Assumes nothing.
 use Prim.Native.Nat.{ℕ, _+_, _-_, _*_, _^_, _≤_, _<_}
 use lib.ListN.{getD}
+use Rattle.bounds.specs.Bounds.{mostArcs, leastPrecision}
 use Rattle.length.specs.Levels.{levels}
 
 -- L stands in a constant table for each m from 1 to 256 and q from 4 to 16
 unfoldable pub level : ℕ → ℕ → ℕ
-level m q = getD levels ((q - 4) * 256 + (m - 1)) 0
+level m q = getD levels ((q - leastPrecision) * mostArcs + (m - 1)) 0
 
 -- The load mark T is q × L
 unfoldable pub threshold : ℕ → ℕ → ℕ

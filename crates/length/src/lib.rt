@@ -1,8 +1,11 @@
 // Lengths of arcs in whole numbers, and the level and threshold that end a run (document 01, "One choice of route").
+use bounds::LEAST_PRECISION;
+use bounds::MOST_ARCS;
 ghost use mathlib.Core.Path.{_≡_};
 ghost use Prim.Native.Nat.{_+_, _^_, _≤_, _<_};
 ghost use lib.Dec.{leb};
 ghost use Rattle.arith.specs.Ceiling.{ceil};
+ghost use Rattle.bounds.specs.Bounds.{mostArcs, mostCapacity, leastPrecision, mostPrecision};
 ghost use Rattle.length.specs.Length.{scale, mark, start, growth, halving};
 ghost use Rattle.length.specs.Level.{level, threshold};
 
@@ -30,7 +33,7 @@ impl Length {
 
     // The length that an arc starts with.
     pub fn start(capacity: u64) -> Length
-        requires { ⌜ (1 ≤ capacity) × (capacity ≤ 1000) ⌝ }
+        requires { ⌜ (1 ≤ capacity) × (capacity ≤ mostCapacity) ⌝ }
         ensures { λ r. ⌜ r .value ≡ start capacity ⌝ }
         ensures scale { λ _. do ⌜ (← ⟦Length::SCALE⟧ .entry) ≡ scale ⌝ }
     {
@@ -41,7 +44,7 @@ impl Length {
 
     // The length after a draw through its arc. Below the mark, the products stay far within 64 bits.
     pub fn growth(self, q: u64, draw: u64, capacity: u64) -> Length
-        requires { ⌜ (4 ≤ q) × (q ≤ 16) × (draw ≤ capacity) × (1 ≤ capacity) × (capacity ≤ 1000) × (self .value < 2 ^ 40) ⌝ }
+        requires { ⌜ (leastPrecision ≤ q) × (q ≤ mostPrecision) × (draw ≤ capacity) × (1 ≤ capacity) × (capacity ≤ mostCapacity) × (self .value < 2 ^ 40) ⌝ }
         ensures { λ r. ⌜ r .value ≡ growth q draw capacity (self .value) ⌝ }
     {
         let l = self.value;
@@ -78,16 +81,16 @@ fn wide(x: u8) -> u64
 
 // Document 01's L for m arcs at precision q.
 pub fn level(m: u64, q: u64) -> u64
-    requires { ⌜ (1 ≤ m) × (m ≤ 256) × (4 ≤ q) × (q ≤ 16) ⌝ }
+    requires { ⌜ (1 ≤ m) × (m ≤ mostArcs) × (leastPrecision ≤ q) × (q ≤ mostPrecision) ⌝ }
     ensures { λ r. ⌜ r ≡ level m q ⌝ }
 {
-    let place = (q - 4) * 256 + (m - 1);
+    let place = (q - LEAST_PRECISION) * MOST_ARCS as u64 + (m - 1);
     wide(table::LEVELS[place as usize])
 }
 
 // Document 01's load mark T: a run ends when some arc's load is this many times its capacity.
 pub fn threshold(m: u64, q: u64) -> u64
-    requires { ⌜ (1 ≤ m) × (m ≤ 256) × (4 ≤ q) × (q ≤ 16) ⌝ }
+    requires { ⌜ (1 ≤ m) × (m ≤ mostArcs) × (leastPrecision ≤ q) × (q ≤ mostPrecision) ⌝ }
     ensures { λ r. ⌜ r ≡ threshold m q ⌝ }
 {
     q * level(m, q)

@@ -10,7 +10,7 @@ use lib.Dec.{eqb}
 use lib.ListN.{length, getD, set, length-set}
 use lib.Seq.{getD-set-same, getD-set-other}
 use Rattle.method.specs.Iteration.{update}
-use Rattle.method.proofs.Times.{times}
+use Rattle.arith.specs.Times.{times}
 
 pub update-other : (f : ℕ → ℕ → ℕ) (p xs : List ℕ) (j : ℕ) → times j p ≡ 0 → getD (update f p xs) j 0 ≡ getD xs j 0
 unfolding update times

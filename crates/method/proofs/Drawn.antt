@@ -18,7 +18,8 @@ use Rattle.method.specs.Iteration.{update}
 use Rattle.method.specs.Answer.{amounts}
 use Rattle.method.proofs.Balance.{path-below, path-balance}
 use Rattle.method.proofs.Through.{through-adds, times-row}
-use Rattle.method.proofs.Times.{Below, none, also, once, once-same, once-other, times, along, update-adds}
+use Rattle.arith.specs.Times.{times}
+use Rattle.method.proofs.Times.{Below, none, also, once, once-same, once-other, along, update-adds}
 
 -- The places of row i of a table of k rows are within it.
 row-below : (m k i : ℕ) (p : List ℕ) → i < k → Below m p → Below (k * m) (map (λ e. i * m + e) p)

@@ -12,7 +12,8 @@ use lib.Dec.{eqb}
 use lib.ListN.{getD}
 use Rattle.arith.proofs.Order.{le-or-lt}
 use Rattle.method.specs.Iteration.{lowest, draw}
-use Rattle.method.proofs.Times.{once-same, times}
+use Rattle.arith.specs.Times.{times}
+use Rattle.method.proofs.Times.{once-same}
 
 -- The capacity of arc e.
 abbrev capAt : List ℕ → ℕ → ℕ

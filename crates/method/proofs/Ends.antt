@@ -18,10 +18,11 @@ use Rattle.network.specs.Sound.{Sound}
 use Rattle.packing.proofs.Count.{count-below}
 use Rattle.packing.proofs.Run as packing
 use Rattle.method.specs.Choice.{Choice, choice}
-use Rattle.method.specs.Ending.{nth, Ending}
+use Rattle.method.specs.Ending.{Ending}
 use Rattle.method.specs.Iteration.{State, initial, advance, iteration}
-use Rattle.method.specs.Run.{ended, runs, run}
+use Rattle.method.specs.Run.{ended, nth, runs, run}
 use Rattle.method.specs.Sizes.{Sizes}
+use Rattle.method.specs.Underway.{Underway}
 use Rattle.method.proofs.Instance.{seen}
 use Rattle.method.proofs.Programs.{program}
 use Rattle.method.proofs.Sized.{enough, reached-sizes, next-sizes}
@@ -35,8 +36,7 @@ pub record Final (net : Network) (q : ℕ) (t : State) : Type 0 where
   pub chosen : choice net (prior .lengths) ≡ some choosing
   pub is : t ≡ advance net q choosing prior
   pub full : ended net q t ≡ true
-  pub at : prior ≡ nth net q (prior .count)
-  pub before : (j : ℕ) → j ≤ prior .count → ended net q (nth net q j) ≡ false
+  pub underway : Underway net q prior
 
 module _ (net : Network) (q : ℕ) (sound : Sound net q) (joined : (l : List ℕ) → (c : Choice) × (choice net l ≡ some c)) where
   iteration-some : (s : State) (c : Choice) → choice net (s .lengths) ≡ some c → iteration net q s ≡ advance net q c s
@@ -73,31 +73,30 @@ module _ (net : Network) (q : ℕ) (sound : Sound net q) (joined : (l : List ℕ
       let c = joined (s .lengths) in
       rw (iteration-some s (c .0) (c .1)) (valid-step net q sound s v (c .0) (c .1))
 
-  -- States 0 to the count of s have not ended the run.
-  abbrev Open : State → Type 0
-  Open s = (j : ℕ) → j ≤ s .count → ended net q (nth net q j) ≡ false
-
-  next-open : (s : State) → s ≡ nth net q (s .count) → Open s → ended net q (iteration net q s) ≡ false → Open (iteration net q s)
-  next-open s at before h j l =
-      ⊎-elim
-      (λ (e : j ≡ iteration net q s .count). rw (e, ← (next-at s at)) h)
-      (λ (b : j < iteration net q s .count). before j (omega (arith, next-count s)))
-      (eq-or-lt-of-le l)
+  pub underway-next : (s : State) → Underway net q s → ended net q (iteration net q s) ≡ false → Underway net q (iteration net q s)
+  underway-next s u h =
+      record {
+        at = next-at s (u .at);
+        before = λ j l.
+            ⊎-elim
+            (λ (e : j ≡ iteration net q s .count). rw (e, ← (next-at s (u .at))) h)
+            (λ (b : j < iteration net q s .count). u .before j (omega (arith, next-count s)))
+            (eq-or-lt-of-le l);
+      }
 
   ends :
-      (n : ℕ) (s : State) → Reached net q s → s ≡ nth net q (s .count) → Open s → arcs net * (q * level (arcs net) q - 1) < s .count + n →
+      (n : ℕ) (s : State) → Reached net q s → Underway net q s → arcs net * (q * level (arcs net) q - 1) < s .count + n →
       Final net q (runs net q n s)
   unfolding runs seen
-  ends zero s r at before h = absurd (omega (arith, count-below (program net q sound) (r .valid .run) (r .below)))
-  ends (suc n) s r at before h = by-test (ended net q t) refl (ends n t)
+  ends zero s r u h = absurd (omega (arith, count-below (program net q sound) (r .valid .run) (r .below)))
+  ends (suc n) s r u h = by-test (ended net q t) refl (ends n t)
     where
       t : State
       t = iteration net q s
 
       by-test :
           (b : Bool) → ended net q t ≡ b →
-          (Reached net q t → t ≡ nth net q (t .count) → Open t → arcs net * (q * level (arcs net) q - 1) < t .count + n →
-          Final net q (runs net q n t)) → Final net q (elim b [ true ↦ t | false ↦ runs net q n t ])
+          (Reached net q t → Underway net q t → arcs net * (q * level (arcs net) q - 1) < t .count + n → Final net q (runs net q n t)) → Final net q (elim b [ true ↦ t | false ↦ runs net q n t ])
       by-test true e rest =
           let c = joined (s .lengths) in
           record {
@@ -107,14 +106,12 @@ module _ (net : Network) (q : ℕ) (sound : Sound net q) (joined : (l : List ℕ
             chosen = c .1;
             is = iteration-some s (c .0) (c .1);
             full = e;
-            at = at;
-            before = before;
+            underway = u;
           }
       by-test false e rest =
           rest
           (record { valid = next-valid s (r .valid); below = not-ended net q sound t e })
-          (next-at s at)
-          (next-open s at before e)
+          (underway-next s u e)
           (omega (arith, next-count s))
 
   -- A state before which the run has not ended is reached.
@@ -127,15 +124,17 @@ module _ (net : Network) (q : ℕ) (sound : Sound net q) (joined : (l : List ℕ
         below = not-ended net q sound (iteration net q (nth net q j)) (h (suc j) (le-refl (suc j)));
       }
 
-  start-open : Open (initial net)
-  unfolding initial nth
-  start-open j l =
-      let z : j ≡ 0 = omega arith in
-      rw z (open-ended (initial net) (reached-start net q sound))
+  -- A run under way has reached its state.
+  pub underway-reached : (s : State) → Underway net q s → Reached net q s
+  underway-reached s u = rw (u .at) (reached-nth (s .count) (u .before))
 
-  start-at : initial net ≡ nth net q (initial net .count)
+  pub underway-start : Underway net q (initial net)
   unfolding initial nth
-  start-at = refl
+  underway-start =
+      record {
+        at = refl;
+        before = λ j l. let z : j ≡ 0 = omega arith in rw z (open-ended (initial net) (reached-start net q sound));
+      }
 
   start-enough : arcs net * (q * level (arcs net) q - 1) < initial net .count + arcs net * (q * level (arcs net) q)
   unfolding initial
@@ -144,7 +143,7 @@ module _ (net : Network) (q : ℕ) (sound : Sound net q) (joined : (l : List ℕ
   -- The whole run ends so.
   pub run-final : Final net q (run net q)
   unfolding run threshold
-  run-final = ends (arcs net * (q * level (arcs net) q)) (initial net) (reached-start net q sound) start-at start-open start-enough
+  run-final = ends (arcs net * (q * level (arcs net) q)) (initial net) (reached-start net q sound) underway-start start-enough
 
   final-count : (t : State) (f : Final net q t) → t .count ≡ suc (f .prior .count)
   unfolding advance
@@ -154,7 +153,7 @@ module _ (net : Network) (q : ℕ) (sound : Sound net q) (joined : (l : List ℕ
   unfolding nth
   final-at t f =
       f .is ∙
-      (sym (iteration-some (f .prior) (f .choosing) (f .chosen)) ∙ (ap (iteration net q) (f .at) ∙ ap (nth net q) (sym (final-count t f))))
+      (sym (iteration-some (f .prior) (f .choosing) (f .chosen)) ∙ (ap (iteration net q) (f .underway .at) ∙ ap (nth net q) (sym (final-count t f))))
 
   final-few : (t : State) (f : Final net q t) → t .count ≤ arcs net * (q * level (arcs net) q - 1) + 1
   unfolding seen
@@ -171,7 +170,7 @@ module _ (net : Network) (q : ℕ) (sound : Sound net q) (joined : (l : List ℕ
       record {
         steps = final-at (run net q) run-final;
         last = run-final .full;
-        before = λ j l. run-final .before j (omega (arith, final-count (run net q) run-final));
+        before = λ j l. run-final .underway .before j (omega (arith, final-count (run net q) run-final));
         few = final-few (run net q) run-final;
       }
 

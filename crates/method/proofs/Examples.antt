@@ -9,9 +9,9 @@ use native.Mathlib.Nat.{not-suc-le-zero, le-of-suc-le-suc}
 use lib.Dec.{T}
 use lib.ListN.{length, getD}
 use Rattle.arith.specs.Ceiling.{ceil}
-use Rattle.arith.specs.Lists.{upFrom, upTo, exists, flat, keep}
+use Rattle.arith.specs.Lists.{upFrom, upTo, exists, flat, keep, same}
 use Rattle.arith.specs.Sum.{sum}
-use Rattle.arith.proofs.Same.{same, same-eq, and-left, and-right}
+use Rattle.arith.proofs.Same.{same-eq, and-parts}
 use Rattle.length.specs.Length.{scale, mark, start, growth, halving}
 use Rattle.length.specs.Level.{level, threshold}
 use Rattle.length.specs.Levels.{levels}
@@ -88,8 +88,8 @@ computed = tt
 at : (rs : List Example) → T (holds rs) → (j : ℕ) (d : Example) → j < length rs → figures (outcome (getD rs j d .network) 4) ≡ getD rs j d .figures
 unfolding holds gives
 at [] t j d h = absurd (not-suc-le-zero h)
-at (r ∷ rs) t zero d h = same-eq (figures (outcome (r .network) 4)) (r .figures) (and-left (gives (r .network) (r .figures)) (holds rs) t)
-at (r ∷ rs) t (suc j) d h = at rs (and-right (gives (r .network) (r .figures)) (holds rs) t) j d (le-of-suc-le-suc h)
+at (r ∷ rs) t zero d h = same-eq (figures (outcome (r .network) 4)) (r .figures) (and-parts (gives (r .network) (r .figures)) (holds rs) t .0)
+at (r ∷ rs) t (suc j) d h = at rs (and-parts (gives (r .network) (r .figures)) (holds rs) t .1) j d (le-of-suc-le-suc h)
 
 -- The examples, proved together: row j's network at precision 4 has row j's figures.
 pub examples : (j : ℕ) (d : Example) → j < length rows → figures (outcome (getD rows j d .network) 4) ≡ getD rows j d .figures

@@ -1,10 +1,11 @@
 -- The outcome of every accepted network, joined or not, meets the guarantee.
 -- Assumes nothing.
 use mathlib.Core.Path.{_≡_, refl, sym, ap, _∙_}
-use mathlib.Core.Bool.{true}
+use mathlib.Core.Bool.{Bool, true, false}
+use mathlib.Core.Logic.{_↔_}
 use mathlib.Core.List.{List}
 use mathlib.Core.Option.{Option, none, some, Option·none-ne-some}
-use Prim.Native.Nat.{ℕ, _+_, _*_, _-_, _≤_, _<_}
+use Prim.Native.Nat.{ℕ, zero, suc, _+_, _*_, _-_, _≤_, _<_}
 use native.Mathlib.Nat.{mul-pos, mul-le-mul-right, le-of-mul-le-mul-left}
 use native.Mathlib.Omega.{arith}
 use borrow.Author.Tests.{leb-true}
@@ -14,6 +15,7 @@ use Rattle.arith.proofs.Exists.{exists-true}
 use Rattle.length.specs.Level.{level, threshold}
 use Rattle.network.specs.Network.{Network, arcs, commodities, capacity}
 use Rattle.network.specs.Flow.{Flow, Keeps, AtMost}
+use Rattle.network.specs.Path.{Joined}
 use Rattle.network.specs.Sound.{Sound}
 use Rattle.network.proofs.Sounds.{sound-ends}
 use Rattle.network.proofs.Duality.{Bounds}
@@ -24,15 +26,17 @@ use Rattle.packing.proofs.Run as packing
 use Rattle.method.specs.Answer.{fullest, unjoined, outcomeOf, outcome}
 use Rattle.method.specs.Choice.{Choice, choice}
 use Rattle.method.specs.Guarantee.{Guarantee}
-use Rattle.method.specs.Iteration.{State, initial}
-use Rattle.method.specs.Run.{ended, run}
+use Rattle.method.specs.Iteration.{State, initial, weight, advance, iteration}
+use Rattle.method.specs.Run.{ended, nth, runs, run}
+use Rattle.method.specs.Sizes.{Sizes}
 use Rattle.method.proofs.Bound.{bounded, unjoined-bounded}
-use Rattle.method.proofs.Ends.{Final, run-final}
+use Rattle.method.proofs.Ends.{Final, run-final, run-ends, final-sizes}
+use Rattle.method.proofs.Fitting.{unjoined-fits, state-fits}
 use Rattle.method.proofs.Fullest.{Fullest, is-fullest}
 use Rattle.method.proofs.Instance.{seen, iterated}
 use Rattle.method.proofs.Joining.{choice-none, none-by-any}
 use Rattle.method.proofs.Programs.{program}
-use Rattle.method.proofs.Reached.{Best, unset, kept, Valid, valid-step, fair}
+use Rattle.method.proofs.Reached.{Best, unset, kept, Valid, valid-step, chosen-at, fair}
 use Rattle.method.proofs.Table.{zero-flow, zero-carries, zero-load}
 
 -- T * ce ≤ ye and ye / ce ≤ yb / cb give T * cb ≤ yb.
@@ -46,6 +50,22 @@ always net m c h l = by-choice (choice net l) refl
     by-choice : (o : Option Choice) → choice net l ≡ o → (d : Choice) × (choice net l ≡ some d)
     by-choice none k = absurd (Option·none-ne-some c (sym (none-by-any net l m k) ∙ h))
     by-choice (some d) k = (d, k)
+
+stays : (net : Network) (q : ℕ) → choice net (initial net .lengths) ≡ none → iteration net q (initial net) ≡ initial net
+unfolding iteration
+stays net q h = rw (h, iteration) refl
+
+-- Where nothing is joined, no iteration changes anything.
+still : (net : Network) (q n : ℕ) → choice net (initial net .lengths) ≡ none → runs net q n (initial net) ≡ initial net
+unfolding runs
+still net q zero h = refl
+still net q (suc n) h = by-test (iteration net q (initial net)) (stays net q h) (ended net q (iteration net q (initial net))) (still net q n h)
+  where
+    by-test :
+        (t : State) → t ≡ initial net → (b : Bool) → runs net q n (initial net) ≡ initial net →
+        elim b [ true ↦ t | false ↦ runs net q n t ] ≡ initial net
+    by-test t e true rest = e
+    by-test t e false rest = ap (runs net q n) e ∙ rest
 
 module _ (net : Network) (q : ℕ) (sound : Sound net q) where
   -- The fullest arc is at the threshold where some arc is.
@@ -91,6 +111,13 @@ module _ (net : Network) (q : ℕ) (sound : Sound net q) where
     unfolding seen
     alpha-pos = positive-alpha (program net q sound) (f .reached .valid .run) step
 
+    weighed : weight net (t .bestLengths) ≡ t .bound
+    weighed = by-best (valid .best)
+      where
+        by-best : Best net (t .bound) (t .alpha) (t .bestLengths) → weight net (t .bestLengths) ≡ t .bound
+        by-best (unset e z) = absurd (omega (arith, alpha-pos))
+        by-best (kept e far) = sym e
+
     upper : (d : ℕ) (g : ℕ → ℕ → ℕ) → Flow net g → Keeps net d g → AtMost net g d (t .bound) (t .alpha)
     upper = by-best (valid .best)
       where
@@ -110,10 +137,21 @@ module _ (net : Network) (q : ℕ) (sound : Sound net q) where
     unfolding seen threshold
     few = count-all (program net q sound) (f .reached .valid .run) (f .reached .below) step
 
-    final-guarantee : Guarantee net q (outcomeOf net t)
+    -- It has chosen, so it is not the unjoined outcome, and some commodity is joined.
+    chosen-joins : Sizes net t → outcomeOf net t ≡ unjoined net ↔ ((i : ℕ) → i < commodities net → Joined net i → ⊥)
+    unfolding outcomeOf unjoined advance
+    chosen-joins z = (
+      λ e. absurd (omega (arith, ap (λ o. o .answer .count) e, ap (λ s. s .count) (f .is))),
+      λ none.
+          let c = chosen-at net q sound (f .prior) (f .reached .valid) (f .choosing) (f .chosen) in
+          absurd (none (f .choosing .commodity) (c .commodity) (f .choosing .path, c .path)),
+    )
+
+    final-guarantee : Sizes net t → run net q ≡ nth net q (t .count) → Guarantee net q (outcomeOf net t)
     unfolding outcomeOf
-    final-guarantee =
+    final-guarantee sizes steps =
         record {
+          joins = chosen-joins sizes;
           flow = valid .table .flows;
           total = valid .table .carries;
           capacities = λ e l.
@@ -122,30 +160,35 @@ module _ (net : Network) (q : ℕ) (sound : Sound net q) where
                 ap (λ y. y * capacity net b) (valid .table .sums e l),
                 full .greatest e (omega arith),
               );
-          scale = loaded;
+          some-load = loaded;
           upper = upper;
-          fraction = alpha-pos;
+          some-alpha = alpha-pos;
           near = near-enough;
           nearer = near-by;
+          steps = steps;
           count = few;
+          fits = state-fits net q sound t sizes inside (valid .table) (valid .bests) weighed;
         }
 
   -- No commodity is joined: nothing is carried, and nothing can be.
   unjoined-guarantee : choice net (initial net .lengths) ≡ none → Guarantee net q (unjoined net)
-  unfolding unjoined
+  unfolding unjoined run nth
   unjoined-guarantee h =
       record {
+        joins = (λ e i l j. choice-none net (sound-ends net q sound) (initial net .lengths) i l j h, λ none. refl);
         flow = zero-flow net (commodities net * arcs net);
         total = zero-carries net (commodities net * arcs net);
         capacities = λ e l. omega (arith, zero-load net (commodities net * arcs net) e);
-        scale = omega arith;
+        some-load = omega arith;
         upper =
             unjoined-bounded net (sound-ends net q sound)
             (λ i l j. choice-none net (sound-ends net q sound) (initial net .lengths) i l j h);
-        fraction = omega arith;
+        some-alpha = omega arith;
         near = omega arith;
         nearer = omega arith;
+        steps = still net q (arcs net * threshold (arcs net) q) h;
         count = omega arith;
+        fits = unjoined-fits net;
       }
 
   pub guarantee : Guarantee net q (outcome net q)
@@ -156,4 +199,6 @@ module _ (net : Network) (q : ℕ) (sound : Sound net q) where
           (o : Option Choice) → choice net (initial net .lengths) ≡ o →
           Guarantee net q (elim o [ none ↦ unjoined net | some c ↦ outcomeOf net (run net q) ])
       by-choice none h = unjoined-guarantee h
-      by-choice (some c) h = final-guarantee (run net q) (run-final net q sound (always net (initial net .lengths) c h))
+      by-choice (some c) h =
+          let some-path = always net (initial net .lengths) c h in
+          final-guarantee (run net q) (run-final net q sound some-path) (final-sizes net q sound some-path) (run-ends net q sound some-path .steps)

@@ -23,7 +23,8 @@ use Rattle.method.specs.Choice.{Choice}
 use Rattle.method.specs.Iteration.{State, weight, draw, update, grown, settled, advance}
 use Rattle.method.proofs.Changed.{update-other, update-once}
 use Rattle.method.proofs.Draws.{At, draw-within}
-use Rattle.method.proofs.Times.{Below, also, times, along, sum-times, update-adds}
+use Rattle.arith.specs.Times.{times}
+use Rattle.method.proofs.Times.{Below, also, along, sum-times, update-adds}
 
 -- The state as the packing program sees it.
 unfoldable pub seen : State → packing.State

@@ -11,6 +11,7 @@ pub mod Drawn
 pub mod Draws
 pub mod Ends
 pub mod Examples
+pub mod Fitting
 pub mod Fullest
 pub mod Guaranteed
 pub mod Instance

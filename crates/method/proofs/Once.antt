@@ -8,7 +8,7 @@ use borrow.Author.Tests.{eqb-true}
 use lib.Dec.{eqb}
 use Rattle.arith.specs.Distinct.{Distinct, empty, more}
 use Rattle.arith.specs.Member.{Member, first, later}
-use Rattle.method.proofs.Times.{times}
+use Rattle.arith.specs.Times.{times}
 
 absent : (e : ℕ) (p : List ℕ) → (Member e p → ⊥) → times e p ≡ 0
 unfolding times

@@ -1,5 +1,6 @@
 -- An accepted network at its precision is a packing program. Assumes nothing.
 use Prim.Native.Nat.{ℕ}
+use Rattle.bounds.specs.Bounds.{mostArcs, leastPrecision, mostPrecision}
 use Rattle.length.specs.Level.{level}
 use Rattle.length.proofs.Bounds.{level-positive}
 use Rattle.length.proofs.Rule.{level-rule}
@@ -10,8 +11,8 @@ use Rattle.packing.proofs.Program.{Program}
 
 pub program : (net : Network) (q : ℕ) → Sound net q → Program (arcs net) q (level (arcs net) q) (capacity net)
 program net q s =
-    let m : Within 1 256 (arcs net) = s .counts .of-arcs in
-    let p : Within 4 16 q = s .counts .precision in
+    let m : Within 1 mostArcs (arcs net) = s .counts .of-arcs in
+    let p : Within leastPrecision mostPrecision q = s .counts .precision in
     record {
       resources-low = m .least;
       resources-high = m .most;

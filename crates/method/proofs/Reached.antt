@@ -4,7 +4,7 @@ use mathlib.Core.Path.{_≡_, refl, ap, _∙_}
 use mathlib.Core.Bool.{Bool, true, false, cond}
 use mathlib.Core.Option.{some}
 use mathlib.Core.List.{List, [], _∷_, map}
-use Prim.Native.Nat.{ℕ, _*_, _≤_, _<_}
+use Prim.Native.Nat.{ℕ, suc, _*_, _≤_, _<_}
 use native.Mathlib.Nat.{mul-pos}
 use native.Mathlib.Omega.{arith}
 use borrow.Author.Tests.{leb-false, ltb-false}
@@ -50,6 +50,7 @@ pub record Valid (net : Network) (q : ℕ) (s : State) : Type 0 where
   pub lengths : length (s .lengths) ≡ arcs net
   pub bests : length (s .bestLengths) ≡ arcs net
   pub best : Best net (s .bound) (s .alpha) (s .bestLengths)
+  pub which : s .best ≤ s .count
 
 -- ... and every load is still below the threshold.
 pub record Reached (net : Network) (q : ℕ) (s : State) : Type 0 where
@@ -128,6 +129,14 @@ module _ (net : Network) (q : ℕ) (sound : Sound net q) where
       by-test true = v .lengths
       by-test false = v .bests
 
+  which-step : (s : State) → Valid net q s → (c : Choice) → advance net q c s .best ≤ advance net q c s .count
+  unfolding advance
+  which-step s v c = by-test (ltb (weight net (s .lengths) * s .alpha) (s .bound * pathLength (s .lengths) (c .path)))
+    where
+      by-test : (t : Bool) → cond t (suc (s .count)) (s .best) ≤ suc (s .count)
+      by-test true = omega arith
+      by-test false = omega (arith, v .which)
+
   lengths-length : (s : State) → Valid net q s → (c : Choice) → length (advance net q c s .lengths) ≡ arcs net
   unfolding advance grown
   lengths-length s v c = settled-length _ ∙ (update-length _ (c .path) (s .lengths) ∙ v .lengths)
@@ -142,6 +151,7 @@ module _ (net : Network) (q : ℕ) (sound : Sound net q) where
         lengths = lengths-length s v c;
         bests = bests-length s v c;
         best = best-step s v c x;
+        which = which-step s v c;
       }
 
   -- The run has not ended, so every load is below the threshold.
@@ -168,6 +178,7 @@ module _ (net : Network) (q : ℕ) (sound : Sound net q) where
         lengths = length-map-upTo (λ e. start (capacity net e)) (arcs net);
         bests = length-replicate (arcs net) 0;
         best = unset refl refl;
+        which = omega arith;
       }
 
   -- Nothing is loaded at the start.

@@ -17,7 +17,7 @@ use Rattle.method.specs.Choice.{Choice, choice}
 use Rattle.method.specs.Iteration.{State, weight, draw, grown, advance}
 use Rattle.method.specs.Sizes.{Sizes}
 use Rattle.method.proofs.Instance.{seen, iterated, column, after-at}
-use Rattle.method.proofs.Times.{times}
+use Rattle.arith.specs.Times.{times}
 use Rattle.method.proofs.Programs.{program}
 use Rattle.method.proofs.Reached.{Valid, Reached, valid-step, fair}
 
@@ -58,6 +58,7 @@ module _ (net : Network) (q : ℕ) (sound : Sound net q) where
         load-high = λ e l. omega (arith, loads e l, mul-le-mul mark (p .capacity-high e l), p .capacity-high e l);
         total-high = omega (arith, total-le p (v .run));
         count-high = few;
+        best-high = v .which;
         bound-high = bound-below p (v .run);
         alpha-high = alpha-below p (v .run);
       }

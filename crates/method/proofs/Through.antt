@@ -11,7 +11,8 @@ use lib.Dec.{eqb}
 use Rattle.arith.specs.Sum.{sum}
 use Rattle.arith.proofs.Order.{Compared, below, equal, above, compare}
 use Rattle.arith.proofs.Sums.{sum-cong, sum-add}
-use Rattle.method.proofs.Times.{Below, also, once, times, along, sum-times}
+use Rattle.arith.specs.Times.{times}
+use Rattle.method.proofs.Times.{Below, also, once, along, sum-times}
 
 along-scale : (f : ℕ → ℕ) (g : ℕ) (p : List ℕ) → along (λ e. f e * g) p ≡ along f p * g
 unfolding along

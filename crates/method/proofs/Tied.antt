@@ -10,7 +10,7 @@ use Rattle.network.specs.Ends.{Positive}
 use Rattle.network.specs.Network.{Network}
 use Rattle.network.specs.Path.{leads, follow, pathLength}
 use Rattle.network.specs.Sound.{Sound}
-use Rattle.network.specs.Verdict.{firstRow, outside, loose, short, sizeRows, arcRows, commodityRows, itemRows, rows, verdict}
+use Rattle.network.specs.Verdict.{verdict, outside, loose, sizeConditions, arcConditions, commodityConditions, itemConditions, verdictOn}
 use Rattle.network.specs.declared.Verdict.the-variants.{Accepted}
 use Rattle.network.proofs.Accepted.{accepted-sound}
 use Rattle.network.proofs.Sounds.{sound-ends}
@@ -40,12 +40,12 @@ unfolding floor lengths upFrom upTo flat keep leads follow bind pathLength words
 tied = refl
 
 -- The network is accepted at precision 4.
-accepted : verdict floor 4 (record { flow = 6; length = 3; answer = 7; count = 1 }) 0 ≡ Accepted
-unfolding floor upFrom upTo flat firstRow outside loose short sizeRows arcRows commodityRows itemRows rows verdict
+accepted : verdictOn floor 4 [] ≡ Accepted
+unfolding floor upFrom upTo flat verdict outside loose sizeConditions arcConditions commodityConditions itemConditions verdictOn
 accepted = refl
 
 pub sound : Sound floor 4
-sound = accepted-sound floor 4 (record { flow = 6; length = 3; answer = 7; count = 1 }) 0 accepted .0
+sound = accepted-sound floor 4 [] accepted .0
 
 positive : Positive floor lengths
 unfolding floor lengths

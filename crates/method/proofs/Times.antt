@@ -10,13 +10,9 @@ use lib.Dec.{eqb}
 use lib.ListN.{length, getD, set, length-set}
 use lib.Seq.{getD-set-same, getD-set-other}
 use Rattle.arith.specs.Sum.{sum}
+use Rattle.arith.specs.Times.{times}
 use Rattle.arith.proofs.Sums.{sum-change, sum-zero, sum-cong, sum-add}
 use Rattle.method.specs.Iteration.{update}
-
--- How often e stands in a list.
-unfoldable pub times : ℕ → List ℕ → ℕ
-times e [] = 0
-times e (x ∷ p) = cond (eqb x e) 1 0 + times e p
 
 -- All members are below n.
 pub data Below (n : ℕ) : List ℕ → Type 0 where

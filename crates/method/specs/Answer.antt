@@ -66,5 +66,5 @@ unfoldable pub outcome : Network → ℕ → Outcome
 outcome net q = elim (choice net (initial net .lengths)) [ none ↦ unjoined net | some c ↦ outcomeOf net (run net q) ]
 
 -- A lent table after its first places took the numbers xs; later places keep their contents.
-unfoldable pub after : List ℕ → List ℕ → List ℕ
-after xs table = xs ++ drop (length xs) table
+unfoldable pub overlaid : List ℕ → List ℕ → List ℕ
+overlaid xs table = xs ++ drop (length xs) table

@@ -1,16 +1,10 @@
 -- How the run ends: by its own rule, and within the count that demand 3 states.
 use mathlib.Core.Path.{_≡_}
 use mathlib.Core.Bool.{true, false}
-use Prim.Native.Nat.{ℕ, zero, suc, _+_, _*_, _-_, _≤_, _<_}
+use Prim.Native.Nat.{ℕ, _+_, _*_, _-_, _≤_, _<_}
 use Rattle.length.specs.Level.{threshold}
 use Rattle.network.specs.Network.{Network, arcs}
-use Rattle.method.specs.Iteration.{State, initial, iteration}
-use Rattle.method.specs.Run.{ended, run}
-
--- The state after j iterations, whatever ends the run.
-unfoldable pub nth : Network → ℕ → ℕ → State
-nth net q zero = initial net
-nth net q (suc j) = iteration net q (nth net q j)
+use Rattle.method.specs.Run.{ended, nth, run}
 
 -- The run is its own count of iterations; at the last some load is at the threshold, and at none before; and they are at most
 -- m * (T - 1) + 1, so the number m * T with which the run is defined never ends it.

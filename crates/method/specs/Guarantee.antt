@@ -1,25 +1,35 @@
 -- What holds of the outcome of every accepted network: the flow of demand 2, and demand 3.
 -- Symbols: F, c(b), Y(b), D, alpha and the count are document 01's, "One choice of route"; B is D over alpha and V is F * c(b) over Y(b).
 -- The definition of a flow is source document 000's, section 3.1.
+use mathlib.Core.Logic.{_↔_}
+use mathlib.Core.Path.{_≡_}
 use Prim.Native.Nat.{ℕ, _+_, _*_, _-_, _≤_, _<_}
 use Rattle.length.specs.Level.{threshold}
-use Rattle.network.specs.Network.{Network, arcs, capacity}
+use Rattle.network.specs.Network.{Network, arcs, commodities, capacity}
 use Rattle.network.specs.Flow.{Flow, Keeps, Carries, AtMost, loadOf}
-use Rattle.method.specs.Answer.{Outcome, amounts}
+use Rattle.network.specs.Path.{Joined}
+use Rattle.method.specs.Answer.{Outcome, amounts, unjoined}
+use Rattle.method.specs.Fits.{Fits}
+use Rattle.method.specs.Run.{nth, run}
 
 pub record Guarantee (net : Network) (q : ℕ) (o : Outcome) : Type 0 where
+  -- It is the unjoined one exactly where no commodity is joined, by however many arcs.
+  pub joins : o ≡ unjoined net ↔ ((i : ℕ) → i < commodities net → Joined net i → ⊥)
   -- The table is a flow, and carries F.
   pub flow : Flow net (amounts net (o .flow))
   pub total : Carries net (amounts net (o .flow)) (o .answer .total)
   -- After its scale c(b) / Y(b) it keeps every capacity.
   pub capacities : (e : ℕ) → e < arcs net → loadOf net (amounts net (o .flow)) e * o .answer .capacity ≤ capacity net e * o .answer .load
-  pub scale : 0 < o .answer .load
+  pub some-load : 0 < o .answer .load
   -- No flow, whole or fractional, that keeps the capacities carries more than B = D / alpha: d is the common divisor of its amounts.
   pub upper : (d : ℕ) (f : ℕ → ℕ → ℕ) → Flow net f → Keeps net d f → AtMost net f d (o .answer .bound) (o .answer .alpha)
-  pub fraction : 0 < o .answer .alpha
+  pub some-alpha : 0 < o .answer .alpha
   -- V is at least (1 - 2/q) * B, and, sharper, at least (8q - 9) / (8q + 5) times B.
   pub near : (q - 2) * (o .answer .bound * o .answer .load) ≤ q * (o .answer .total * o .answer .capacity * o .answer .alpha)
   pub nearer :
       (8 * q - 9) * (o .answer .bound * o .answer .load) ≤ (8 * q + 5) * (o .answer .total * o .answer .capacity * o .answer .alpha)
-  -- At most m * T paths were chosen.
+  -- The count is that of the run's iterations, and at most m * T paths were chosen.
+  pub steps : run net q ≡ nth net q (o .answer .count)
   pub count : o .answer .count ≤ arcs net * threshold (arcs net) q
+  -- Nothing that is handed back is cut.
+  pub fits : Fits net o

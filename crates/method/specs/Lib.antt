@@ -2,8 +2,10 @@ pub mod Answer
 pub mod Choice
 pub mod Chosen
 pub mod Ending
+pub mod Fits
 pub mod Guarantee
 pub mod Iteration
 pub mod Order
 pub mod Run
 pub mod Sizes
+pub mod Underway

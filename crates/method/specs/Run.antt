@@ -12,6 +12,11 @@ use Rattle.method.specs.Iteration.{State, initial, iteration}
 unfoldable pub ended : Network → ℕ → State → Bool
 ended net q s = exists (arcs net) (λ e. leb (threshold (arcs net) q * capacity net e) (getD (s .loads) e 0))
 
+-- The state after j iterations, whatever ends the run.
+unfoldable pub nth : Network → ℕ → ℕ → State
+nth net q zero = initial net
+nth net q (suc j) = iteration net q (nth net q j)
+
 -- Iterations from s, ending after the first at which some load is at the threshold, or after as many as the first number says.
 unfoldable pub runs : Network → ℕ → ℕ → State → State
 runs net q zero s = s

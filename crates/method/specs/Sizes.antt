@@ -4,8 +4,8 @@ use lib.ListN.{getD}
 use Rattle.network.specs.Network.{Network, arcs}
 use Rattle.method.specs.Iteration.{State, weight}
 
--- At a state: lengths from 1 to below the mark, D below 2^58, loads below 2^21, F below 2^29, at most 376,577 iterations, and the kept
--- fraction's two numbers below 2^58.
+-- At a state: lengths from 1 to below the mark, D below 2^58, loads below 2^21, F below 2^29, at most 376,577 iterations, the best of them
+-- among them, and the kept fraction's two numbers below 2^58.
 pub record Sizes (net : Network) (s : State) : Type 0 where
   pub length-low : (e : ℕ) → e < arcs net → 1 ≤ getD (s .lengths) e 0
   pub length-high : (e : ℕ) → e < arcs net → getD (s .lengths) e 0 < 2 ^ 40
@@ -13,5 +13,6 @@ pub record Sizes (net : Network) (s : State) : Type 0 where
   pub load-high : (e : ℕ) → e < arcs net → getD (s .loads) e 0 < 2 ^ 21
   pub total-high : s .total < 2 ^ 29
   pub count-high : s .count ≤ 376577
+  pub best-high : s .best ≤ s .count
   pub bound-high : s .bound < 2 ^ 58
   pub alpha-high : s .alpha < 2 ^ 58

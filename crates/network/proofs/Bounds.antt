@@ -2,12 +2,11 @@
 -- Assumes nothing.
 use mathlib.Core.Path.{_≡_}
 use mathlib.Core.Bool.{Bool, false, _||_}
-use Prim.Native.Nat.{ℕ, _*_}
+use Prim.Native.Nat.{ℕ}
 use lib.Dec.{ltb, eqb}
 use borrow.Author.Tests.{ltb-false, eqb-false, le-ltb, ne-eqb}
-use Rattle.network.specs.Sound.{Within, TwoNodes, Room}
-use Rattle.network.specs.Verdict.{outside, loose, short}
-use Rattle.network.specs.declared.Tables.{Tables}
+use Rattle.network.specs.Sound.{Within, TwoNodes}
+use Rattle.network.specs.Verdict.{outside, loose}
 use Rattle.network.proofs.Or.{or-false-left, or-false-right}
 
 -- x is not outside: both of its bounds
@@ -34,23 +33,6 @@ ends n a b h =
 pub not-loose : {n a b : ℕ} → TwoNodes n a b → loose n a b ≡ false
 unfolding loose
 not-loose w = simp (not-outside (w .first), not-outside (w .second), ne-eqb _ _ (w .differ))
-
--- no table is short: each has its room
-pub room : (k m : ℕ) (t : Tables) → short k m t ≡ false → Room k m t
-unfolding short
-room k m t h =
-    let three = or-false-left (ltb (t .flow) (k * m) || ltb (t .length) m || ltb (t .answer) 7) (ltb (t .count) 1) h in
-    let two = or-false-left (ltb (t .flow) (k * m) || ltb (t .length) m) (ltb (t .answer) 7) three in
-    record {
-      for-flow = ltb-false _ _ (or-false-left (ltb (t .flow) (k * m)) (ltb (t .length) m) two);
-      for-length = ltb-false _ _ (or-false-right (ltb (t .flow) (k * m)) (ltb (t .length) m) two);
-      for-answer = ltb-false _ _ (or-false-right (ltb (t .flow) (k * m) || ltb (t .length) m) (ltb (t .answer) 7) three);
-      for-count = ltb-false _ _ (or-false-right (ltb (t .flow) (k * m) || ltb (t .length) m || ltb (t .answer) 7) (ltb (t .count) 1) h);
-    }
-
-pub not-short : {k m : ℕ} {t : Tables} → Room k m t → short k m t ≡ false
-unfolding short
-not-short w = simp (le-ltb _ _ (w .for-flow), le-ltb _ _ (w .for-length), le-ltb _ _ (w .for-answer), le-ltb _ _ (w .for-count))
 
 -- Equal ends are equally loose.
 pub loose-of : (n : ℕ) {t : Bool} {x y a b : ℕ} → t ≡ loose n x y → x ≡ a → y ≡ b → t ≡ loose n a b

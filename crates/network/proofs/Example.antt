@@ -1,14 +1,13 @@
--- Document 01's listing example, two nodes joined by two arcs, is a sound network: so Sound is not empty. Two faulty ones beside it show the order of the rows.
--- Assumes nothing.
+-- Document 01's listing example, two nodes joined by two arcs, is a sound network: so Sound is not empty. Two faulty ones beside it show the order of the
+-- conditions. Assumes nothing.
 use mathlib.Core.Path.{_≡_, refl}
 use mathlib.Core.List.{List, [], _∷_}
 use Prim.Native.Nat.{ℕ}
 use Rattle.arith.specs.Lists.{upFrom, upTo, flat}
 use Rattle.network.specs.Network.{Network}
 use Rattle.network.specs.Sound.{Sound}
-use Rattle.network.specs.Verdict.{firstRow, outside, loose, short, sizeRows, arcRows, commodityRows, itemRows, rows, verdict}
+use Rattle.network.specs.Verdict.{verdict, outside, loose, sizeConditions, arcConditions, commodityConditions, itemConditions, verdictOn}
 use Rattle.network.specs.declared.Refusal.the-variants.{LooseArc, Capacity}
-use Rattle.network.specs.declared.Tables.{Tables}
 use Rattle.network.specs.declared.Verdict.the-variants.{Accepted, Refused}
 use Rattle.network.proofs.Accepted.{accepted-sound}
 
@@ -17,17 +16,13 @@ abbrev pub two-arcs : List ℕ → List ℕ → Network
 two-arcs tails capacities =
     record { nodes = 2; tails = tails; heads = 2 ∷ 2 ∷ []; capacities = capacities; sources = 1 ∷ []; sinks = 2 ∷ [] }
 
--- tables with just enough room
-abbrev pub tables : Tables
-tables = record { flow = 2; length = 2; answer = 7; count = 1 }
-
 -- The listing's network is accepted; an arc's ends are looked at before its capacity, and the first arc before the second.
 pub verdicts :
-    (verdict (two-arcs (1 ∷ 1 ∷ []) (1 ∷ 1 ∷ [])) 4 tables 0 ≡ Accepted) ×
-    (verdict (two-arcs (2 ∷ 1 ∷ []) (0 ∷ 1 ∷ [])) 4 tables 0 ≡ Refused (LooseArc 1)) ×
-    (verdict (two-arcs (1 ∷ 2 ∷ []) (1001 ∷ 1 ∷ [])) 4 tables 0 ≡ Refused (Capacity 1))
-unfolding verdict rows sizeRows itemRows arcRows commodityRows firstRow outside loose short flat upTo upFrom
+    (verdictOn (two-arcs (1 ∷ 1 ∷ []) (1 ∷ 1 ∷ [])) 4 [] ≡ Accepted) ×
+    (verdictOn (two-arcs (2 ∷ 1 ∷ []) (0 ∷ 1 ∷ [])) 4 [] ≡ Refused (LooseArc 1)) ×
+    (verdictOn (two-arcs (1 ∷ 2 ∷ []) (1001 ∷ 1 ∷ [])) 4 [] ≡ Refused (Capacity 1))
+unfolding verdictOn sizeConditions itemConditions arcConditions commodityConditions verdict outside loose flat upTo upFrom
 verdicts = (refl, refl, refl)
 
 pub listing-sound : Sound (two-arcs (1 ∷ 1 ∷ []) (1 ∷ 1 ∷ [])) 4
-listing-sound = accepted-sound _ 4 tables 0 (verdicts .0) .0
+listing-sound = accepted-sound _ 4 [] (verdicts .0) .0

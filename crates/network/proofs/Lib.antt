@@ -6,7 +6,7 @@ pub mod Duality
 pub mod Each
 pub mod Example
 pub mod Faults
-pub mod FirstRow
+pub mod First
 pub mod HostNumber
 pub mod Leads
 pub mod Loops

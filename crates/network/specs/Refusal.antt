@@ -1,39 +1,32 @@
--- The numbers of the refusals. Document 01, "Turned down". Nothing else knows them.
+-- The numbers of the refusals, and their places. Document 01, "Turned down". No other definition has them.
 use Prim.Native.Nat.{ℕ, _+_, _*_}
+use Rattle.bounds.specs.Bounds.{placeNumbers}
+use Rattle.network.specs.declared.Code.{Code}
 use Rattle.network.specs.declared.Refusal.{Refusal}
 use Rattle.network.specs.declared.Refusal.the-variants.{Nodes, Arcs, Commodities, Precision, ShortTable, LooseArc, Capacity, LooseCommodity, Layout, LongFile, FullCount}
 use Rattle.network.specs.declared.Verdict.{Verdict}
 use Rattle.network.specs.declared.Verdict.the-variants.{Accepted, Refused}
 
--- Document 01's number: 1 stations, 2 belts, 3 pairs, 4 precision, 5 short table, 6 loose belt, 7 capacity, 8 loose pair, 9 layout, 10 long file, 11 full count
-abbrev pub number : Refusal → ℕ
-number Nodes = 1
-number Arcs = 2
-number Commodities = 3
-number Precision = 4
-number ShortTable = 5
-number (LooseArc p) = 6
-number (Capacity p) = 7
-number (LooseCommodity p) = 8
-number (Layout p) = 9
-number LongFile = 10
-number FullCount = 11
+-- the number x at the place p
+abbrev pub at : ℕ → ℕ → Code
+at x p = record { number = x; place = p }
 
--- Its place: the belt for 6 and 7, the pair for 8, the line for 9, otherwise 0
-abbrev pub place : Refusal → ℕ
-place Nodes = 0
-place Arcs = 0
-place Commodities = 0
-place Precision = 0
-place ShortTable = 0
-place (LooseArc p) = p
-place (Capacity p) = p
-place (LooseCommodity p) = p
-place (Layout p) = p
-place LongFile = 0
-place FullCount = 0
+-- Document 01's number and place: 1 stations, 2 belts, 3 pairs, 4 precision, 5 short table, 6 loose belt and 7 capacity at the belt, 8 loose pair at
+-- the pair, 9 layout at the line, 10 long file, 11 full count
+abbrev pub code : Refusal → Code
+code Nodes = at 1 0
+code Arcs = at 2 0
+code Commodities = at 3 0
+code Precision = at 4 0
+code ShortTable = at 5 0
+code (LooseArc p) = at 6 p
+code (Capacity p) = at 7 p
+code (LooseCommodity p) = at 8 p
+code (Layout p) = at 9 p
+code LongFile = at 10 0
+code FullCount = at 11 0
 
 -- What a host call returns: 0, or the number times 1,000 plus the place. Document 01, "The floor and its flow".
 abbrev pub hostNumber : Verdict → ℕ
 hostNumber Accepted = 0
-hostNumber (Refused r) = number r * 1000 + place r
+hostNumber (Refused r) = code r .number * placeNumbers + code r .place

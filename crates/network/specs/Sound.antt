@@ -1,8 +1,8 @@
 -- Document 01's "accepted network": what an accepted call keeps, in numbers. Sound is said of a network and a precision; the name Accepted is the verdict's.
 use mathlib.Core.Path.{_≡_}
-use Prim.Native.Nat.{ℕ, _*_, _≤_, _<_}
+use Prim.Native.Nat.{ℕ, _≤_, _<_}
+use Rattle.bounds.specs.Bounds.{leastNodes, mostNodes, mostArcs, mostCommodities, mostCapacity, leastPrecision, mostPrecision}
 use Rattle.network.specs.Network.{Network, arcs, commodities, tail, head, capacity, source, sink}
-use Rattle.network.specs.declared.Tables.{Tables}
 
 -- x is one of lo, .., hi
 pub record Within (lo hi x : ℕ) : Type 0 where
@@ -17,21 +17,14 @@ pub record TwoNodes (n a b : ℕ) : Type 0 where
 
 -- n nodes, m arcs, k commodities and the precision q are within document 01's bounds, "The floor and its flow".
 pub record Counts (n m k q : ℕ) : Type 0 where
-  pub of-nodes : Within 2 64 n
-  pub of-arcs : Within 1 256 m
-  pub of-commodities : Within 1 32 k
-  pub precision : Within 4 16 q
-
--- The lent tables have room for what a call with k commodities on m arcs may write. Document 01, "Turned down", row 5.
-pub record Room (k m : ℕ) (t : Tables) : Type 0 where
-  pub for-flow : k * m ≤ t .flow
-  pub for-length : m ≤ t .length
-  pub for-answer : 7 ≤ t .answer
-  pub for-count : 1 ≤ t .count
+  pub of-nodes : Within leastNodes mostNodes n
+  pub of-arcs : Within 1 mostArcs m
+  pub of-commodities : Within 1 mostCommodities k
+  pub precision : Within leastPrecision mostPrecision q
 
 -- A sound network: its counts, each arc's ends and capacity, and each commodity's ends are within bounds.
 pub record Sound (net : Network) (q : ℕ) : Type 0 where
   pub counts : Counts (net .nodes) (arcs net) (commodities net) q
   pub arc-ends : (e : ℕ) → e < arcs net → TwoNodes (net .nodes) (tail net e) (head net e)
-  pub arc-capacity : (e : ℕ) → e < arcs net → Within 1 1000 (capacity net e)
+  pub arc-capacity : (e : ℕ) → e < arcs net → Within 1 mostCapacity (capacity net e)
   pub commodity-ends : (i : ℕ) → i < commodities net → TwoNodes (net .nodes) (source net i) (sink net i)

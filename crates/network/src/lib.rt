@@ -22,10 +22,8 @@ pub enum Verdict {
     Refused(Refusal),
 }
 
-// How many complete numbers the lent tables have.
-pub struct Tables {
-    pub flow: usize,
-    pub length: usize,
-    pub answer: usize,
-    pub count: usize,
+// Document 01's number of a refusal, and its place.
+pub struct Code {
+    pub number: u64,
+    pub place: u64,
 }

@@ -1,45 +1,49 @@
 // The numbers of a verdict, for a host and for the listing.
+use crate::Code;
 use crate::Refusal;
 use crate::Verdict;
+use bounds::PLACE_NUMBERS;
 ghost use mathlib.Core.Path.{_≡_};
 ghost use Prim.Native.Nat.{_<_, _^_};
-ghost use Rattle.network.specs.Refusal.{number, place, hostNumber};
+ghost use Rattle.network.specs.Refusal.{code, hostNumber};
 
-// Document 01's number of a refusal.
-pub fn number(r: Refusal) -> u64
-    ensures { λ x. ⌜ x ≡ number r ⌝ }
+// Document 01's number of a refusal, and the arc, commodity or line that it names, otherwise 0.
+pub fn code(r: Refusal) -> Code
+    ensures { λ x. ⌜ x ≡ code r ⌝ }
 {
     match r {
-        Refusal::Nodes => 1,
-        Refusal::Arcs => 2,
-        Refusal::Commodities => 3,
-        Refusal::Precision => 4,
-        Refusal::ShortTable => 5,
-        Refusal::LooseArc(_) => 6,
-        Refusal::Capacity(_) => 7,
-        Refusal::LooseCommodity(_) => 8,
-        Refusal::Layout(_) => 9,
-        Refusal::LongFile => 10,
-        Refusal::FullCount => 11,
-    }
-}
-
-// The arc, commodity or line that it names, otherwise 0.
-pub fn place(r: Refusal) -> u64
-    ensures { λ x. ⌜ x ≡ place r ⌝ }
-{
-    match r {
-        Refusal::Nodes => 0,
-        Refusal::Arcs => 0,
-        Refusal::Commodities => 0,
-        Refusal::Precision => 0,
-        Refusal::ShortTable => 0,
-        Refusal::LooseArc(p) => p,
-        Refusal::Capacity(p) => p,
-        Refusal::LooseCommodity(p) => p,
-        Refusal::Layout(p) => p,
-        Refusal::LongFile => 0,
-        Refusal::FullCount => 0,
+        Refusal::Nodes => Code {
+            number: 1,
+            place: 0,
+        },
+        Refusal::Arcs => Code {
+            number: 2,
+            place: 0,
+        },
+        Refusal::Commodities => Code {
+            number: 3,
+            place: 0,
+        },
+        Refusal::Precision => Code {
+            number: 4,
+            place: 0,
+        },
+        Refusal::ShortTable => Code {
+            number: 5,
+            place: 0,
+        },
+        Refusal::LooseArc(place) => Code { number: 6, place },
+        Refusal::Capacity(place) => Code { number: 7, place },
+        Refusal::LooseCommodity(place) => Code { number: 8, place },
+        Refusal::Layout(place) => Code { number: 9, place },
+        Refusal::LongFile => Code {
+            number: 10,
+            place: 0,
+        },
+        Refusal::FullCount => Code {
+            number: 11,
+            place: 0,
+        },
     }
 }
 
@@ -51,6 +55,9 @@ pub fn host_number(v: Verdict) -> u64
 {
     match v {
         Verdict::Accepted => 0,
-        Verdict::Refused(why) => number(why) * 1000 + place(why),
+        Verdict::Refused(why) => {
+            let c = code(why);
+            c.number * PLACE_NUMBERS + c.place
+        }
     }
 }

@@ -3,7 +3,7 @@
 use mathlib.Core.Path.{_≡_, refl}
 use Prim.Native.Nat.{ℕ}
 use mathlib.Core.List.{List, [], _∷_}
-use Rattle.numbers.specs.Digits.{value, digits}
+use Rattle.numbers.specs.Digits.{fromBytes, toBytes}
 use Rattle.numbers.specs.Numbers.{count, items, numberAt, column, encode, written}
 use Rattle.numbers.specs.Parts.{putAt}
 
@@ -16,9 +16,9 @@ counted = (refl, refl, refl)
 
 -- 1 + 2 * 256, and 7 + 2 ^ 24
 read-out : column table 1 0 2 ≡ 513 ∷ 16777223 ∷ []
-unfolding table value numberAt column
+unfolding table fromBytes numberAt column
 read-out = refl
 
 written-in : written table (513 ∷ 258 ∷ []) ≡ putAt table 1 258
-unfolding table digits putAt encode written
+unfolding table toBytes putAt encode written
 written-in = refl

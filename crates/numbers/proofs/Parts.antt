@@ -7,12 +7,12 @@ use native.Mathlib.Numerals.{add-one}
 use native.Mathlib.Omega.{arith}
 use lib.ListN.{length, take, drop, getD, length-drop}
 use lib.Seq.{take-add, drop-drop, drop-cons, length-take-le}
-use Rattle.numbers.specs.Digits.{value}
+use Rattle.numbers.specs.Digits.{fromBytes}
 use Rattle.numbers.proofs.Values.{value-append}
 
 -- Two bytes.
-pub value-pair : (s : List ℕ) (at : ℕ) → at + 2 ≤ length s → value (take 2 (drop at s)) ≡ getD s at 0 + 256 * getD s (at + 1) 0
-unfolding value
+pub value-pair : (s : List ℕ) (at : ℕ) → at + 2 ≤ length s → fromBytes (take 2 (drop at s)) ≡ getD s at 0 + 256 * getD s (at + 1) 0
+unfolding fromBytes
 value-pair s at h =
     let first : at < length s = omega arith in
     let second : suc at < length s = omega arith in
@@ -20,7 +20,7 @@ value-pair s at h =
 
 -- m bytes, and n more after them.
 pub value-join : (s : List ℕ) (at m n : ℕ) → at + m ≤ length s
-    → value (take (m + n) (drop at s)) ≡ value (take m (drop at s)) + 256 ^ m * value (take n (drop (at + m) s))
+    → fromBytes (take (m + n) (drop at s)) ≡ fromBytes (take m (drop at s)) + 256 ^ m * fromBytes (take n (drop (at + m) s))
 value-join s at m n h =
     let whole : length (take m (drop at s)) ≡ m = length-take-le m (drop at s) (simp length-drop (omega arith)) in
     rw (take-add, drop-drop, value-append, whole)

@@ -7,7 +7,7 @@ use native.Mathlib.Decide.{decLt}
 use native.Mathlib.Omega.{arith}
 use lib.ListN.{length, take, drop, length-append}
 use lib.Seq.{length-take-le, drop-at, take-all}
-use Rattle.numbers.specs.Digits.{digits}
+use Rattle.numbers.specs.Digits.{toBytes}
 use Rattle.numbers.specs.Numbers.{count, numberAt}
 use Rattle.numbers.specs.Parts.{putAt}
 use Rattle.numbers.proofs.Digits.{length-digits}
@@ -19,15 +19,15 @@ use Rattle.numbers.proofs.Values.{value-digits-8}
 module _ (s : List ℕ) (i x : ℕ) (h : i < count s) where
   -- The bytes up to the end of the number written.
   front : List ℕ
-  front = take (8 * i) s ++ digits 8 x
+  front = take (8 * i) s ++ toBytes 8 x
 
   length-front : length front ≡ 8 * i + 8
   unfolding front
   length-front = rw (length-append, length-take-le (8 * i) s (omega arith), length-digits)
 
   putAt-is-over : putAt s i x ≡ over front s
-  unfolding front putAt digits
-  putAt-is-over = splice-is-over s (8 * i) (digits 8 x) (omega arith)
+  unfolding front putAt toBytes
+  putAt-is-over = splice-is-over s (8 * i) (toBytes 8 x) (omega arith)
 
   pub length-putAt : length (putAt s i x) ≡ length s
   length-putAt = rw (putAt-is-over, length-over front s (omega (arith, length-front)))
@@ -47,8 +47,8 @@ module _ (s : List ℕ) (i x : ℕ) (h : i < count s) where
       rw (
         putAt-is-over,
         numberAt-front front (drop (length front) s) i (omega (arith, length-front)),
-        drop-at (take (8 * i) s) (digits 8 x) (8 * i) (length-take-le (8 * i) s (omega arith)),
-        take-all 8 (digits 8 x) (omega (arith, length-digits 8 x)),
+        drop-at (take (8 * i) s) (toBytes 8 x) (8 * i) (length-take-le (8 * i) s (omega arith)),
+        take-all 8 (toBytes 8 x) (omega (arith, length-digits 8 x)),
       )
       (value-digits-8 x b)
 
@@ -58,7 +58,7 @@ module _ (s : List ℕ) (i x : ℕ) (h : i < count s) where
   numberAt-putAt-earlier j b =
       let within : 8 * i ≤ length s = omega arith in
       let room : 8 * j + 8 ≤ length (take (8 * i) s) = omega (arith, length-take-le (8 * i) s within) in
-      numberAt-front (take (8 * i) s) (digits 8 x ++ drop (8 * i + 8) s) j room
+      numberAt-front (take (8 * i) s) (toBytes 8 x ++ drop (8 * i + 8) s) j room
       ∙ sym (numberAt-front (take (8 * i) s) (drop (length (take (8 * i) s)) s) j room)
       ∙ ap (λ (l : List ℕ). numberAt l j) (over-take s (8 * i) within)
 

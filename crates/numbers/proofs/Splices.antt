@@ -7,7 +7,7 @@ use native.Mathlib.Numerals.{add-one}
 use native.Mathlib.Omega.{arith}
 use lib.ListN.{length, take, drop, set, length-append}
 use lib.Seq.{take-append-seam, length-take-le, sets-eq}
-use Rattle.numbers.specs.Digits.{digits}
+use Rattle.numbers.specs.Digits.{toBytes}
 use Rattle.numbers.specs.Parts.{splice}
 use Rattle.numbers.proofs.Digits.{length-digits, digits-append}
 use Rattle.numbers.proofs.Over.{over, drop-over}
@@ -23,11 +23,11 @@ splice-after u s es =
 
 -- Digits spliced in two parts are spliced whole.
 pub splice-digits : (s : List ℕ) (p m n x : ℕ) → p ≤ length s
-    → splice (splice s p (digits m x)) (p + m) (digits n (x / 256 ^ m)) ≡ splice s p (digits (m + n) x)
+    → splice (splice s p (toBytes m x)) (p + m) (toBytes n (x / 256 ^ m)) ≡ splice s p (toBytes (m + n) x)
 splice-digits s p m n x h =
-    let front : length (take p s ++ digits m x) ≡ p + m = simp (length-append, length-take-le p s, length-digits) in
-    rw (splice-is-over s p (digits m x) h, ← front, splice-after)
-    (rw (append-assoc (take p s) (digits m x), ← digits-append, ← splice-is-over s p (digits (m + n) x) h))
+    let front : length (take p s ++ toBytes m x) ≡ p + m = simp (length-append, length-take-le p s, length-digits) in
+    rw (splice-is-over s p (toBytes m x) h, ← front, splice-after)
+    (rw (append-assoc (take p s) (toBytes m x), ← digits-append, ← splice-is-over s p (toBytes (m + n) x) h))
 
 -- Two stores in a row.
 pub splice-pair : (s : List ℕ) (p a b : ℕ) → p + 2 ≤ length s → set (set s p a) (p + 1) b ≡ splice s p (a ∷ b ∷ [])

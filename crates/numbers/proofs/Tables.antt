@@ -7,7 +7,7 @@ use native.Mathlib.Numerals.{add-one}
 use native.Mathlib.Omega.{arith}
 use lib.ListN.{length, take, drop, getD, length-append}
 use lib.Seq.{take-suc, length-take-le}
-use Rattle.numbers.specs.Digits.{digits}
+use Rattle.numbers.specs.Digits.{toBytes}
 use Rattle.numbers.specs.Numbers.{count, numberAt, encode, written}
 use Rattle.numbers.specs.Parts.{splice, putAt}
 use Rattle.numbers.proofs.Digits.{length-digits}
@@ -42,11 +42,11 @@ pub numberAt-written-later : (s xs : List ℕ) (j : ℕ) → length xs ≤ j →
 numberAt-written-later s xs j h = rw (written-is-over, numberAt-past (encode xs) s j (omega (arith, length-encode xs)))
 
 numberAt-encode : (xs t : List ℕ) (i : ℕ) → i < length xs → getD xs i 0 < 2 ^ 64 → numberAt (encode xs ++ t) i ≡ getD xs i 0
-unfolding numberAt encode digits
+unfolding numberAt encode toBytes
 numberAt-encode [] t i h b = absurd (omega arith)
 numberAt-encode (x ∷ xs) t zero h b = value-digits-8 x b
 numberAt-encode (x ∷ xs) t (suc i) h b =
-    numberAt-next (digits 8 x) (encode xs ++ t) i (length-digits 8 x) ∙ numberAt-encode xs t i (omega arith) b
+    numberAt-next (toBytes 8 x) (encode xs ++ t) i (length-digits 8 x) ∙ numberAt-encode xs t i (omega arith) b
 
 -- The numbers written are read.
 pub numberAt-written : (s xs : List ℕ) (i : ℕ) → i < length xs → getD xs i 0 < 2 ^ 64 → numberAt (written s xs) i ≡ getD xs i 0
@@ -55,9 +55,9 @@ numberAt-written s xs i h b = numberAt-encode xs (drop (8 * length xs) s) i h b
 
 -- One number more, written behind the others.
 pub putAt-written : (s xs : List ℕ) (x : ℕ) → putAt (written s xs) (length xs) x ≡ written s (xs ++ (x ∷ []))
-unfolding putAt digits encode
+unfolding putAt toBytes encode
 putAt-written s xs x =
-    let put : splice (written s xs) (8 * length xs) (digits 8 x) ≡ over (encode xs ++ digits 8 x) s = rw (written-is-over, ← length-encode) (splice-after (encode xs) s (digits 8 x)) in
+    let put : splice (written s xs) (8 * length xs) (toBytes 8 x) ≡ over (encode xs ++ toBytes 8 x) s = rw (written-is-over, ← length-encode) (splice-after (encode xs) s (toBytes 8 x)) in
     put ∙ ap (λ (u : List ℕ). over u s) (sym (encode-append xs (x ∷ []))) ∙ sym (written-is-over s (xs ++ (x ∷ [])))
 
 -- The next number of a list, written behind the ones before it.

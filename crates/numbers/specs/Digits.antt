@@ -4,11 +4,11 @@ use Prim.Native.Nat.{ℕ, zero, suc, _+_, _*_, _/_, _%_}
 use mathlib.Core.List.{List, [], _∷_}
 
 -- The number whose base-256 digits, lowest first, are the list.
-unfoldable pub value : List ℕ → ℕ
-value [] = 0
-value (b ∷ bs) = b + 256 * value bs
+unfoldable pub fromBytes : List ℕ → ℕ
+fromBytes [] = 0
+fromBytes (b ∷ bs) = b + 256 * fromBytes bs
 
 -- The n lowest base-256 digits of x, lowest first.
-unfoldable pub digits : ℕ → ℕ → List ℕ
-digits zero x = []
-digits (suc n) x = (x % 256) ∷ digits n (x / 256)
+unfoldable pub toBytes : ℕ → ℕ → List ℕ
+toBytes zero x = []
+toBytes (suc n) x = (x % 256) ∷ toBytes n (x / 256)

@@ -3,7 +3,7 @@
 use Prim.Native.Nat.{ℕ, zero, suc, _+_, _*_, _/_}
 use mathlib.Core.List.{List, [], _∷_, _++_}
 use lib.ListN.{length, take, drop}
-use Rattle.numbers.specs.Digits.{value, digits}
+use Rattle.numbers.specs.Digits.{fromBytes, toBytes}
 
 -- How many complete numbers the bytes hold.
 abbrev pub count : List ℕ → ℕ
@@ -15,7 +15,7 @@ items k s = length s / (8 * k)
 
 -- Number i, counted from 0, in the eight bytes from 8 * i on.
 unfoldable pub numberAt : List ℕ → ℕ → ℕ
-numberAt s i = value (take 8 (drop (8 * i) s))
+numberAt s i = fromBytes (take 8 (drop (8 * i) s))
 
 -- Member j, counted from 0, of each of the first n items of k numbers, in order: member 0 of the belts is their tails, 1 their heads,
 -- 2 their capacities ("A belt is an item of three numbers (tail, head, capacity), a pair one of two").
@@ -26,7 +26,7 @@ column s k j (suc n) = column s k j n ++ (numberAt s (k * n + j) ∷ [])
 -- The bytes of a list of numbers, eight each.
 unfoldable pub encode : List ℕ → List ℕ
 encode [] = []
-encode (x ∷ xs) = digits 8 x ++ encode xs
+encode (x ∷ xs) = toBytes 8 x ++ encode xs
 
 -- The bytes of a lent table once its first numbers are xs: "later places keep their contents"
 -- (document 01, "One choice of route"), also those of an incomplete last number.

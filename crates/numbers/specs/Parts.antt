@@ -2,7 +2,7 @@
 use Prim.Native.Nat.{ℕ, _+_, _*_, _<_}
 use mathlib.Core.List.{List, _++_}
 use lib.ListN.{length, getD, take, drop}
-use Rattle.numbers.specs.Digits.{digits}
+use Rattle.numbers.specs.Digits.{toBytes}
 
 -- Every element is a byte. Past the end the default is 0, so this is what a slice of bytes tells of each index.
 abbrev pub Bytes : List ℕ → Type 0
@@ -14,4 +14,4 @@ splice s p ds = take p s ++ (ds ++ drop (p + length ds) s)
 
 -- The bytes with x as number i, all others kept.
 unfoldable pub putAt : List ℕ → ℕ → ℕ → List ℕ
-putAt s i x = take (8 * i) s ++ (digits 8 x ++ drop (8 * i + 8) s)
+putAt s i x = take (8 * i) s ++ (toBytes 8 x ++ drop (8 * i + 8) s)

@@ -5,7 +5,7 @@ ghost use mathlib.Core.Path.{_≡_};
 ghost use mathlib.Core.List.{_++_};
 ghost use Prim.Native.Nat.{_+_, _*_, _%_, _<_, _≤_};
 ghost use lib.ListN.{length, take, drop};
-ghost use Rattle.numbers.specs.Digits.{value, digits};
+ghost use Rattle.numbers.specs.Digits.{fromBytes, toBytes};
 ghost use Rattle.numbers.specs.Numbers.{count, items, numberAt, column, written};
 ghost use Rattle.numbers.specs.Parts.{splice, putAt};
 
@@ -34,7 +34,7 @@ fn wide(x: u8) -> u64
 // The number in two bytes from `at`.
 fn two(s: &[u8], at: usize) -> u64
     requires { ⌜ at + 2 ≤ length (now s) ⌝ }
-    ensures { λ r. ⌜ (r ≡ value (take 2 (drop at (now (s .entry))))) × (r < 65536) ⌝ }
+    ensures { λ r. ⌜ (r ≡ fromBytes (take 2 (drop at (now (s .entry))))) × (r < 65536) ⌝ }
 {
     wide(s[at]) + 256 * wide(s[at + 1])
 }
@@ -42,7 +42,7 @@ fn two(s: &[u8], at: usize) -> u64
 // The number in four bytes from `at`.
 fn four(s: &[u8], at: usize) -> u64
     requires { ⌜ at + 4 ≤ length (now s) ⌝ }
-    ensures { λ r. ⌜ (r ≡ value (take 4 (drop at (now (s .entry))))) × (r < 4294967296) ⌝ }
+    ensures { λ r. ⌜ (r ≡ fromBytes (take 4 (drop at (now (s .entry))))) × (r < 4294967296) ⌝ }
 {
     two(s, at) + 65536 * two(s, at + 2)
 }
@@ -66,7 +66,7 @@ fn low(x: u64) -> u8
 // The two lowest digits of `x`, into the bytes from `at`.
 fn put_two(s: &mut [u8], at: usize, x: u64)
     requires { ⌜ at + 2 ≤ length (now s) ⌝ }
-    ensures { λ _. ⌜ now (s .exit) ≡ splice (now (s .entry)) at (digits 2 x) ⌝ }
+    ensures { λ _. ⌜ now (s .exit) ≡ splice (now (s .entry)) at (toBytes 2 x) ⌝ }
 {
     s[at] = low(x);
     s[at + 1] = low(x / 256);
@@ -75,7 +75,7 @@ fn put_two(s: &mut [u8], at: usize, x: u64)
 // The four lowest digits of `x`, into the bytes from `at`.
 fn put_four(s: &mut [u8], at: usize, x: u64)
     requires { ⌜ at + 4 ≤ length (now s) ⌝ }
-    ensures { λ _. ⌜ now (s .exit) ≡ splice (now (s .entry)) at (digits 4 x) ⌝ }
+    ensures { λ _. ⌜ now (s .exit) ≡ splice (now (s .entry)) at (toBytes 4 x) ⌝ }
 {
     put_two(s, at, x);
     put_two(s, at + 2, x / 65536);

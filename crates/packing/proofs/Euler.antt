@@ -6,7 +6,7 @@ use native.Mathlib.Nat.{le-of-mul-le-mul-left, mul-pos, zero-lt-suc}
 use native.Mathlib.Omega.{arith}
 use lib.Pow.{pow-add}
 use Rattle.arith.proofs.Powers.{mul-pow, pow-pos}
-use Rattle.packing.proofs.AtMost.{AtMost}
+use Rattle.packing.proofs.PowerAtMost.{PowerAtMost}
 use Rattle.packing.proofs.Mean.{mean}
 
 -- the powers as plain numbers; what the mean says, with the common factors b, d and z
@@ -14,7 +14,7 @@ cancel : (a b c d x y z : ℕ) → 0 < b → 0 < d → 0 < z → a * b * (c * d)
 cancel a b c d x y z p q r h = le-of-mul-le-mul-left {k = b * d * z} (omega arith) (mul-pos (mul-pos p q) r)
 
 -- (1 + 1 / n) ^ n is at most (1 + 1 / m) ^ (m + 1).
-pub euler : (n m : ℕ) → 0 < n → AtMost m (suc m) (suc n) n (suc m) n
+pub euler : (n m : ℕ) → 0 < n → PowerAtMost m (suc m) (suc n) n (suc m) n
 euler n m h =
     let k : ℕ = n + suc m in
     let e : n * (suc n * suc m) + suc m * (m * n) ≡ n * suc m * k = omega arith in

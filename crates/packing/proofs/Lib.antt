@@ -1,4 +1,4 @@
-pub mod AtMost
+pub mod PowerAtMost
 pub mod Best
 pub mod Capacity
 pub mod Count

@@ -8,7 +8,7 @@ use native.Mathlib.Omega.{arith}
 use lib.Dec.{lit≤}
 use Rattle.arith.proofs.Powers.{pow-pos}
 use Rattle.arith.proofs.Sums.{term-le-sum}
-use Rattle.packing.proofs.AtMost.{product, scale, weaken, compare}
+use Rattle.packing.proofs.PowerAtMost.{product, scale, weaken, compare}
 use Rattle.packing.proofs.Count.{count-all}
 use Rattle.packing.proofs.Health.{healthy, positive-bound}
 use Rattle.packing.proofs.Program.{Program}

@@ -7,7 +7,7 @@ use lib.Dec.{lit≤}
 use Rattle.arith.specs.Sum.{sum}
 use Rattle.arith.proofs.Ceilings.{ceil-below}
 use Rattle.arith.proofs.Sums.{sum-le, sum-add, sum-const}
-use Rattle.packing.proofs.AtMost.{AtMost}
+use Rattle.packing.proofs.PowerAtMost.{PowerAtMost}
 use Rattle.packing.proofs.Capacity.{capacity-each}
 use Rattle.packing.proofs.Fraction.{at-most-old, at-most-met}
 use Rattle.packing.proofs.Health.{scaled, healthy, step-at, size-pos, positive-bound}
@@ -21,9 +21,9 @@ use Rattle.packing.proofs.Upper.{volume-high, upper-start, upper-step}
 pub record Sides (m q : ℕ) (c : ℕ → ℕ) (s : State) : Type 0 where
   pub weight : ℕ
   pub weight-pos : 0 < weight
-  pub lower : (e : ℕ) → e < m → AtMost (q + 1) q (2 ^ 36) (c e * (weight * s .length e)) (s .load e) (c e)
+  pub lower : (e : ℕ) → e < m → PowerAtMost (q + 1) q (2 ^ 36) (c e * (weight * s .length e)) (s .load e) (c e)
   pub upper : (b x : ℕ) → 0 < b → b * s .alpha ≤ s .bound * x →
-      AtMost q (q + 1) (weight * volume m c (s .length) * (2 ^ 20) ^ suc (s .count)) (m * 2 ^ 36 * (2 ^ 20 + 1) ^ suc (s .count))
+      PowerAtMost q (q + 1) (weight * volume m c (s .length) * (2 ^ 20) ^ suc (s .count)) (m * 2 ^ 36 * (2 ^ 20 + 1) ^ suc (s .count))
       ((8 * q + 5) * (x * s .total)) (8 * (q * b))
 
 module _ {m q L : ℕ} {c : ℕ → ℕ} (p : Program m q L c) where

@@ -7,8 +7,8 @@ use native.Mathlib.Omega.{arith}
 use Rattle.arith.specs.Sum.{sum}
 use Rattle.arith.proofs.Powers.{pow-pos}
 use Rattle.arith.proofs.Sums.{sum-le, sum-add, sum-scale}
-use Rattle.packing.proofs.AtMost.{AtMost, product, weaken}
-use Rattle.packing.proofs.Growth.{growth}
+use Rattle.packing.proofs.PowerAtMost.{PowerAtMost, product, weaken}
+use Rattle.packing.proofs.Growth.{one-growth}
 use Rattle.packing.proofs.Run.{volume}
 use Rattle.packing.proofs.Step.{Step}
 
@@ -38,7 +38,7 @@ upper-algebra : (w f D D′ N a R u v z : ℕ) → f * D′ * N * R ≤ D * (N +
 upper-algebra w f D D′ N a R u v z h = omega (arith, mul-le-mul-right (w * u * v * z) h)
 
 -- the start, with nothing drawn
-pub upper-start : (q x u v : ℕ) {y : ℕ} → u ≤ v → AtMost q (q + 1) u v ((8 * q + 5) * (x * 0)) y
+pub upper-start : (q x u v : ℕ) {y : ℕ} → u ≤ v → PowerAtMost q (q + 1) u v ((8 * q + 5) * (x * 0)) y
 upper-start q x u v {y} h =
     let e : (8 * q + 5) * (x * 0) ≡ 0 = omega arith in
     record { le = rw e (simp pow-zero (omega (arith, pow-le-pow-left h y))) }
@@ -46,12 +46,12 @@ upper-start q x u v {y} h =
 -- t iterations before, F drawn before, S the volume that the start is compared with
 pub upper-step : (R S q w f D D′ g a C b x t F : ℕ) → 4 ≤ q → q ≤ 16 → 0 < b → 0 < S →
     f * q * D′ ≤ q * D + g * a + 2 * q * C → b * a ≤ D * x → 2 * R * C ≤ D →
-    AtMost q (q + 1) (w * D * R ^ suc t) (S * suc R ^ suc t) ((8 * q + 5) * (x * F)) (8 * (q * b)) →
-    AtMost q (q + 1) (w * f * D′ * R ^ suc (suc t)) (S * suc R ^ suc (suc t)) ((8 * q + 5) * (x * (F + g))) (8 * (q * b))
+    PowerAtMost q (q + 1) (w * D * R ^ suc t) (S * suc R ^ suc t) ((8 * q + 5) * (x * F)) (8 * (q * b)) →
+    PowerAtMost q (q + 1) (w * f * D′ * R ^ suc (suc t)) (S * suc R ^ suc (suc t)) ((8 * q + 5) * (x * (F + g))) (8 * (q * b))
 upper-step R S q w f D D′ g a C b x t F lo hi pb pS h k l before =
     let pN : 0 < q * b = mul-pos (omega arith) pb in
     let e : (8 * q + 5) * (x * (F + g)) ≡ (8 * q + 5) * (x * F) + (8 * q + 5) * (x * g) = omega arith in
     rw (e, pow-suc R (suc t), pow-suc (suc R) (suc t))
     (weaken (upper-algebra w f D D′ (q * b) (x * g) R (R ^ suc t) S (suc R ^ suc t) (upper-rise f q D D′ g a C b x R h k l))
     (mul-pos (mul-pos pS (pow-pos (suc t) (omega arith))) pN)
-    (product before (growth q (q * b) (x * g) lo hi pN)))
+    (product before (one-growth q (q * b) (x * g) lo hi pN)))

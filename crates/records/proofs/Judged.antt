@@ -2,47 +2,32 @@
 use mathlib.Core.Path.{_≡_, refl, sym, _∙_}
 use mathlib.Core.List.{List, _++_}
 use Prim.Native.Nat.{ℕ}
-use native.Mathlib.Omega.{arith}
 use lib.ListN.{length, drop}
-use Rattle.network.specs.Network.{Network, arcs, commodities}
-use Rattle.network.specs.Verdict.{firstRow, sizeRows, itemRows, rows, verdict}
+use Rattle.network.specs.Network.{Network}
+use Rattle.network.specs.Verdict.{verdict, itemConditions}
 use Rattle.network.specs.declared.Refusal.{Refusal}
 use Rattle.network.specs.declared.Verdict.{Verdict}
 use Rattle.network.specs.declared.Verdict.the-variants.{Accepted, Refused}
-use Rattle.network.proofs.Accepted.{accepted-sound}
-use Rattle.network.proofs.Decided.{quiet-accepted, no-refusal}
-use Rattle.network.proofs.FirstRow.{first-accepts}
-use Rattle.network.proofs.Sizes.{sizes-quiet}
-use Rattle.method.specs.Answer.{outcome, after}
+use Rattle.network.proofs.Accepted.{items-accepted}
+use Rattle.network.proofs.Decided.{no-refusal}
+use Rattle.method.specs.Answer.{outcome, overlaid}
 use Rattle.method.specs.Guarantee.{Guarantee}
 use Rattle.method.specs.declared.Answer.{Answer}
 use Rattle.run.specs.Runs.{Lent}
 use Rattle.vithmork.specs.Host.{afterwards}
 use Rattle.records.specs.Parts.{Judging}
-use Rattle.records.specs.Records.{tablesIn, Replied}
+use Rattle.records.specs.Records.{Replied}
 use Rattle.records.specs.Reply.{replyOf, numberIn, valuesIn}
 use Rattle.records.specs.declared.Reply.the-variants.{TurnedDown, Answered}
 
-module _ (net : Network) (q : ℕ) (flow lengths : List ℕ) (j : Judging net q flow lengths) where
-  pub judged : verdict net q (tablesIn flow lengths) 0 ≡ firstRow (itemRows net)
-  unfolding verdict rows
-  judged =
-      first-accepts (sizeRows (net .nodes) (arcs net) (commodities net) q (tablesIn flow lengths) 0) (itemRows net)
-      (quiet-accepted (sizes-quiet (net .nodes) (arcs net) (commodities net) q _ 0 (j .counts) (j .room) (omega arith)))
-
-  -- Accepted: the network is sound.
-  pub lends : firstRow (itemRows net) ≡ Accepted → Lent net q
-  lends h =
-      record {
-        sound = accepted-sound net q (tablesIn flow lengths) 0 (judged ∙ h) .0;
-        heads = j .heads;
-        capacities = j .capacities;
-        sinks = j .sinks;
-      }
+-- Accepted: the network is sound.
+pub lends : (net : Network) (q : ℕ) (flow lengths : List ℕ) → Judging net q flow lengths → verdict (itemConditions net) ≡ Accepted → Lent net q
+lends net q flow lengths j h =
+    record { sound = items-accepted net q (j .counts) h; heads = j .heads; capacities = j .capacities; sinks = j .sinks }
 
 -- The first k places of a table took these numbers.
-pub placed : (xs ys table : List ℕ) (k : ℕ) → xs ≡ ys → length xs ≡ k → xs ++ drop k table ≡ after ys table
-unfolding after
+pub placed : (xs ys table : List ℕ) (k : ℕ) → xs ≡ ys → length xs ≡ k → xs ++ drop k table ≡ overlaid ys table
+unfolding overlaid
 placed xs ys table k e l = rw (← e, l) refl
 
 module _ (net : Network) (q : ℕ) (flow lengths : List ℕ) where
@@ -52,24 +37,24 @@ module _ (net : Network) (q : ℕ) (flow lengths : List ℕ) where
   replied-refused v w e =
       record {
         returned = rw e refl;
-        numbered = rw e refl;
-        valued = rw e refl;
-        flows = rw e refl;
-        keeps = rw e refl;
+        number = rw e refl;
+        values = rw e refl;
+        flow-after = rw e refl;
+        lengths-after = rw e refl;
         guarantee = λ a. absurd (no-refusal (sym a ∙ e));
       }
 
   pub replied-accepted :
-      (flow' lengths' : List ℕ) (a : Answer) → a ≡ outcome net q .answer → flow' ≡ after (outcome net q .flow) flow →
-      lengths' ≡ after (outcome net q .lengths) lengths → Guarantee net q (outcome net q) →
+      (flow' lengths' : List ℕ) (a : Answer) → a ≡ outcome net q .answer → flow' ≡ overlaid (outcome net q .flow) flow →
+      lengths' ≡ overlaid (outcome net q .lengths) lengths → Guarantee net q (outcome net q) →
       Replied net q Accepted flow lengths flow' lengths' (Answered a)
   unfolding replyOf numberIn valuesIn afterwards
   replied-accepted flow' lengths' a e f l g =
       record {
         returned = rw e refl;
-        numbered = refl;
-        valued = rw e refl;
-        flows = f;
-        keeps = l;
+        number = refl;
+        values = rw e refl;
+        flow-after = f;
+        lengths-after = l;
         guarantee = λ _. g;
       }

@@ -1,15 +1,17 @@
 -- The call with a slice of records: the network that it lends, and what it returns and leaves in both tables. Document 01, "The floor and its flow".
 use mathlib.Core.Path.{_≡_}
 use mathlib.Core.List.{List, [], _∷_, map}
-use Prim.Native.Nat.{ℕ}
+use mathlib.Core.Bool.{_||_}
+use Prim.Native.Nat.{ℕ, _*_}
+use lib.Dec.{ltb}
 use lib.ListN.{length}
-use Rattle.network.specs.Network.{Network}
+use Rattle.network.specs.Network.{Network, arcs, commodities}
 use Rattle.network.specs.Refusal.{hostNumber}
-use Rattle.network.specs.Verdict.{verdict}
-use Rattle.network.specs.declared.Tables.{Tables}
+use Rattle.network.specs.Verdict.{Condition, when, verdictOn}
+use Rattle.network.specs.declared.Refusal.the-variants.{ShortTable}
 use Rattle.network.specs.declared.Verdict.{Verdict}
 use Rattle.network.specs.declared.Verdict.the-variants.{Accepted}
-use Rattle.method.specs.Answer.{outcome, numbersOf, after}
+use Rattle.method.specs.Answer.{outcome, numbersOf, overlaid}
 use Rattle.method.specs.Guarantee.{Guarantee}
 use Rattle.vithmork.specs.Host.{afterwards}
 use Rattle.records.specs.Reply.{replyOf, numberIn, valuesIn}
@@ -29,8 +31,8 @@ sinksIn (x ∷ []) = []
 sinksIn (x ∷ y ∷ pairs) = y ∷ sinksIn pairs
 
 -- An arc for each record, a commodity for each pair.
-unfoldable pub networkIn : ℕ → List Arc → List ℕ → Network
-networkIn n arcs pairs =
+unfoldable pub networkLent : ℕ → List Arc → List ℕ → Network
+networkLent n arcs pairs =
     record {
       nodes = n;
       tails = map (λ a. a .tail) arcs;
@@ -40,25 +42,26 @@ networkIn n arcs pairs =
       sinks = sinksIn pairs;
     }
 
--- The places of the two lent tables. A host's answer table and running count do not concern this call: they never are too short.
-abbrev pub tablesIn : List ℕ → List ℕ → Tables
-tablesIn flow lengths = record { flow = length flow; length = length lengths; answer = 7; count = 1 }
+-- Of the conditions that concern some calls only, 5 concerns this one, as far as it speaks of flow and lengths: there is no answer table and no
+-- running count.
+unfoldable pub recordConditions : ℕ → ℕ → List ℕ → List ℕ → List Condition
+recordConditions k m flow lengths = when (ltb (length flow) (k * m) || ltb (length lengths) m) ShortTable ∷ []
 
--- The verdict on the call: all rows of the table but 9 to 11, since there is no file and no running count to be full.
-abbrev pub verdictIn : ℕ → ℕ → List Arc → List ℕ → List ℕ → List ℕ → Verdict
-verdictIn n q arcs pairs flow lengths = verdict (networkIn n arcs pairs) q (tablesIn flow lengths) 0
+-- The verdict on the call.
+abbrev pub verdictLent : Network → ℕ → List ℕ → List ℕ → Verdict
+verdictLent net q flow lengths = verdictOn net q (recordConditions (commodities net) (arcs net) flow lengths)
 
 -- What a call with the verdict v returns and leaves: the reply, with its numbers; in both tables the outcome's numbers first, later places as they
 -- were, all of them where it is turned down; and where it is accepted, all that holds of the outcome.
 pub record Replied (net : Network) (q : ℕ) (v : Verdict) (flow lengths flow' lengths' : List ℕ) (r : Reply) : Type 0 where
   pub returned : r ≡ replyOf v (outcome net q .answer)
-  pub numbered : numberIn r ≡ hostNumber v
-  pub valued : valuesIn r ≡ afterwards v (numbersOf (outcome net q .answer)) []
-  pub flows : flow' ≡ afterwards v (after (outcome net q .flow) flow) flow
-  pub keeps : lengths' ≡ afterwards v (after (outcome net q .lengths) lengths) lengths
+  pub number : numberIn r ≡ hostNumber v
+  pub values : valuesIn r ≡ afterwards v (numbersOf (outcome net q .answer)) []
+  pub flow-after : flow' ≡ afterwards v (overlaid (outcome net q .flow) flow) flow
+  pub lengths-after : lengths' ≡ afterwards v (overlaid (outcome net q .lengths) lengths) lengths
   pub guarantee : v ≡ Accepted → Guarantee net q (outcome net q)
 
 -- The contract of the call.
 abbrev pub Recorded : ℕ → ℕ → List Arc → List ℕ → List ℕ → List ℕ → List ℕ → List ℕ → Reply → Type 0
 Recorded n q arcs pairs flow lengths flow' lengths' r =
-    Replied (networkIn n arcs pairs) q (verdictIn n q arcs pairs flow lengths) flow lengths flow' lengths' r
+    Replied (networkLent n arcs pairs) q (verdictLent (networkLent n arcs pairs) q flow lengths) flow lengths flow' lengths' r

@@ -1,7 +1,7 @@
 -- What a call returns: document 01's numbers for each case of the reply.
 use mathlib.Core.List.{List, []}
-use Prim.Native.Nat.{ℕ, _+_, _*_}
-use Rattle.network.specs.Refusal.{number, place}
+use Prim.Native.Nat.{ℕ}
+use Rattle.network.specs.Refusal.{hostNumber}
 use Rattle.network.specs.declared.Verdict.{Verdict}
 use Rattle.network.specs.declared.Verdict.the-variants.{Accepted, Refused}
 use Rattle.method.specs.Answer.{numbersOf}
@@ -16,7 +16,7 @@ replyOf (Refused w) a = TurnedDown w
 
 -- Its number as a host call returns it: 0, or a refusal's number times 1,000 plus its place.
 unfoldable pub numberIn : Reply → ℕ
-numberIn (TurnedDown w) = number w * 1000 + place w
+numberIn (TurnedDown w) = hostNumber (Refused w)
 numberIn (Answered a) = 0
 
 -- The seven numbers of its answer, in the order of the answer table; none where the call is turned down.

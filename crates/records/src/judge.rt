@@ -3,7 +3,8 @@ use crate::Reply;
 use network::Verdict;
 use network::checks::check_arcs;
 use network::checks::check_commodities;
-ghost use Rattle.network.specs.Verdict.{firstRow, itemRows};
+ghost use lib.ListN.{length};
+ghost use Rattle.network.specs.Verdict.{verdict, itemConditions};
 ghost use Rattle.run.specs.Runs.{networkOf, Lent};
 ghost use Rattle.network.specs.declared.Verdict.the-variants.{Accepted};
 ghost use Rattle.records.specs.Parts.{Judging, Roomy};
@@ -22,7 +23,7 @@ fn deliver(
     lengths: &mut [u64],
 ) -> Reply
     requires lent { ⌜ Lent (networkOf n (now tails) (now heads) (now capacities) (now sources) (now sinks)) q ⌝ }
-    requires room { ⌜ Roomy (networkOf n (now tails) (now heads) (now capacities) (now sources) (now sinks)) (now flow) (now lengths) ⌝ }
+    requires room { ⌜ Roomy (length (now sources)) (length (now tails)) (now flow) (now lengths) ⌝ }
     ensures { λ r. ⌜ Replied (networkOf n (now (tails .entry)) (now (heads .entry)) (now (capacities .entry)) (now (sources .entry)) (now (sinks .entry))) q Accepted (now (flow .entry)) (now (lengths .entry)) (now (flow .exit)) (now (lengths .exit)) r ⌝ }
 {
     let m = tails.len();
@@ -53,7 +54,7 @@ pub fn judge(
     lengths: &mut [u64],
 ) -> Reply
     requires { ⌜ Judging (networkOf n (now tails) (now heads) (now capacities) (now sources) (now sinks)) q (now flow) (now lengths) ⌝ }
-    ensures { λ r. ⌜ Replied (networkOf n (now (tails .entry)) (now (heads .entry)) (now (capacities .entry)) (now (sources .entry)) (now (sinks .entry))) q (firstRow (itemRows (networkOf n (now (tails .entry)) (now (heads .entry)) (now (capacities .entry)) (now (sources .entry)) (now (sinks .entry))))) (now (flow .entry)) (now (lengths .entry)) (now (flow .exit)) (now (lengths .exit)) r ⌝ }
+    ensures { λ r. ⌜ Replied (networkOf n (now (tails .entry)) (now (heads .entry)) (now (capacities .entry)) (now (sources .entry)) (now (sinks .entry))) q (verdict (itemConditions (networkOf n (now (tails .entry)) (now (heads .entry)) (now (capacities .entry)) (now (sources .entry)) (now (sinks .entry))))) (now (flow .entry)) (now (lengths .entry)) (now (flow .exit)) (now (lengths .exit)) r ⌝ }
 {
     let arcs = check_arcs(n, tails, heads, capacities);
     if let Verdict::Refused(why) = arcs {

@@ -4,6 +4,7 @@ mod judge;
 mod part;
 mod serve;
 
+use bounds::MOST_ARCS;
 use method::Answer;
 use network::Refusal;
 ghost use Rattle.records.specs.Records.{Recorded};
@@ -29,21 +30,21 @@ pub fn solve(
     arcs: &[Arc],
     pairs: &[u64],
     flow: &mut [u64],
-    length: &mut [u64],
+    lengths: &mut [u64],
 ) -> Reply
-    ensures { λ r. ⌜ Recorded n q (now (arcs .entry)) (now (pairs .entry)) (now (flow .entry)) (now (length .entry)) (now (flow .exit)) (now (length .exit)) r ⌝ }
+    ensures { λ r. ⌜ Recorded n q (now (arcs .entry)) (now (pairs .entry)) (now (flow .entry)) (now (lengths .entry)) (now (flow .exit)) (now (lengths .exit)) r ⌝ }
 {
     let m = arcs.len();
-    let few = if m < 256 { m } else { 256 };
+    let few = if m < MOST_ARCS { m } else { MOST_ARCS };
     let mut copy = [Arc {
         tail: 0,
         head: 0,
         capacity: 0,
-    }; 256];
+    }; MOST_ARCS];
     let mut e = 0;
     while e < few {
         copy[e] = arcs[e];
         e += 1;
     }
-    serve::serve(n, q, copy, m, pairs, flow, length)
+    serve::serve(n, q, copy, m, pairs, flow, lengths)
 }

@@ -2,13 +2,15 @@
 use crate::Arc;
 use crate::Reply;
 use crate::judge::judge;
+use bounds::MOST_ARCS;
+use bounds::MOST_COMMODITIES;
 ghost use lib.ListN.{length, take};
-ghost use Rattle.network.specs.Verdict.{firstRow, itemRows};
+ghost use Rattle.network.specs.Verdict.{verdict, itemConditions};
 ghost use Rattle.records.specs.Parts.{Sizable, ArcPlaces, PairPlaces, ArcsParted, PairsParted};
-ghost use Rattle.records.specs.Records.{networkIn, Replied};
+ghost use Rattle.records.specs.Records.{networkLent, Replied};
 
 // The first arcs, as many as there are places.
-fn part_arcs(arcs: [Arc; 256], tails: &mut [u64], heads: &mut [u64], capacities: &mut [u64])
+fn part_arcs(arcs: [Arc; MOST_ARCS], tails: &mut [u64], heads: &mut [u64], capacities: &mut [u64])
     requires { ⌜ ArcPlaces (now tails) (now heads) (now capacities) ⌝ }
     ensures { λ r. ⌜ ArcsParted arcs (now (tails .entry)) (now (tails .exit)) (now (heads .exit)) (now (capacities .exit)) ⌝ }
 {
@@ -39,7 +41,7 @@ fn part_pairs(pairs: &[u64], sources: &mut [u64], sinks: &mut [u64])
 fn part_in(
     n: u64,
     q: u64,
-    arcs: [Arc; 256],
+    arcs: [Arc; MOST_ARCS],
     pairs: &[u64],
     tails: &mut [u64],
     heads: &mut [u64],
@@ -52,7 +54,7 @@ fn part_in(
     requires sizes { ⌜ Sizable n q (length (now tails)) (now pairs) (now flow) (now lengths) ⌝ }
     requires arcs { ⌜ ArcPlaces (now tails) (now heads) (now capacities) ⌝ }
     requires pairs { ⌜ PairPlaces (now pairs) (now sources) (now sinks) ⌝ }
-    ensures { λ r. ⌜ Replied (networkIn n (take (length (now (tails .entry))) arcs) (now (pairs .entry))) q (firstRow (itemRows (networkIn n (take (length (now (tails .entry))) arcs) (now (pairs .entry))))) (now (flow .entry)) (now (lengths .entry)) (now (flow .exit)) (now (lengths .exit)) r ⌝ }
+    ensures { λ r. ⌜ Replied (networkLent n (take (length (now (tails .entry))) arcs) (now (pairs .entry))) q (verdict (itemConditions (networkLent n (take (length (now (tails .entry))) arcs) (now (pairs .entry))))) (now (flow .entry)) (now (lengths .entry)) (now (flow .exit)) (now (lengths .exit)) r ⌝ }
 {
     part_arcs(arcs, tails, heads, capacities);
     part_pairs(pairs, sources, sinks);
@@ -73,21 +75,21 @@ fn part_in(
 pub fn part(
     n: u64,
     q: u64,
-    arcs: [Arc; 256],
+    arcs: [Arc; MOST_ARCS],
     m: usize,
     pairs: &[u64],
     flow: &mut [u64],
     lengths: &mut [u64],
 ) -> Reply
     requires { ⌜ Sizable n q m (now pairs) (now flow) (now lengths) ⌝ }
-    ensures { λ r. ⌜ Replied (networkIn n (take m arcs) (now (pairs .entry))) q (firstRow (itemRows (networkIn n (take m arcs) (now (pairs .entry))))) (now (flow .entry)) (now (lengths .entry)) (now (flow .exit)) (now (lengths .exit)) r ⌝ }
+    ensures { λ r. ⌜ Replied (networkLent n (take m arcs) (now (pairs .entry))) q (verdict (itemConditions (networkLent n (take m arcs) (now (pairs .entry))))) (now (flow .entry)) (now (lengths .entry)) (now (flow .exit)) (now (lengths .exit)) r ⌝ }
 {
     let k = pairs.len() / 2;
-    let mut tails = [0u64; 256];
-    let mut heads = [0u64; 256];
-    let mut capacities = [0u64; 256];
-    let mut sources = [0u64; 32];
-    let mut sinks = [0u64; 32];
+    let mut tails = [0u64; MOST_ARCS];
+    let mut heads = [0u64; MOST_ARCS];
+    let mut capacities = [0u64; MOST_ARCS];
+    let mut sources = [0u64; MOST_COMMODITIES];
+    let mut sinks = [0u64; MOST_COMMODITIES];
     part_in(
         n,
         q,

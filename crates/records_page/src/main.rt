@@ -3,8 +3,7 @@
 use libc::STDOUT_FILENO;
 use method::Answer;
 use network::Refusal;
-use network::numbers::number;
-use network::numbers::place;
+use network::numbers::code;
 use records::Arc;
 use records::Reply;
 ghost use Prim.Native.Nat.{_≤_};
@@ -43,8 +42,9 @@ fn print_all(s: &[u64]) {
 
 fn print_refusal(why: Refusal) {
     io::write_all(STDOUT_FILENO, b" refused");
-    print(number(why));
-    print(place(why));
+    let c = code(why);
+    print(c.number);
+    print(c.place);
 }
 
 fn print_answer(a: Answer) {

@@ -9,7 +9,7 @@ use native.Mathlib.Omega.{arith}
 use borrow.Author.Tests.{ltb-true, ltb-false}
 use lib.Dec.{ltb}
 use lib.ListN.{length, getD, length-append}
-use Rattle.dimacs.specs.Number.{digit, every, value}
+use Rattle.dimacs.specs.Number.{digit, every, fromDigits}
 use Rattle.dimacs.proofs.Digits.{digit-in}
 use Rattle.report.specs.Decimal.{digits, decimal}
 
@@ -52,16 +52,16 @@ decimal-digits n =
     (λ k m ds h l. every-more digit ds (48 + m % 10) l (digit-in (48 + m % 10) (omega arith) (omega arith)))
     20 n
 
-value-more : (x : ℕ) (xs : List ℕ) (b : ℕ) → value x (xs ++ (b ∷ [])) ≡ value x xs * 10 + (b - 48)
-unfolding value
+value-more : (x : ℕ) (xs : List ℕ) (b : ℕ) → fromDigits x (xs ++ (b ∷ [])) ≡ fromDigits x xs * 10 + (b - 48)
+unfolding fromDigits
 value-more x [] b = refl
 value-more x (y ∷ xs) b = value-more (x * 10 + (y - 48)) xs b
 
 -- The reader's value of the digits is the number.
-pub decimal-value : (n : ℕ) → n < 10 ^ 20 → value 0 (decimal n) ≡ n
-unfolding decimal value
+pub decimal-value : (n : ℕ) → n < 10 ^ 20 → fromDigits 0 (decimal n) ≡ n
+unfolding decimal fromDigits
 decimal-value n =
-    by-digits (λ k m ds. m < 10 ^ k → value 0 ds ≡ m) (λ m h. omega arith) (λ k m h l. omega arith)
+    by-digits (λ k m ds. m < 10 ^ k → fromDigits 0 ds ≡ m) (λ m h. omega arith) (λ k m h l. omega arith)
     (λ k m ds h e l.
     omega (arith, value-more 0 ds (48 + m % 10), e (omega (arith, rw pow-suc at l))))
     20 n

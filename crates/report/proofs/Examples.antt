@@ -5,27 +5,27 @@ use mathlib.Core.List.{List, [], _∷_}
 use Prim.Native.String.{String}
 use lib.Dec.{T}
 use Rattle.arith.specs.Ceiling.{ceil}
-use Rattle.arith.specs.Lists.{upFrom, upTo, exists, flat, keep}
+use Rattle.arith.specs.Lists.{upFrom, upTo, exists, flat, keep, same}
 use Rattle.arith.specs.Sum.{sum}
 use Rattle.length.specs.Length.{scale, mark, start, growth, halving}
 use Rattle.length.specs.Level.{level, threshold}
 use Rattle.length.specs.Levels.{levels}
 use Rattle.network.specs.Flow.{loadOf}
 use Rattle.network.specs.Path.{leads, follow, pathLength}
-use Rattle.network.specs.Verdict.{outside, loose, short, firstRow, sizeRows, arcRows, commodityRows, itemRows, rows, verdict}
+use Rattle.network.specs.Verdict.{outside, loose, verdict, sizeConditions, arcConditions, commodityConditions, itemConditions, verdictOn}
 use Rattle.method.specs.Answer.{fullest, amounts, unjoined, outcomeOf, outcome}
 use Rattle.method.specs.Choice.{words, endsAt, paths, candidates, sooner, least, choice}
 use Rattle.method.specs.Iteration.{initial, weight, lowest, draw, update, grown, settled, advance, iteration}
 use Rattle.method.specs.Run.{ended, runs, run}
-use Rattle.dimacs.specs.Meaning.{same, shaped, given, problemLine, sourceOrSink, terminalLine, arcLine, lettered, meaning}
-use Rattle.dimacs.specs.Number.{digit, every, value, numberOf}
-use Rattle.dimacs.specs.Outcome.{networkOf, complete, closing, parsed}
+use Rattle.dimacs.specs.Meaning.{shaped, given, problemLine, sourceOrSink, terminalLine, arcLine, lettered, meaning}
+use Rattle.dimacs.specs.Number.{digit, every, fromDigits, numberOf}
+use Rattle.dimacs.specs.File.{networkRead, complete, closing, parsed}
 use Rattle.dimacs.specs.Pieces.{lead, pieces, lineFeed, linesOf, blank, filled, wordsOf}
 use Rattle.dimacs.specs.Progress.{begun, withSource, withSink, withArc}
 use Rattle.dimacs.specs.Reading.{opening, once, following, next, readLines}
 use Rattle.report.specs.Decimal.{digits, decimal}
-use Rattle.report.specs.Listing.{answerRows, beltRow, outcomeRows, refusalRow, enough, verdictOn, verdictRows, fileRows, listing}
-use Rattle.report.specs.Row.{joined, row, header}
+use Rattle.report.specs.Listing.{answerRows, beltRow, outcomeRows, refusalRow, verdictRows, fileRows, listing}
+use Rattle.report.specs.Row.{delimited, row, header}
 use Rattle.dimacs.specs.Text.{bytes}
 
 -- A file, and what the program writes for it.
@@ -64,10 +64,10 @@ cases =
 
 pub listings : T (right cases)
 unfolding
-    right same listing fileRows verdictRows verdictOn enough refusalRow outcomeRows beltRow answerRows header row joined decimal digits
-    parsed closing complete networkOf readLines next following once opening withArc withSink withSource begun meaning lettered arcLine
-    terminalLine sourceOrSink problemLine given shaped numberOf value every digit wordsOf filled keep blank linesOf lineFeed pieces lead
-    verdict rows itemRows commodityRows arcRows sizeRows firstRow short loose outside loadOf amounts ceil upFrom upTo exists flat sum scale
+    right same listing fileRows verdictRows refusalRow outcomeRows beltRow answerRows header row delimited decimal digits
+    parsed closing complete networkRead readLines next following once opening withArc withSink withSource begun meaning lettered arcLine
+    terminalLine sourceOrSink problemLine given shaped numberOf fromDigits every digit wordsOf filled keep blank linesOf lineFeed pieces lead
+    verdictOn itemConditions commodityConditions arcConditions sizeConditions verdict loose outside loadOf amounts ceil upFrom upTo exists flat sum scale
     mark start growth halving level threshold levels leads follow pathLength words endsAt paths candidates sooner least choice initial weight
     lowest draw update grown settled advance iteration ended runs run fullest unjoined outcomeOf outcome bind
 listings = tt

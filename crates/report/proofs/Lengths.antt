@@ -6,18 +6,18 @@ use lib.ListN.{length, length-append}
 use Rattle.method.specs.declared.Answer.{Answer}
 use Rattle.report.specs.Decimal.{decimal}
 use Rattle.report.specs.Listing.{answerRows}
-use Rattle.report.specs.Row.{joined, row}
+use Rattle.report.specs.Row.{delimited, row}
 use Rattle.dimacs.specs.Text.{bytes}
 use Rattle.report.proofs.Digits.{decimal-short}
 
 -- two numbers, a comma, carriage return and line feed
-pub fraction-length : (upper lower : ℕ) → length (joined (decimal upper) (decimal lower ∷ [])) ≤ 43
-unfolding joined
+pub fraction-length : (upper lower : ℕ) → length (delimited (decimal upper) (decimal lower ∷ [])) ≤ 43
+unfolding delimited
 fraction-length upper lower = simp length-append (omega (arith, decimal-short upper, decimal-short lower))
 
 pub row-length :
     (kind tail head : List ℕ) (upper lower : ℕ) → length (row kind tail head upper lower) ≤ length kind + length tail + length head + 46
-unfolding row joined
+unfolding row delimited
 row-length kind tail head upper lower = simp length-append (omega (arith, decimal-short upper, decimal-short lower))
 
 -- total, bound and steps

@@ -9,5 +9,4 @@ pub mod Puts
 pub mod Putting
 pub mod Rowed
 pub mod Showing
-pub mod Small
 pub mod Written

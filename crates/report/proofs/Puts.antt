@@ -8,7 +8,7 @@ use native.Mathlib.Numerals.{add-one}
 use native.Mathlib.Omega.{arith}
 use lib.ListN.{length, take, set, length-append}
 use lib.Seq.{length-take-le, set-split}
-use Rattle.method.specs.Answer.{after}
+use Rattle.method.specs.Answer.{overlaid}
 use Rattle.numbers.specs.Parts.{splice}
 use Rattle.numbers.proofs.Over.{length-over}
 use Rattle.numbers.proofs.Splices.{splice-is-over, splice-after}
@@ -48,6 +48,6 @@ pub put-within : {xs out out' : List ℕ} {at end n : ℕ} → Put xs out at out
 put-within p h = omega (arith, p .next)
 
 -- From place 0 on the bytes are the front.
-pub put-after : {xs out out' : List ℕ} {end : ℕ} → Put xs out 0 out' end → out' ≡ after xs out
-unfolding after
+pub put-after : {xs out out' : List ℕ} {end : ℕ} → Put xs out 0 out' end → out' ≡ overlaid xs out
+unfolding overlaid
 put-after {xs} p = p .places ∙ rw zero-add refl

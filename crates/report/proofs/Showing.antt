@@ -15,7 +15,6 @@ use Rattle.report.specs.Put.{Put}
 use Rattle.report.specs.Shown.{beltsOf, Belted, Ready, Shown}
 use Rattle.report.proofs.Belts.{one-load, same-rows}
 use Rattle.report.proofs.Puts.{put-next}
-use Rattle.report.proofs.Small.{total-fits, load-fits}
 
 -- The flow table of one commodity has a place for each arc.
 pub one-row : (net : Network) (xs : List ℕ) → commodities net ≡ 1 → length xs ≡ arcs net → length xs ≡ commodities net * arcs net
@@ -23,12 +22,12 @@ one-row net xs one h = rw (one, one-mul) h
 
 module _ (net : Network) {at room : ℕ} (ready : Ready net at room) {a : Answer} {flow kept : List ℕ} (s : Solved net 4 a flow kept) where
   pub total-small : a .total * a .capacity < 2 ^ 64
-  total-small = rw (s .answers) (total-fits net 4 (ready .lent .sound))
+  total-small = rw (s .answers) (s .guarantee .fits .total)
 
   load-small : (e : ℕ) → e < arcs net → getD flow e 0 * a .capacity < 2 ^ 64
   load-small e l =
       rw (s .answers, s .flows, ← one-load net (ready .one) (outcome net 4 .flow) e)
-      (load-fits net 4 (ready .lent .sound) (s .guarantee) e l)
+      (s .guarantee .fits .loads e l)
 
   pub belted : (next : ℕ) → length flow ≡ arcs net → next ≤ at + 159 → Belted (net .tails) (net .heads) flow (a .capacity) next room
   belted next h l =

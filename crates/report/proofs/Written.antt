@@ -9,9 +9,9 @@ use Rattle.network.specs.declared.Verdict.the-variants.{Accepted, Refused}
 use Rattle.network.proofs.Decided.{no-refusal}
 use Rattle.method.specs.Answer.{outcome}
 use Rattle.method.specs.Guarantee.{Guarantee}
-use Rattle.dimacs.specs.Outcome.{holds, refused, parsed}
+use Rattle.dimacs.specs.File.{holds, refused, parsed}
 use Rattle.report.specs.Listed.{Listed}
-use Rattle.report.specs.Listing.{refusalRow, verdictOn, verdictRows, fileRows, listing}
+use Rattle.report.specs.Listing.{refusalRow, verdictHeld, verdictRows, fileRows, listing}
 use Rattle.report.specs.Put.{Put}
 use Rattle.report.specs.Row.{header}
 use Rattle.report.specs.Shown.{Shown}
@@ -19,18 +19,18 @@ use Rattle.report.proofs.Puts.{put-length, put-next, put-after}
 
 module _ (net : Network) {out out' : List ℕ} {at end : ℕ} where
   -- A refused network.
-  pub shown-refused : {w : Refusal} → verdictOn net ≡ Refused w → Put (refusalRow w) out at out' end → Shown net (verdictOn net) out at out' end
+  pub shown-refused : {w : Refusal} → verdictHeld net ≡ Refused w → Put (refusalRow w) out at out' end → Shown net (verdictHeld net) out at out' end
   unfolding verdictRows
   shown-refused e p = record { rows = rw e p; guarantee = λ a. absurd (no-refusal (sym a ∙ e)) }
 
   -- An accepted one.
-  pub shown-accepted : verdictOn net ≡ Accepted → Shown net Accepted out at out' end → Shown net (verdictOn net) out at out' end
+  pub shown-accepted : verdictHeld net ≡ Accepted → Shown net Accepted out at out' end → Shown net (verdictHeld net) out at out' end
   shown-accepted e s = rw e s
 
 module _ (text : List ℕ) {out mid out' : List ℕ} {at end : ℕ} (h : Put header out 0 mid at) where
   listed :
       Put (fileRows (parsed text)) mid at out' end →
-      ((net : Network) → parsed text ≡ holds net → verdictOn net ≡ Accepted → Guarantee net 4 (outcome net 4)) → Listed text out end out'
+      ((net : Network) → parsed text ≡ holds net → verdictHeld net ≡ Accepted → Guarantee net 4 (outcome net 4)) → Listed text out end out'
   unfolding listing
   listed p g =
       let whole = put-next h p in
@@ -45,9 +45,9 @@ module _ (text : List ℕ) {out mid out' : List ℕ} {at end : ℕ} (h : Put hea
       apart k = let z : _≡_ {A = ℕ} 0 1 = cc in omega arith
 
   -- A file that holds a network.
-  pub listed-held : {net : Network} → parsed text ≡ holds net → Shown net (verdictOn net) mid at out' end → Listed text out end out'
+  pub listed-held : {net : Network} → parsed text ≡ holds net → Shown net (verdictHeld net) mid at out' end → Listed text out end out'
   unfolding fileRows
   listed-held {net} e s = listed (rw e (s .rows)) guaranteed
     where
-      guaranteed : (net' : Network) → parsed text ≡ holds net' → verdictOn net' ≡ Accepted → Guarantee net' 4 (outcome net' 4)
-      guaranteed net' k v = let same : net ≡ net' = cc in rw (← same) (s .guarantee (ap verdictOn same ∙ v))
+      guaranteed : (net' : Network) → parsed text ≡ holds net' → verdictHeld net' ≡ Accepted → Guarantee net' 4 (outcome net' 4)
+      guaranteed net' k v = let same : net ≡ net' = cc in rw (← same) (s .guarantee (ap verdictHeld same ∙ v))

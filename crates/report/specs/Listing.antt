@@ -3,16 +3,15 @@ use mathlib.Core.List.{List, [], _++_}
 use Prim.Native.Nat.{ℕ, _*_}
 use Rattle.arith.specs.Lists.{upTo, flat}
 use Rattle.network.specs.Flow.{loadOf}
-use Rattle.network.specs.Network.{Network, arcs, commodities, tail, head}
-use Rattle.network.specs.Refusal.{number, place}
-use Rattle.network.specs.Verdict.{verdict}
+use Rattle.network.specs.Network.{Network, arcs, tail, head}
+use Rattle.network.specs.Refusal.{code}
+use Rattle.network.specs.Verdict.{verdictOn}
 use Rattle.network.specs.declared.Refusal.{Refusal}
-use Rattle.network.specs.declared.Tables.{Tables}
 use Rattle.network.specs.declared.Verdict.{Verdict}
 use Rattle.network.specs.declared.Verdict.the-variants.{Accepted, Refused}
 use Rattle.method.specs.Answer.{Outcome, amounts, outcome}
 use Rattle.method.specs.declared.Answer.{Answer}
-use Rattle.dimacs.specs.Outcome.{Outcome as File, holds, refused, parsed}
+use Rattle.dimacs.specs.File.{File, holds, refused, parsed}
 use Rattle.report.specs.Decimal.{decimal}
 use Rattle.report.specs.Row.{row, header}
 use Rattle.dimacs.specs.Text.{bytes}
@@ -36,15 +35,11 @@ outcomeRows net o = answerRows (o .answer) ++ flat (beltRow net o) (upTo (arcs n
 
 -- "A refusal is the header and refused,,,number,place."
 unfoldable pub refusalRow : Refusal → List ℕ
-refusalRow r = row (bytes "refused") [] [] (number r) (place r)
+refusalRow r = row (bytes "refused") [] [] (code r .number) (code r .place)
 
--- Tables of just the size that the call may write: the program lends itself enough.
-unfoldable pub enough : Network → Tables
-enough net = record { flow = commodities net * arcs net; length = arcs net; answer = 7; count = 1 }
-
--- The verdict on a network that a file holds: the program "takes q = 4", and counts nothing between files.
-unfoldable pub verdictOn : Network → Verdict
-verdictOn net = verdict net 4 (enough net) 0
+-- The verdict on a network that a file holds: the program "takes q = 4", has room enough, and counts nothing between files.
+abbrev pub verdictHeld : Network → Verdict
+verdictHeld net = verdictOn net 4 []
 
 -- what follows from the verdict
 unfoldable pub verdictRows : Network → Verdict → List ℕ
@@ -53,7 +48,7 @@ verdictRows net (Refused r) = refusalRow r
 
 -- what follows from the file
 unfoldable pub fileRows : File → List ℕ
-fileRows (holds net) = verdictRows net (verdictOn net)
+fileRows (holds net) = verdictRows net (verdictHeld net)
 fileRows (refused r) = refusalRow r
 
 -- The bytes written for a file of these bytes.

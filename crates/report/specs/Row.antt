@@ -6,14 +6,14 @@ use Rattle.report.specs.Decimal.{decimal}
 use Rattle.dimacs.specs.Text.{bytes}
 
 -- A field, each further field after a comma (byte 44), then carriage return and line feed (bytes 13 and 10).
-unfoldable pub joined : List ℕ → List (List ℕ) → List ℕ
-joined f [] = f ++ (13 ∷ 10 ∷ [])
-joined f (g ∷ gs) = f ++ (44 ∷ joined g gs)
+unfoldable pub delimited : List ℕ → List (List ℕ) → List ℕ
+delimited f [] = f ++ (13 ∷ 10 ∷ [])
+delimited f (g ∷ gs) = f ++ (44 ∷ delimited g gs)
 
 -- "Fields: row kind; tail and head (empty but on belt rows); a fraction's upper and lower number."
 unfoldable pub row : List ℕ → List ℕ → List ℕ → ℕ → ℕ → List ℕ
-row kind tail head upper lower = joined kind (tail ∷ head ∷ decimal upper ∷ decimal lower ∷ [])
+row kind tail head upper lower = delimited kind (tail ∷ head ∷ decimal upper ∷ decimal lower ∷ [])
 
 -- the header: row,tail,head,upper,lower
 unfoldable pub header : List ℕ
-header = joined (bytes "row") (bytes "tail" ∷ bytes "head" ∷ bytes "upper" ∷ bytes "lower" ∷ [])
+header = delimited (bytes "row") (bytes "tail" ∷ bytes "head" ∷ bytes "upper" ∷ bytes "lower" ∷ [])

@@ -8,10 +8,10 @@ use network::checks::check_commodities;
 ghost use mathlib.Core.List.{[], _∷_};
 ghost use Prim.Native.Nat.{_+_, _≤_};
 ghost use lib.ListN.{length};
-ghost use Rattle.dimacs.proofs.Holds.{OneCommodity};
+ghost use Rattle.dimacs.specs.OneCommodity.{OneCommodity};
 ghost use Rattle.run.specs.Runs.{networkOf};
 ghost use Rattle.report.specs.Listed.{Listed};
-ghost use Rattle.report.specs.Listing.{verdictOn};
+ghost use Rattle.report.specs.Listing.{verdictHeld};
 ghost use Rattle.report.specs.Shown.{Shown};
 
 // The network that a file holds. Its counts are within their bounds, so only arcs and the commodity are left to check.
@@ -27,7 +27,7 @@ fn judge(
 ) -> usize
     requires network { ⌜ OneCommodity (networkOf n (now tails) (now heads) (now capacities) (source ∷ []) (sink ∷ [])) ⌝ }
     requires room { ⌜ at + 23199 ≤ length (now out) ⌝ }
-    ensures { λ r. ⌜ Shown (networkOf n (now (tails .entry)) (now (heads .entry)) (now (capacities .entry)) (source ∷ []) (sink ∷ [])) (verdictOn (networkOf n (now (tails .entry)) (now (heads .entry)) (now (capacities .entry)) (source ∷ []) (sink ∷ []))) (now (out .entry)) at (now (out .exit)) r ⌝ }
+    ensures { λ r. ⌜ Shown (networkOf n (now (tails .entry)) (now (heads .entry)) (now (capacities .entry)) (source ∷ []) (sink ∷ [])) (verdictHeld (networkOf n (now (tails .entry)) (now (heads .entry)) (now (capacities .entry)) (source ∷ []) (sink ∷ []))) (now (out .entry)) at (now (out .exit)) r ⌝ }
 {
     let sources = [source];
     let sinks = [sink];

@@ -3,21 +3,20 @@ use crate::put::put;
 use crate::put::put_number;
 use method::Answer;
 use network::Refusal;
-use network::numbers::number;
-use network::numbers::place;
+use network::numbers::code;
 ghost use mathlib.Core.List.{[], _∷_};
 ghost use Prim.Native.Nat.{_+_, _*_, _^_, _≤_, _<_};
 ghost use lib.ListN.{length};
 ghost use Rattle.report.specs.Decimal.{decimal};
 ghost use Rattle.report.specs.Listing.{answerRows, refusalRow};
 ghost use Rattle.report.specs.Put.{Put};
-ghost use Rattle.report.specs.Row.{joined, row};
+ghost use Rattle.report.specs.Row.{delimited, row};
 ghost use Rattle.dimacs.specs.Text.{bytes};
 
 // The last two fields and the end of a row.
 fn put_fraction(out: &mut [u8], at: usize, upper: u64, lower: u64) -> usize
     requires { ⌜ at + 43 ≤ length (now out) ⌝ }
-    ensures { λ r. ⌜ Put (joined (decimal upper) (decimal lower ∷ [])) (now (out .entry)) at (now (out .exit)) r ⌝ }
+    ensures { λ r. ⌜ Put (delimited (decimal upper) (decimal lower ∷ [])) (now (out .entry)) at (now (out .exit)) r ⌝ }
 {
     let mut next = put_number(out, at, upper);
     next = put(out, next, b",");
@@ -63,7 +62,6 @@ pub fn put_refusal(out: &mut [u8], at: usize, why: Refusal) -> usize
     requires { ⌜ at + 53 ≤ length (now out) ⌝ }
     ensures { λ r. ⌜ Put (refusalRow why) (now (out .entry)) at (now (out .exit)) r ⌝ }
 {
-    let number = number(why);
-    let place = place(why);
-    put_row(out, at, b"refused", number, place)
+    let c = code(why);
+    put_row(out, at, b"refused", c.number, c.place)
 }

@@ -14,7 +14,7 @@ use Rattle.tables.specs.Tables.{weightOf}
 use Rattle.step.specs.declared.Progress.{Progress}
 use Rattle.run.specs.Noted.{Noted}
 use Rattle.step.specs.Progress.{stateOf, begun, begunWith}
-use Rattle.run.specs.Runs.{Lent}
+use Rattle.run.specs.Runs.{Lent, Chooses}
 use Rattle.run.proofs.Noted.{weight-same}
 use Rattle.run.proofs.Running.{Running, running-start}
 
@@ -42,5 +42,5 @@ module _ (net : Network) (q : ℕ) (lent : Lent net q) (L F Y K : List ℕ) (sta
     unfolding weight
     begin-noted t e = record { threshold = e; weight = ap (λ x. x .weight) h ∙ weight-same net L (lent .capacities) }
 
-    pub begin-running : Running net q (stateOf L F Y K r)
-    begin-running = rw (h, start) (running-start net q (lent .sound))
+    pub begin-running : Chooses net → Running net q (stateOf L F Y K r)
+    begin-running chooses = rw (h, start) (running-start net q (lent .sound) chooses)

@@ -13,8 +13,8 @@ use Rattle.network.specs.Network.{Network, arcs}
 use Rattle.network.specs.Sound.{Sound}
 use Rattle.method.specs.Iteration.{State, initial, iteration}
 use Rattle.method.specs.Run.{ended, runs, run}
-use Rattle.method.proofs.Ends.{next-count, next-valid}
-use Rattle.method.proofs.Reached.{Reached, reached-start, not-ended}
+use Rattle.method.specs.Underway.{Underway}
+use Rattle.method.proofs.Ends.{next-count, underway-start, underway-next, underway-reached}
 use Rattle.method.proofs.Sized.{reached-count}
 use Rattle.run.specs.Runs.{Chooses}
 
@@ -24,25 +24,25 @@ left net q s = arcs net * threshold (arcs net) q - s .count
 
 -- The run goes on from here as the definition's does.
 pub record Running (net : Network) (q : ℕ) (s : State) : Type 0 where
-  pub reached : Reached net q s
+  pub underway : Underway net q s
   pub rest : runs net q (left net q s) s ≡ run net q
 
-module _ (net : Network) (q : ℕ) (sound : Sound net q) where
+module _ (net : Network) (q : ℕ) (sound : Sound net q) (chooses : Chooses net) where
   pub running-start : Running net q (initial net)
   unfolding run initial
   running-start =
-      record { reached = reached-start net q sound; rest = ap (λ n. runs net q n (initial net)) (sub-zero (arcs net * threshold (arcs net) q)) }
+      record { underway = underway-start net q sound chooses; rest = ap (λ n. runs net q n (initial net)) (sub-zero (arcs net * threshold (arcs net) q)) }
 
-  module _ (chooses : Chooses net) (s : State) (r : Running net q s) where
+  module _ (s : State) (r : Running net q s) where
     abbrev t : State
     t = iteration net q s
 
     -- One iteration less is left.
     pub running-less : left net q t < left net q s
-    running-less = omega (arith, next-count net q sound chooses s, reached-count net q sound s (r .reached))
+    running-less = omega (arith, next-count net q sound chooses s, reached-count net q sound s (underway-reached net q sound chooses s (r .underway)))
 
     split : left net q s ≡ suc (left net q t)
-    split = omega (arith, next-count net q sound chooses s, reached-count net q sound s (r .reached))
+    split = omega (arith, next-count net q sound chooses s, reached-count net q sound s (underway-reached net q sound chooses s (r .underway)))
 
     after : (b : Bool) → ended net q t ≡ b → runs net q (suc (left net q t)) s ≡ elim b [ true ↦ t | false ↦ runs net q (left net q t) t ]
     unfolding runs
@@ -56,10 +56,7 @@ module _ (net : Network) (q : ℕ) (sound : Sound net q) where
 
     pub running-next : ended net q t ≡ false → Running net q t
     running-next h =
-        record {
-          reached = record { valid = next-valid net q sound chooses s (r .reached .valid); below = not-ended net q sound t h };
-          rest = whole false h;
-        }
+        record { underway = underway-next net q sound chooses s (r .underway) h; rest = whole false h }
 
 -- The test of the loads that the program makes is the definition's.
 pub ended-is :

@@ -6,7 +6,7 @@ use Rattle.length.specs.Level.{threshold}
 use Rattle.network.specs.Network.{Network, arcs}
 use Rattle.method.specs.Iteration.{State, weight, iteration}
 use Rattle.method.specs.Run.{ended}
-use Rattle.method.proofs.Reached.{Reached}
+use Rattle.method.specs.Underway.{Underway}
 use Rattle.step.specs.declared.Progress.{Progress}
 use Rattle.step.specs.Progress.{stateOf}
 use Rattle.run.specs.Runs.{Bounding, Chooses}
@@ -26,7 +26,7 @@ pub record Iterated (net : Network) (q : ℕ) (s : State) (lengths flow loads ke
 pub record Iterating (net : Network) (q t : ℕ) (bounds : List ℕ) (s : State) (p : Progress) : Type 0 where
   pub below : Bounding net (s .lengths) bounds
   pub chooses : Chooses net
-  pub reached : Reached net q s
+  pub underway : Underway net q s
   pub noted : Noted net q t (s .lengths) p
 
 -- And all that it leaves, the bounds among it.

@@ -9,7 +9,7 @@ use native.Mathlib.Omega.{arith}
 use lib.Dec.{eqb}
 use lib.ListN.{length, getD}
 use Rattle.arith.specs.Lists.{exists}
-use Rattle.method.proofs.Times.{times}
+use Rattle.arith.specs.Times.{times}
 use Rattle.tables.specs.Tables.{Capacities}
 use Rattle.tables.specs.Calls.{Growing, Weighing, Settling, Adding, Ending, Loading, Ranking}
 

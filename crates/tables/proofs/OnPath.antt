@@ -9,8 +9,9 @@ use lib.ListN.{length, getD, take}
 use Rattle.method.specs.Iteration.{draw}
 use Rattle.method.proofs.Changed.{update-other}
 use Rattle.method.proofs.Draws.{draw-within}
-use Rattle.method.proofs.Times.{times, once-same, Below, none, also}
-use Rattle.tables.specs.Tables.{Under, Within}
+use Rattle.arith.specs.Times.{times}
+use Rattle.method.proofs.Times.{once-same, Below, none, also}
+use Rattle.tables.specs.Tables.{Under, NoneAbove}
 use Rattle.tables.proofs.Followed.{Following}
 
 -- A path has the arc at its place j,
@@ -39,7 +40,7 @@ pub draw-at : (capacities p : List ℕ) (j : ℕ) → j < length p → draw capa
 draw-at capacities p j l = draw-within capacities p (getD p j 0) (times-at p j l)
 
 -- and so at most 1000.
-pub draw-most : (capacities p : List ℕ) → 1 ≤ length p → Under (length capacities) p → Within 1000 capacities → draw capacities p ≤ 1000
+pub draw-most : (capacities p : List ℕ) → 1 ≤ length p → Under (length capacities) p → NoneAbove 1000 capacities → draw capacities p ≤ 1000
 draw-most capacities p l u w = le-trans (draw-at capacities p 0 l) (w (getD p 0 0) (u 0 l))
 
 -- The theory says by `Below` that all arcs are among n, the contracts by their places.

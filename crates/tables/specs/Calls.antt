@@ -5,49 +5,50 @@ use mathlib.Core.Bool.{false}
 use mathlib.Core.List.{List}
 use Prim.Native.Nat.{ℕ, _+_, _^_, _≤_, _<_}
 use lib.ListN.{length, getD}
-use Rattle.method.proofs.Times.{times}
-use Rattle.tables.specs.Tables.{Under, Within, Capacities, atThreshold}
+use Rattle.bounds.specs.Bounds.{mostNodes, mostArcs, mostCapacity, leastPrecision, mostPrecision}
+use Rattle.arith.specs.Times.{times}
+use Rattle.tables.specs.Tables.{Under, NoneAbove, Capacities, atThreshold}
 
 -- Growth along a path at precision q by the draw g, no more than the capacities on it. The path has no arc twice, so that each length is below
 -- the mark, document 01's 2^40, when it grows.
 pub record Growing (lengths capacities : List ℕ) (q g : ℕ) (path : List ℕ) : Type 0 where
   pub same : length lengths ≡ length capacities
-  pub coarsest : 4 ≤ q
-  pub finest : q ≤ 16
+  pub coarsest : leastPrecision ≤ q
+  pub finest : q ≤ mostPrecision
   pub places : Under (length capacities) path
   pub once : (e : ℕ) → times e path ≤ 1
   pub drawn : (j : ℕ) → j < length path → g ≤ getD capacities (getD path j 0) 0
-  pub few : length path ≤ 64
-  pub arcs : length capacities ≤ 256
+  pub few : length path ≤ mostNodes
+  pub arcs : length capacities ≤ mostArcs
   pub sizes : Capacities capacities
   pub short : Under (2 ^ 40) lengths
 
 -- D's sum over all arcs.
 pub record Weighing (capacities lengths : List ℕ) : Type 0 where
   pub same : length lengths ≡ length capacities
-  pub few : length capacities ≤ 256
-  pub sizes : Within 1000 capacities
-  pub short : Within (2 ^ 40) lengths
+  pub few : length capacities ≤ mostArcs
+  pub sizes : NoneAbove mostCapacity capacities
+  pub short : NoneAbove (2 ^ 40) lengths
 
 -- Grown lengths, to be halved if one is at the mark.
 pub record Settling (capacities lengths : List ℕ) : Type 0 where
   pub same : length lengths ≡ length capacities
-  pub arcs : length capacities ≤ 256
-  pub sizes : Within 1000 capacities
+  pub arcs : length capacities ≤ mostArcs
+  pub sizes : NoneAbove mostCapacity capacities
   pub grown : Under (2 ^ 41) lengths
 
 -- A draw g added at each place of a path, counted from base. Amounts stay far below 2^32, and a path has fewer arcs than there are nodes.
 pub record Adding (table : List ℕ) (base : ℕ) (path : List ℕ) (g : ℕ) : Type 0 where
   pub places : (j : ℕ) → j < length path → base + getD path j 0 < length table
   pub amounts : Under (2 ^ 32) table
-  pub small : g ≤ 1000
-  pub few : length path ≤ 64
+  pub small : g ≤ mostCapacity
+  pub few : length path ≤ mostNodes
 
 -- Loads compared with the threshold times the capacities.
 pub record Ending (loads capacities : List ℕ) (threshold : ℕ) : Type 0 where
   pub same : length loads ≡ length capacities
   pub small : threshold ≤ 2 ^ 20
-  pub sizes : Within 1000 capacities
+  pub sizes : NoneAbove mostCapacity capacities
 
 -- A draw g added to the loads along a path, while no load is at the threshold.
 pub record Loading (loads capacities : List ℕ) (threshold : ℕ) (path : List ℕ) (g : ℕ) : Type 0 where
@@ -60,4 +61,4 @@ pub record Ranking (loads capacities : List ℕ) : Type 0 where
   pub some : 1 ≤ length loads
   pub same : length loads ≡ length capacities
   pub amounts : Under (2 ^ 32) loads
-  pub sizes : Within 1000 capacities
+  pub sizes : NoneAbove mostCapacity capacities

@@ -4,12 +4,12 @@ use mathlib.Core.List.{List, _++_, append-nil}
 use Prim.Native.Nat.{ℕ}
 use native.Mathlib.Nat.{le-of-eq}
 use lib.ListN.{length, drop, drop-of-length-le}
-use Rattle.network.specs.Verdict.{firstRow, itemRows}
+use Rattle.network.specs.Verdict.{verdict, itemConditions}
 use Rattle.numbers.specs.Numbers.{items, column}
 use Rattle.numbers.proofs.Columns.{length-column}
 use Rattle.run.specs.Runs.{networkOf}
 use Rattle.vithmork.specs.Decode.{Sizable}
-use Rattle.vithmork.specs.Host.{networkIn, Served}
+use Rattle.vithmork.specs.Host.{networkIn, Slices, Served}
 use Rattle.vithmork.specs.Judge.{Judging}
 
 -- A table that is filled whole.
@@ -20,21 +20,19 @@ filled xs out n h = rw (drop-of-length-le out {i = n} (le-of-eq h), append-nil) 
 pub column-of : (s out : List ℕ) (k j n : ℕ) → length out ≡ items k s → n ≡ items k s → column s k j n ++ drop n out ≡ column s k j (items k s)
 column-of s out k j n h e = rw e (filled (column s k j (items k s)) out (items k s) h)
 
-pub judging :
-    (n q : ℕ) (belts pairs flow lengths answer running : List ℕ) (total : ℕ) → Sizable n q belts pairs flow lengths answer running total →
-    Judging (networkIn n belts pairs) q flow lengths answer running total
+pub judging : (n q : ℕ) (belts pairs : List ℕ) (s : Slices) → Sizable n q belts pairs s → Judging (networkIn n belts pairs) q s
 unfolding networkIn
-judging n q belts pairs flow lengths answer running total z =
+judging n q belts pairs s z =
     let m = items 3 belts in
     let k = items 2 pairs in
-    let t = length-column belts 3 0 m in
-    let s = length-column pairs 2 0 k in
+    let tails = length-column belts 3 0 m in
+    let sources = length-column pairs 2 0 k in
     record {
-      heads = rw (length-column belts 3 1 m, t) refl;
-      capacities = rw (length-column belts 3 2 m, t) refl;
-      sinks = rw (length-column pairs 2 1 k, s) refl;
-      counts = rw (t, s) (z .counts);
-      open-for = record { room = rw (t, s) (z .room); full = z .full };
+      heads = rw (length-column belts 3 1 m, tails) refl;
+      capacities = rw (length-column belts 3 2 m, tails) refl;
+      sinks = rw (length-column pairs 2 1 k, sources) refl;
+      counts = rw (tails, sources) (z .counts);
+      open-for = rw (tails, sources) (z .open-for);
     }
 
 -- The tables hold the columns of the bytes.
@@ -50,15 +48,13 @@ module _ {belts pairs tails heads capacities sources sinks : List ℕ} (k : Colu
   unfolding networkIn
   decoded = rw (k .of-tails, k .of-heads, k .of-capacities, k .of-sources, k .of-sinks) refl
 
-  pub judging-of :
-      (flow lengths answer running : List ℕ) (total : ℕ) → Sizable n q belts pairs flow lengths answer running total →
-      Judging (networkOf n tails heads capacities sources sinks) q flow lengths answer running total
-  judging-of flow lengths answer running total z = rw decoded (judging n q belts pairs flow lengths answer running total z)
+  pub judging-of : (s : Slices) → Sizable n q belts pairs s → Judging (networkOf n tails heads capacities sources sinks) q s
+  judging-of s z = rw decoded (judging n q belts pairs s z)
 
   pub served-of :
-      {total result : ℕ} {flow lengths answer running flow' lengths' answer' running' : List ℕ} →
+      {result : ℕ} {old new : Slices} →
       let net = networkOf n tails heads capacities sources sinks in
-      Served net q (firstRow (itemRows net)) total flow lengths answer running flow' lengths' answer' running' result →
+      Served net q (verdict (itemConditions net)) old new result →
       let net' = networkIn n belts pairs in
-      Served net' q (firstRow (itemRows net')) total flow lengths answer running flow' lengths' answer' running' result
+      Served net' q (verdict (itemConditions net')) old new result
   served-of h = rw decoded at h

@@ -2,10 +2,10 @@
 use mathlib.Core.Path.{_≡_, refl}
 use mathlib.Core.List.{List, [], _∷_, append-nil}
 use Prim.Native.Nat.{ℕ}
-use Rattle.numbers.specs.Digits.{digits}
+use Rattle.numbers.specs.Digits.{toBytes}
 use Rattle.numbers.specs.Numbers.{encode, written}
 use Rattle.numbers.specs.Parts.{putAt}
 
 pub put-first : (s : List ℕ) (x : ℕ) → putAt s 0 x ≡ written s (x ∷ [])
 unfolding putAt written encode
-put-first s x = rw (append-nil (digits 8 x)) refl
+put-first s x = rw (append-nil (toBytes 8 x)) refl

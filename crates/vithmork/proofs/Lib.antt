@@ -3,3 +3,4 @@ pub mod Decoded
 pub mod First
 pub mod Hosts
 pub mod Judged
+pub mod ReadBack

@@ -1,7 +1,10 @@
 // A call whose sizes have passed: its network read out of the byte slices.
 use crate::judge::judge;
-ghost use Rattle.network.specs.Verdict.{firstRow, itemRows};
+use bounds::MOST_ARCS;
+use bounds::MOST_COMMODITIES;
+ghost use Rattle.network.specs.Verdict.{verdict, itemConditions};
 ghost use Rattle.vithmork.specs.Decode.{Sizable, Placed};
+ghost use Rattle.vithmork.specs.Deliver.{slices};
 ghost use Rattle.vithmork.specs.Host.{networkIn, Served};
 
 // The network read into lent work space of its size.
@@ -10,7 +13,6 @@ fn decode_in(
     q: u64,
     belts: &[u8],
     pairs: &[u8],
-    running: u64,
     tails: &mut [u64],
     heads: &mut [u64],
     capacities: &mut [u64],
@@ -19,11 +21,11 @@ fn decode_in(
     flow: &mut [u8],
     lengths: &mut [u8],
     answer: &mut [u8],
-    table: &mut [u8],
+    running: &mut [u8],
 ) -> u64
-    requires sizes { ⌜ Sizable n q (now belts) (now pairs) (now flow) (now lengths) (now answer) (now table) running ⌝ }
+    requires sizes { ⌜ Sizable n q (now belts) (now pairs) (slices (now flow) (now lengths) (now answer) (now running)) ⌝ }
     requires places { ⌜ Placed (now belts) (now pairs) (now tails) (now heads) (now capacities) (now sources) (now sinks) ⌝ }
-    ensures { λ r. ⌜ Served (networkIn n (now (belts .entry)) (now (pairs .entry))) q (firstRow (itemRows (networkIn n (now (belts .entry)) (now (pairs .entry))))) running (now (flow .entry)) (now (lengths .entry)) (now (answer .entry)) (now (table .entry)) (now (flow .exit)) (now (lengths .exit)) (now (answer .exit)) (now (table .exit)) r ⌝ }
+    ensures { λ r. ⌜ Served (networkIn n (now (belts .entry)) (now (pairs .entry))) q (verdict (itemConditions (networkIn n (now (belts .entry)) (now (pairs .entry))))) (slices (now (flow .entry)) (now (lengths .entry)) (now (answer .entry)) (now (running .entry))) (slices (now (flow .exit)) (now (lengths .exit)) (now (answer .exit)) (now (running .exit))) r ⌝ }
 {
     let m = tails.len();
     let k = sources.len();
@@ -40,11 +42,10 @@ fn decode_in(
         capacities,
         sources,
         sinks,
-        running,
         flow,
         lengths,
         answer,
-        table,
+        running,
     )
 }
 
@@ -54,28 +55,26 @@ pub fn decode(
     q: u64,
     belts: &[u8],
     pairs: &[u8],
-    running: u64,
     flow: &mut [u8],
     lengths: &mut [u8],
     answer: &mut [u8],
-    table: &mut [u8],
+    running: &mut [u8],
 ) -> u64
-    requires { ⌜ Sizable n q (now belts) (now pairs) (now flow) (now lengths) (now answer) (now table) running ⌝ }
-    ensures { λ r. ⌜ Served (networkIn n (now (belts .entry)) (now (pairs .entry))) q (firstRow (itemRows (networkIn n (now (belts .entry)) (now (pairs .entry))))) running (now (flow .entry)) (now (lengths .entry)) (now (answer .entry)) (now (table .entry)) (now (flow .exit)) (now (lengths .exit)) (now (answer .exit)) (now (table .exit)) r ⌝ }
+    requires { ⌜ Sizable n q (now belts) (now pairs) (slices (now flow) (now lengths) (now answer) (now running)) ⌝ }
+    ensures { λ r. ⌜ Served (networkIn n (now (belts .entry)) (now (pairs .entry))) q (verdict (itemConditions (networkIn n (now (belts .entry)) (now (pairs .entry))))) (slices (now (flow .entry)) (now (lengths .entry)) (now (answer .entry)) (now (running .entry))) (slices (now (flow .exit)) (now (lengths .exit)) (now (answer .exit)) (now (running .exit))) r ⌝ }
 {
     let m = numbers::items(belts, 3);
     let k = numbers::items(pairs, 2);
-    let mut tails = [0u64; 256];
-    let mut heads = [0u64; 256];
-    let mut capacities = [0u64; 256];
-    let mut sources = [0u64; 32];
-    let mut sinks = [0u64; 32];
+    let mut tails = [0u64; MOST_ARCS];
+    let mut heads = [0u64; MOST_ARCS];
+    let mut capacities = [0u64; MOST_ARCS];
+    let mut sources = [0u64; MOST_COMMODITIES];
+    let mut sinks = [0u64; MOST_COMMODITIES];
     decode_in(
         n,
         q,
         belts,
         pairs,
-        running,
         &mut tails[..m],
         &mut heads[..m],
         &mut capacities[..m],
@@ -84,6 +83,6 @@ pub fn decode(
         flow,
         lengths,
         answer,
-        table,
+        running,
     )
 }

@@ -1,18 +1,22 @@
 // An accepted call: the outcome written into the lent tables.
+use bounds::ANSWER_NUMBERS;
+use bounds::MOST_ARCS;
+use bounds::MOST_COMMODITIES;
 use method::Answer;
 ghost use mathlib.Core.Path.{_≡_};
 ghost use mathlib.Core.List.{[], _∷_};
 ghost use Prim.Native.Nat.{_+_, _*_, _≤_, _<_, _^_};
 ghost use lib.ListN.{length};
-ghost use Rattle.numbers.specs.Numbers.{count, written};
+ghost use Rattle.bounds.specs.Bounds.{answerNumbers};
+ghost use Rattle.numbers.specs.Numbers.{count, numberAt, written};
 ghost use Rattle.method.specs.Answer.{numbersOf};
 ghost use Rattle.run.specs.Runs.{networkOf, Lent};
 ghost use Rattle.solver.specs.Solved.{Solving};
-ghost use Rattle.vithmork.specs.Deliver.{Open, Delivered};
+ghost use Rattle.vithmork.specs.Deliver.{slices, Open, Delivered};
 
 // The seven numbers of the answer.
 fn put_answer(a: Answer, answer: &mut [u8])
-    requires { ⌜ 7 ≤ count (now answer) ⌝ }
+    requires { ⌜ answerNumbers ≤ count (now answer) ⌝ }
     ensures { λ r. ⌜ now (answer .exit) ≡ written (now (answer .entry)) (numbersOf a) ⌝ }
 {
     let seven = [
@@ -24,15 +28,16 @@ fn put_answer(a: Answer, answer: &mut [u8])
         a.count,
         a.best,
     ];
-    numbers::write_all(answer, &seven, 7);
+    numbers::write_all(answer, &seven, ANSWER_NUMBERS);
 }
 
 // The running count raised by the iterations.
-fn put_count(running: u64, iterations: u64, table: &mut [u8])
-    requires { ⌜ (1 ≤ count (now table)) × (running + iterations < 2 ^ 64) ⌝ }
-    ensures { λ r. ⌜ now (table .exit) ≡ written (now (table .entry)) ((running + iterations) ∷ []) ⌝ }
+fn raise_count(iterations: u64, running: &mut [u8])
+    requires { ⌜ (1 ≤ count (now running)) × (numberAt (now running) 0 + iterations < 2 ^ 64) ⌝ }
+    ensures { λ r. ⌜ now (running .exit) ≡ written (now (running .entry)) ((numberAt (now (running .entry)) 0 + iterations) ∷ []) ⌝ }
 {
-    numbers::write(table, 0, running + iterations);
+    let sum = numbers::read(running, 0) + iterations;
+    numbers::write(running, 0, sum);
 }
 
 // The outcome solved in lent work space of its size, and written.
@@ -44,23 +49,22 @@ fn deliver_in(
     capacities: &[u64],
     sources: &[u64],
     sinks: &[u64],
-    running: u64,
     flows: &mut [u64],
     kept: &mut [u64],
     flow: &mut [u8],
     lengths: &mut [u8],
     answer: &mut [u8],
-    table: &mut [u8],
+    running: &mut [u8],
 )
     requires solving { ⌜ Solving (networkOf n (now tails) (now heads) (now capacities) (now sources) (now sinks)) q (now flows) (now kept) ⌝ }
-    requires room { ⌜ Open (networkOf n (now tails) (now heads) (now capacities) (now sources) (now sinks)) (now flow) (now lengths) (now answer) (now table) running ⌝ }
-    ensures { λ r. ⌜ Delivered (networkOf n (now (tails .entry)) (now (heads .entry)) (now (capacities .entry)) (now (sources .entry)) (now (sinks .entry))) q running (now (flow .entry)) (now (lengths .entry)) (now (answer .entry)) (now (table .entry)) (now (flow .exit)) (now (lengths .exit)) (now (answer .exit)) (now (table .exit)) ⌝ }
+    requires room { ⌜ Open (length (now sources)) (length (now tails)) (slices (now flow) (now lengths) (now answer) (now running)) ⌝ }
+    ensures { λ r. ⌜ Delivered (networkOf n (now (tails .entry)) (now (heads .entry)) (now (capacities .entry)) (now (sources .entry)) (now (sinks .entry))) q (slices (now (flow .entry)) (now (lengths .entry)) (now (answer .entry)) (now (running .entry))) (slices (now (flow .exit)) (now (lengths .exit)) (now (answer .exit)) (now (running .exit))) ⌝ }
 {
     let a = solver::solves::solve(n, q, tails, heads, capacities, sources, sinks, flows, kept);
     numbers::write_all(flow, flows, flows.len());
     numbers::write_all(lengths, kept, kept.len());
     put_answer(a, answer);
-    put_count(running, a.count, table);
+    raise_count(a.count, running);
 }
 
 // The outcome solved and written.
@@ -72,20 +76,19 @@ pub fn deliver(
     capacities: &[u64],
     sources: &[u64],
     sinks: &[u64],
-    running: u64,
     flow: &mut [u8],
     lengths: &mut [u8],
     answer: &mut [u8],
-    table: &mut [u8],
+    running: &mut [u8],
 )
     requires lent { ⌜ Lent (networkOf n (now tails) (now heads) (now capacities) (now sources) (now sinks)) q ⌝ }
-    requires room { ⌜ Open (networkOf n (now tails) (now heads) (now capacities) (now sources) (now sinks)) (now flow) (now lengths) (now answer) (now table) running ⌝ }
-    ensures { λ r. ⌜ Delivered (networkOf n (now (tails .entry)) (now (heads .entry)) (now (capacities .entry)) (now (sources .entry)) (now (sinks .entry))) q running (now (flow .entry)) (now (lengths .entry)) (now (answer .entry)) (now (table .entry)) (now (flow .exit)) (now (lengths .exit)) (now (answer .exit)) (now (table .exit)) ⌝ }
+    requires room { ⌜ Open (length (now sources)) (length (now tails)) (slices (now flow) (now lengths) (now answer) (now running)) ⌝ }
+    ensures { λ r. ⌜ Delivered (networkOf n (now (tails .entry)) (now (heads .entry)) (now (capacities .entry)) (now (sources .entry)) (now (sinks .entry))) q (slices (now (flow .entry)) (now (lengths .entry)) (now (answer .entry)) (now (running .entry))) (slices (now (flow .exit)) (now (lengths .exit)) (now (answer .exit)) (now (running .exit))) ⌝ }
 {
     let m = tails.len();
     let size = sources.len() * m;
-    let mut flows = [0u64; 8192];
-    let mut kept = [0u64; 256];
+    let mut flows = [0u64; MOST_COMMODITIES * MOST_ARCS];
+    let mut kept = [0u64; MOST_ARCS];
     deliver_in(
         n,
         q,
@@ -94,12 +97,11 @@ pub fn deliver(
         capacities,
         sources,
         sinks,
-        running,
         &mut flows[..size],
         &mut kept[..m],
         flow,
         lengths,
         answer,
-        table,
+        running,
     );
 }

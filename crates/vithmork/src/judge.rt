@@ -4,8 +4,9 @@ use network::Verdict;
 use network::checks::check_arcs;
 use network::checks::check_commodities;
 use network::numbers::host_number;
-ghost use Rattle.network.specs.Verdict.{firstRow, itemRows};
+ghost use Rattle.network.specs.Verdict.{verdict, itemConditions};
 ghost use Rattle.run.specs.Runs.{networkOf};
+ghost use Rattle.vithmork.specs.Deliver.{slices};
 ghost use Rattle.vithmork.specs.Host.{Served};
 ghost use Rattle.vithmork.specs.Judge.{Judging};
 
@@ -17,14 +18,13 @@ pub fn judge(
     capacities: &[u64],
     sources: &[u64],
     sinks: &[u64],
-    running: u64,
     flow: &mut [u8],
     lengths: &mut [u8],
     answer: &mut [u8],
-    table: &mut [u8],
+    running: &mut [u8],
 ) -> u64
-    requires { ⌜ Judging (networkOf n (now tails) (now heads) (now capacities) (now sources) (now sinks)) q (now flow) (now lengths) (now answer) (now table) running ⌝ }
-    ensures { λ r. ⌜ Served (networkOf n (now (tails .entry)) (now (heads .entry)) (now (capacities .entry)) (now (sources .entry)) (now (sinks .entry))) q (firstRow (itemRows (networkOf n (now (tails .entry)) (now (heads .entry)) (now (capacities .entry)) (now (sources .entry)) (now (sinks .entry))))) running (now (flow .entry)) (now (lengths .entry)) (now (answer .entry)) (now (table .entry)) (now (flow .exit)) (now (lengths .exit)) (now (answer .exit)) (now (table .exit)) r ⌝ }
+    requires { ⌜ Judging (networkOf n (now tails) (now heads) (now capacities) (now sources) (now sinks)) q (slices (now flow) (now lengths) (now answer) (now running)) ⌝ }
+    ensures { λ r. ⌜ Served (networkOf n (now (tails .entry)) (now (heads .entry)) (now (capacities .entry)) (now (sources .entry)) (now (sinks .entry))) q (verdict (itemConditions (networkOf n (now (tails .entry)) (now (heads .entry)) (now (capacities .entry)) (now (sources .entry)) (now (sinks .entry))))) (slices (now (flow .entry)) (now (lengths .entry)) (now (answer .entry)) (now (running .entry))) (slices (now (flow .exit)) (now (lengths .exit)) (now (answer .exit)) (now (running .exit))) r ⌝ }
 {
     let arcs = check_arcs(n, tails, heads, capacities);
     if let Verdict::Refused(_) = arcs {
@@ -42,11 +42,10 @@ pub fn judge(
         capacities,
         sources,
         sinks,
-        running,
         flow,
         lengths,
         answer,
-        table,
+        running,
     );
     0
 }

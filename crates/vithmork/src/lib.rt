@@ -2,24 +2,12 @@
 mod decode;
 mod deliver;
 mod judge;
+mod room;
 
-use network::Tables;
 use network::Verdict;
 use network::checks::check_sizes;
 use network::numbers::host_number;
-ghost use mathlib.Core.Path.{_≡_};
-ghost use Rattle.vithmork.specs.Host.{runningIn, Hosted};
-
-// The running count, where its slice holds one.
-fn running_in(count: &[u8]) -> u64
-    ensures { λ r. ⌜ r ≡ runningIn (now (count .entry)) ⌝ }
-{
-    if 0 < numbers::count(count) {
-        numbers::read(count, 0)
-    } else {
-        0
-    }
-}
+ghost use Rattle.vithmork.specs.Host.{Hosted};
 
 // Solves the floor in the byte slices: 0 and the tables written, or a refusal's number * 1,000 + its place and no byte changed.
 #[no_mangle]
@@ -29,28 +17,21 @@ pub extern "C" fn vithmork_solve(
     belts: &[u8],
     pairs: &[u8],
     flow: &mut [u8],
-    length: &mut [u8],
+    lengths: &mut [u8],
     answer: &mut [u8],
-    count: &mut [u8],
+    running: &mut [u8],
 ) -> u64
-    ensures { λ r. ⌜ Hosted n q (now (belts .entry)) (now (pairs .entry)) (now (flow .entry)) (now (length .entry)) (now (answer .entry)) (now (count .entry)) (now (flow .exit)) (now (length .exit)) (now (answer .exit)) (now (count .exit)) r ⌝ }
+    ensures { λ r. ⌜ Hosted n q (now (belts .entry)) (now (pairs .entry)) (record { flow = now (flow .entry); lengths = now (lengths .entry); answer = now (answer .entry); running = now (running .entry) }) (record { flow = now (flow .exit); lengths = now (lengths .exit); answer = now (answer .exit); running = now (running .exit) }) r ⌝ }
 {
     let m = numbers::items(belts, 3);
     let k = numbers::items(pairs, 2);
-    let flows = numbers::count(flow);
-    let lengths = numbers::count(length);
-    let answers = numbers::count(answer);
-    let counts = numbers::count(count);
-    let tables = Tables {
-        flow: flows,
-        length: lengths,
-        answer: answers,
-        count: counts,
-    };
-    let running = running_in(count);
-    let sizes = check_sizes(n, m, k, q, tables, running);
+    let sizes = check_sizes(n, m, k, q);
     if let Verdict::Refused(_) = sizes {
         return host_number(sizes);
     }
-    decode::decode(n, q, belts, pairs, running, flow, length, answer, count)
+    let lent = room::check_tables(k, m, flow, lengths, answer, running);
+    if let Verdict::Refused(_) = lent {
+        return host_number(lent);
+    }
+    decode::decode(n, q, belts, pairs, flow, lengths, answer, running)
 }

@@ -6,7 +6,7 @@ use denote.Ref.{now}
 use Prim.Native.Nat.{_/_, _%_}
 use native.Mathlib.Omega.{arith}
 use lib.ListN.{length-set}
-use Rattle.numbers.specs.Digits.{digits}
+use Rattle.numbers.specs.Digits.{toBytes}
 use Rattle.numbers.proofs.Splices.{splice-pair}
 use Rattle.numbers.proofs.put_two.Statement.{statement}
 use Rattle.numbers.proofs.put_two.Tie as tie
@@ -15,7 +15,7 @@ slice-write-s-2 : tie.Need-slice-write-s-2
 slice-write-s-2 c = simp length-set (omega arith)
 
 returns : tie.Need-returns
-unfolding digits
+unfolding toBytes
 returns c =
     let start = c .before .before .before in
     let x = start .args .x in

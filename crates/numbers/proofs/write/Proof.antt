@@ -4,14 +4,14 @@ use borrow.Author.Needs.{needs}
 use denote.Ref.{now}
 use Prim.Native.Nat.{_*_}
 use native.Mathlib.Omega.{arith}
-use Rattle.numbers.specs.Digits.{digits}
+use Rattle.numbers.specs.Digits.{toBytes}
 use Rattle.numbers.specs.Parts.{putAt}
 use Rattle.numbers.proofs.Splices.{splice-digits}
 use Rattle.numbers.proofs.write.Statement.{statement}
 use Rattle.numbers.proofs.write.Tie as tie
 
 returns : tie.Need-returns
-unfolding putAt digits
+unfolding putAt toBytes
 returns c =
     let start = c .before .before .before .before .before .before .before .before .before in
     rw (c .before .before .put-four2 .ensures, c .before .before .before .before .before .before .put-four .ensures)

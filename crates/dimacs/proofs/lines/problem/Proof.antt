@@ -7,7 +7,8 @@ use mathlib.Core.Option.{some}
 use Prim.Native.Nat.{ℕ}
 use borrow.Author.Tests.{not-true, not-false}
 use borrow.Author.Needs.{needs}
-use Rattle.dimacs.specs.Meaning.{word, same, shaped, given}
+use Rattle.arith.specs.Lists.{same}
+use Rattle.dimacs.specs.Meaning.{word, shaped, given}
 use Rattle.dimacs.specs.Number.{numberOf}
 use Rattle.dimacs.specs.Pieces.{wordsOf}
 use Rattle.dimacs.proofs.Meant.{problem-by, number-is}

@@ -2,7 +2,7 @@
 -- Assumes nothing.
 use mathlib.Core.Path.{ap, _∙_}
 use borrow.Author.Needs.{needs}
-use Rattle.dimacs.specs.Outcome.{closing}
+use Rattle.dimacs.specs.File.{closing}
 use Rattle.dimacs.specs.Result.{resultOf}
 use Rattle.dimacs.proofs.Closed.{no-source, no-sink, arcs-missing, all-there}
 use Rattle.dimacs.proofs.reader.finish.Statement.{statement}

@@ -8,6 +8,7 @@ use borrow.Author.Needs.{needs}
 use Rattle.arith.proofs.Until.{scan-within, scan-later, scan-between}
 use Rattle.dimacs.specs.Result.{resultOf}
 use Rattle.dimacs.proofs.LineByLine.{ReadTo, none-read, line-read, all-read, long-file}
+use Rattle.dimacs.proofs.Whole.{read-whole}
 use Rattle.dimacs.proofs.reader.read.Statement.{statement}
 use Rattle.dimacs.proofs.reader.read.Tie as tie
 
@@ -18,7 +19,7 @@ abbrev μ-loop : tie.MeasureT-loop
 μ-loop text tails₀ heads₀ capacities₀ stage₀ at₀ place₀ tails heads capacities stage at place = length text - at
 
 returns : tie.Need-returns Inv-loop μ-loop
-returns c = c .refuse .ensures ∙ ap resultOf (long-file _ (omega arith))
+returns c = read-whole _ (c .refuse .ensures ∙ ap resultOf (long-file _ (omega arith)))
 
 loop-holds : tie.Need-loop-holds Inv-loop μ-loop
 loop-holds c = none-read _
@@ -64,7 +65,7 @@ finish-requires : tie.Need-finish-requires Inv-loop μ-loop
 finish-requires c κs = c .before .loop .inv .held
 
 returns-2 : tie.Need-returns-2 Inv-loop μ-loop
-returns-2 c = c .finish .ensures ∙ ap resultOf (all-read _ (omega arith) (omega arith) (c .before .before .loop .inv))
+returns-2 c = read-whole _ (c .finish .ensures ∙ ap resultOf (all-read _ (omega arith) (omega arith) (c .before .before .loop .inv)))
 
 pub read-spec : {M : Type 1} → statement M
 read-spec =

@@ -6,18 +6,19 @@ use native.Mathlib.Omega.{arith}
 use lib.ListN.{length}
 use borrow.Author.Needs.{needs}
 use Rattle.arith.specs.Lists.{upTo, flat}
+use Rattle.bounds.specs.Bounds.{mostCapacity}
 use Rattle.network.specs.Network.{Network, tail, head, capacity}
 use Rattle.network.specs.Parts.{ofArcs}
-use Rattle.network.specs.Verdict.{firstRow, loose, outside, arcRows}
+use Rattle.network.specs.Verdict.{verdict, loose, outside, arcConditions}
 use Rattle.network.proofs.Bounds.{loose-of}
-use Rattle.network.proofs.FirstRow.{row-decides, row-passed, none-left}
+use Rattle.network.proofs.First.{decides, passes, none-left}
 use Rattle.network.proofs.Search.{found, search-all, search-ends, search-stops, search-goes-on}
 use Rattle.network.proofs.checks.check_arcs.Statement.{statement}
 use Rattle.network.proofs.checks.check_arcs.Tie as tie
 
 abbrev Inv-loop : tie.InvT-loop
 Inv-loop n tails heads capacities e₀ e =
-    found (arcRows (ofArcs n tails heads capacities)) e (length tails) ≡ firstRow (flat (arcRows (ofArcs n tails heads capacities)) (upTo (length tails)))
+    found (arcConditions (ofArcs n tails heads capacities)) e (length tails) ≡ verdict (flat (arcConditions (ofArcs n tails heads capacities)) (upTo (length tails)))
 
 abbrev μ-loop : tie.MeasureT-loop
 μ-loop n tails heads capacities e₀ e = length tails - e
@@ -36,33 +37,33 @@ loose-tested : (c : tie.After-loose Inv-loop μ-loop) →
 loose-tested c = loose-of _ (c .loose .ensures) (c .before .before .at .ensures) (c .before .at2 .ensures)
 
 capacity-tested : (c : tie.After-outside Inv-loop μ-loop) →
-    c .outside .result ≡ outside 1 1000 (capacity (net (turn (c .before .before .before))) (turn (c .before .before .before) .loop .e))
-capacity-tested c = c .outside .ensures ∙ ap (outside 1 1000) (c .before .at3 .ensures)
+    c .outside .result ≡ outside 1 mostCapacity (capacity (net (turn (c .before .before .before))) (turn (c .before .before .before) .loop .e))
+capacity-tested c = c .outside .ensures ∙ ap (outside 1 mostCapacity) (c .before .at3 .ensures)
 
 loop-holds : tie.Need-loop-holds Inv-loop μ-loop
 loop-holds c = search-all _ _
 
 loop-again : tie.Need-loop-again Inv-loop μ-loop
-unfolding arcRows
+unfolding arcConditions
 loop-again c =
     search-goes-on _ _ _ (omega arith)
-    (row-passed _ _ (loose-tested (c .before .before .before .before)) (c .before .before .before .if2 .left)
-    (row-passed _ _ (capacity-tested (c .before)) (c .if3 .left) none-left)) ∙
+    (passes _ _ (loose-tested (c .before .before .before .before)) (c .before .before .before .if2 .left)
+    (passes _ _ (capacity-tested (c .before)) (c .if3 .left) none-left)) ∙
     c .before .before .before .before .before .before .before .before .loop .inv
 
 returns : tie.Need-returns Inv-loop μ-loop
 returns c = search-ends _ _ _ (c .if1 .taken) ∙ c .before .loop .inv
 
 returns-2 : tie.Need-returns-2 Inv-loop μ-loop
-unfolding arcRows
-returns-2 c = search-stops _ _ _ (omega arith) (row-decides _ (loose-tested (c .before)) (c .if2 .taken)) ∙ c .before .before .before .before .before .loop .inv
+unfolding arcConditions
+returns-2 c = search-stops _ _ _ (omega arith) (decides _ (loose-tested (c .before)) (c .if2 .taken)) ∙ c .before .before .before .before .before .loop .inv
 
 returns-3 : tie.Need-returns-3 Inv-loop μ-loop
-unfolding arcRows
+unfolding arcConditions
 returns-3 c =
     search-stops _ _ _ (omega arith)
-    (row-passed _ _ (loose-tested (c .before .before .before .before)) (c .before .before .before .if2 .left)
-    (row-decides _ (capacity-tested (c .before)) (c .if3 .taken))) ∙
+    (passes _ _ (loose-tested (c .before .before .before .before)) (c .before .before .before .if2 .left)
+    (decides _ (capacity-tested (c .before)) (c .if3 .taken))) ∙
     c .before .before .before .before .before .before .before .before .loop .inv
 
 pub check-arcs-spec : {M : Type 1} → statement M

@@ -8,17 +8,17 @@ use borrow.Author.Needs.{needs}
 use Rattle.arith.specs.Lists.{upTo, flat}
 use Rattle.network.specs.Network.{Network, source, sink}
 use Rattle.network.specs.Parts.{ofCommodities}
-use Rattle.network.specs.Verdict.{firstRow, loose, commodityRows}
+use Rattle.network.specs.Verdict.{verdict, loose, commodityConditions}
 use Rattle.network.proofs.Bounds.{loose-of}
-use Rattle.network.proofs.FirstRow.{row-decides, row-passed, none-left}
+use Rattle.network.proofs.First.{decides, passes, none-left}
 use Rattle.network.proofs.Search.{found, search-all, search-ends, search-stops, search-goes-on}
 use Rattle.network.proofs.checks.check_commodities.Statement.{statement}
 use Rattle.network.proofs.checks.check_commodities.Tie as tie
 
 abbrev Inv-loop : tie.InvT-loop
 Inv-loop n sources sinks i₀ i =
-    found (commodityRows (ofCommodities n sources sinks)) i (length sources) ≡
-    firstRow (flat (commodityRows (ofCommodities n sources sinks)) (upTo (length sources)))
+    found (commodityConditions (ofCommodities n sources sinks)) i (length sources) ≡
+    verdict (flat (commodityConditions (ofCommodities n sources sinks)) (upTo (length sources)))
 
 abbrev μ-loop : tie.MeasureT-loop
 μ-loop n sources sinks i₀ i = length sources - i
@@ -40,16 +40,16 @@ loop-holds : tie.Need-loop-holds Inv-loop μ-loop
 loop-holds c = search-all _ _
 
 loop-again : tie.Need-loop-again Inv-loop μ-loop
-unfolding commodityRows
+unfolding commodityConditions
 loop-again c =
-    search-goes-on _ _ _ (omega arith) (row-passed _ _ (loose-tested (c .before)) (c .if2 .left) none-left) ∙ turn (c .before) .loop .inv
+    search-goes-on _ _ _ (omega arith) (passes _ _ (loose-tested (c .before)) (c .if2 .left) none-left) ∙ turn (c .before) .loop .inv
 
 returns : tie.Need-returns Inv-loop μ-loop
 returns c = search-ends _ _ _ (c .if1 .taken) ∙ c .before .loop .inv
 
 returns-2 : tie.Need-returns-2 Inv-loop μ-loop
-unfolding commodityRows
-returns-2 c = search-stops _ _ _ (omega arith) (row-decides _ (loose-tested (c .before)) (c .if2 .taken)) ∙ turn (c .before) .loop .inv
+unfolding commodityConditions
+returns-2 c = search-stops _ _ _ (omega arith) (decides _ (loose-tested (c .before)) (c .if2 .taken)) ∙ turn (c .before) .loop .inv
 
 pub check-commodities-spec : {M : Type 1} → statement M
 check-commodities-spec =

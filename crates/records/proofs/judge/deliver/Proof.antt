@@ -14,7 +14,7 @@ flows : (s : tie.Start) → length (take (length (now (s .args .sources)) * leng
 flows s = length-take-le _ (now (s .args .flow)) (s .pre .1 .for-flow)
 
 keeps : (s : tie.Start) → length (take (length (now (s .args .tails))) (now (s .args .lengths))) ≡ length (now (s .args .tails))
-keeps s = length-take-le _ (now (s .args .lengths)) (s .pre .1 .for-length)
+keeps s = length-take-le _ (now (s .args .lengths)) (s .pre .1 .for-lengths)
 
 slice-aggregate-solve : tie.Need-slice-aggregate-solve
 slice-aggregate-solve c = sym (flows (c .before .before .before .before .before .before .before .before))

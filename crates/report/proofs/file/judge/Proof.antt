@@ -3,11 +3,11 @@ use denote.Ref.{now}
 use mathlib.Core.Path.{_≡_, sym, _∙_}
 use mathlib.Core.List.{[], _∷_}
 use Rattle.network.specs.Network.{Network}
-use Rattle.network.specs.Verdict.{itemRows, arcRows, commodityRows}
+use Rattle.network.specs.Verdict.{itemConditions, arcConditions, commodityConditions}
 use Rattle.network.specs.declared.Verdict.the-variants.{Refused}
-use Rattle.network.proofs.FirstRow.{refused-first, accepted-first}
+use Rattle.network.proofs.First.{refused-first, accepted-first}
 use Rattle.run.specs.Runs.{networkOf}
-use Rattle.report.specs.Listing.{verdictOn}
+use Rattle.report.specs.Listing.{verdictHeld}
 use Rattle.report.proofs.Judged.{judged, lends}
 use Rattle.report.proofs.Written.{shown-refused, shown-accepted}
 use borrow.Author.Needs.{needs}
@@ -27,15 +27,15 @@ abbrev arcs-at : tie.After-check-commodities → tie.After-check-arcs
 arcs-at c = c .before .before .before .before .before
 
 -- a faulty arc decides
-of-arcs : (c : tie.After-known-told) → verdictOn (net (entry (c .before .before .before))) ≡ Refused (c .before .arcs .given .0 .0)
-unfolding itemRows arcRows
+of-arcs : (c : tie.After-known-told) → verdictHeld (net (entry (c .before .before .before))) ≡ Refused (c .before .arcs .given .0 .0)
+unfolding itemConditions arcConditions
 of-arcs c =
     let e = c .before .arcs .given .1 in
     judged (net (entry (c .before .before .before))) (entry (c .before .before .before) .pre .0) ∙ (sym (refused-first _ _ (c .before .before .before .check-arcs .ensures) e) ∙ e)
 
 -- the arcs pass, so the commodity decides
-of-commodity : (c : tie.After-check-commodities) → verdictOn (net (entry (arcs-at c))) ≡ c .check-commodities .result
-unfolding itemRows arcRows commodityRows
+of-commodity : (c : tie.After-check-commodities) → verdictHeld (net (entry (arcs-at c))) ≡ c .check-commodities .result
+unfolding itemConditions arcConditions commodityConditions
 of-commodity c =
     judged (net (entry (arcs-at c))) (entry (arcs-at c) .pre .0) ∙
     sym (accepted-first _ _ (arcs-at c .check-arcs .ensures) (c .before .before .before .enum-told .given .1) (c .check-commodities .ensures))

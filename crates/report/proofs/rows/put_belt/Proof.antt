@@ -3,7 +3,7 @@ use Prim.Native.Nat.{_+_, _≤_}
 use native.Mathlib.Omega.{arith}
 use lib.ListN.{length}
 use Rattle.report.specs.Decimal.{decimal}
-use Rattle.report.specs.Row.{joined, row}
+use Rattle.report.specs.Row.{delimited, row}
 use Rattle.report.proofs.Digits.{decimal-short}
 use Rattle.report.proofs.Puts.{put-next}
 use borrow.Author.Needs.{needs}
@@ -49,7 +49,7 @@ put-fraction-requires : tie.Need-put-fraction-requires
 put-fraction-requires c κs = omega (arith, short (entry (kind-at (tail-at (comma-at (head-at (c .before .before .before)))))))
 
 returns : tie.Need-returns
-unfolding row joined
+unfolding row delimited
 returns c =
     let f = c .before .before in
     let h = last-at f in

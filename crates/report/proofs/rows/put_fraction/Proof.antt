@@ -1,6 +1,6 @@
 -- `report::rows::put_fraction` meets its contract. Assumes nothing.
 use native.Mathlib.Omega.{arith}
-use Rattle.report.specs.Row.{joined}
+use Rattle.report.specs.Row.{delimited}
 use Rattle.report.proofs.Digits.{decimal-short}
 use Rattle.report.proofs.Puts.{put-next}
 use borrow.Author.Needs.{needs}
@@ -24,7 +24,7 @@ put-requires-2 c κs =
     omega (arith, decimal-short (s .args .upper), decimal-short (s .args .lower))
 
 returns : tie.Need-returns
-unfolding joined
+unfolding delimited
 returns c =
     put-next (c .before .before .before .before .before .before .before .before .before .before .before .before .before .before .before .before .put-number .ensures)
     (put-next (c .before .before .before .before .before .before .before .before .before .before .before .put .ensures) (put-next (c .before .before .before .before .before .before .before .put-number2 .ensures) (c .before .before .put2 .ensures)))

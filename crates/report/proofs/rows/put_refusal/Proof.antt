@@ -6,9 +6,8 @@ use Rattle.report.proofs.rows.put_refusal.Tie as tie
 
 returns : tie.Need-returns
 unfolding refusalRow
-returns c = rw (c .before .before .before .before .before .before .number .ensures, c .before .before .before .before .before .place .ensures) at (c .before .before .put-row .ensures)
+returns c = rw (c .before .before .before .before .before .code .ensures) at (c .before .before .put-row .ensures)
 
 pub put-refusal-spec : {M : Type 1} → statement M
 put-refusal-spec =
-    tie.close (tie.spec (λ c κs. search needs) (λ c κs. search needs) (λ c. search needs) (λ c κs. search needs)
-    (λ c. search needs) returns)
+    tie.close (tie.spec (λ c κs. search needs) (λ c. search needs) (λ c κs. search needs) (λ c. search needs) returns)

@@ -1,12 +1,12 @@
 -- `report::rows::put_row` meets its contract. Assumes nothing.
-use Rattle.report.specs.Row.{joined, row}
+use Rattle.report.specs.Row.{delimited, row}
 use Rattle.report.proofs.Puts.{put-next}
 use borrow.Author.Needs.{needs}
 use Rattle.report.proofs.rows.put_row.Statement.{statement}
 use Rattle.report.proofs.rows.put_row.Tie as tie
 
 returns : tie.Need-returns
-unfolding row joined
+unfolding row delimited
 returns c = put-next (c .before .before .before .before .before .before .before .before .before .before .before .put .ensures) (put-next (c .before .before .before .before .before .before .put2 .ensures) (c .before .before .put-fraction .ensures))
 
 pub put-row-spec : {M : Type 1} → statement M

@@ -9,6 +9,8 @@ use lib.ListN.{length, take}
 use lib.Seq.{length-take-le}
 use Rattle.network.specs.Network.{Network}
 use Rattle.method.specs.Iteration.{State}
+use Rattle.method.proofs.Ends.{underway-reached}
+use Rattle.method.proofs.Reached.{Reached}
 use Rattle.choice.specs.Chose.{Picked}
 use Rattle.step.specs.Progress.{stateOf}
 use Rattle.run.specs.Runs.{networkOf}
@@ -29,10 +31,14 @@ net s =
 abbrev state : (s : tie.Start) → State
 state s = stateOf (now (s .args .lengths)) (now (s .args .flow)) (now (s .args .loads)) (now (s .args .kept)) (s .args .p)
 
+reached : (s : tie.Start) → Reached (net s) (s .args .q) (state s)
+reached s =
+    underway-reached (net s) (s .args .q) (s .pre .0 .lent .sound) (s .pre .1 .chooses) (state s) (s .pre .1 .underway)
+
 choose-requires : tie.Need-choose-requires
 choose-requires c κs =
     let s = c .before .before .before .before .before .before .before .before .before .before .before .before .before .before .before .before .before .before .before .before .before .before .before .before in
-    choosing (s .pre .0) (s .pre .1 .below) (state s) (s .pre .1 .reached) refl
+    choosing (s .pre .0) (s .pre .1 .below) (state s) (reached s) refl
 
 -- the function's entry, seen from behind the search; what was found, and the table of arcs then
 abbrev entry : tie.After-choose → tie.Start
@@ -61,8 +67,8 @@ step-requires c κs =
     let s = entry f in
     let i = s .pre .1 in (
       rw (← (picked f .alpha))
-          (ready (net s) (s .args .q) (s .pre .0 .lent) (state s) (i .reached) (f .choose .result .commodity) (take (f .choose .result .arcs) (arcs f)) (picked f .chosen)),
-      kept-ready (net s) (s .args .q) (s .pre .0 .lent) (state s) (i .reached) (s .args .threshold) (s .args .p) (i .noted),
+          (ready (net s) (s .args .q) (s .pre .0 .lent) (state s) (reached s) (f .choose .result .commodity) (take (f .choose .result .arcs) (arcs f)) (picked f .chosen)),
+      kept-ready (net s) (s .args .q) (s .pre .0 .lent) (state s) (reached s) (s .args .threshold) (s .args .p) (i .noted),
     )
 
 -- behind the step: the search, and from the end of the function the step
@@ -83,10 +89,10 @@ returns c =
     let path = take (f .choose .result .arcs) (arcs f) in
     record {
       iterated =
-          iterated (net s) (s .args .q) (s .pre .0 .lent) (s .args .threshold) (r .noted .threshold) (state s) (r .reached .valid .table .places) i path
+          iterated (net s) (s .args .q) (s .pre .0 .lent) (s .args .threshold) (r .noted .threshold) (state s) (reached s .valid .table .places) i path
           (picked f .chosen) _ _ _ _ _ (t .step .ensures);
       below = rw (c .before .before .forget .ensures)
-          (below-next caps (s .args .q) i path (state s) (r .reached .valid .lengths ∙ sym (s .pre .0 .lent .capacities)) (t .step .result .halved)
+          (below-next caps (s .args .q) i path (state s) (reached s .valid .lengths ∙ sym (s .pre .0 .lent .capacities)) (t .step .result .halved)
           (f .choose .ensures .below) (t .step .ensures .halved) (ap (λ t. t .lengths) (t .step .ensures .state)));
     }
 

@@ -49,7 +49,7 @@ loop-holds c =
     let s = c .before .before .before .before .before .before .before .before .before .before .before .before .before .before .before .before .before .before .before .before .before in
     let r = c .begin .result in
     let start = s .pre .1 .start in (
-      begin-running (net s) (s .args .q) (s .pre .0 .lent) (now (s .args .lengths)) (now (s .args .flow)) (now (s .args .loads)) (now (s .args .kept)) start r (c .begin .ensures),
+      begin-running (net s) (s .args .q) (s .pre .0 .lent) (now (s .args .lengths)) (now (s .args .flow)) (now (s .args .loads)) (now (s .args .kept)) start r (c .begin .ensures) (s .pre .1 .chooses),
       (
         begin-noted (net s) (s .args .q) (s .pre .0 .lent) (now (s .args .lengths)) (now (s .args .flow)) (now (s .args .loads)) (now (s .args .kept)) start r (c .begin .ensures) _ (c .before .before .threshold .ensures),
         (
@@ -75,7 +75,7 @@ iterate-requires c κs =
         into = p .0 .into;
         out = p .0 .out;
       },
-      record { below = i .1 .1 .0; chooses = p .1 .chooses; reached = i .0 .reached; noted = i .1 .0 },
+      record { below = i .1 .1 .0; chooses = p .1 .chooses; underway = i .0 .underway; noted = i .1 .0 },
     )
 
 -- behind an iteration: the function's entry and the loop's beginning; the state before the iteration

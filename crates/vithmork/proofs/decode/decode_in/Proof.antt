@@ -4,6 +4,7 @@ use denote.Ref.{now}
 use mathlib.Core.Path.{_∙_}
 use native.Mathlib.Omega.{arith}
 use lib.Dec.{lit<}
+use Rattle.vithmork.specs.Deliver.{slices}
 use Rattle.vithmork.proofs.Decoded.{Columns, column-of, judging-of, served-of}
 use Rattle.vithmork.proofs.decode.decode_in.Statement.{statement}
 use Rattle.vithmork.proofs.decode.decode_in.Tie as tie
@@ -57,7 +58,7 @@ columns c =
 judge-requires : tie.Need-judge-requires
 judge-requires c κs =
     let a = entry (read-at c) .args in
-    judging-of (columns (read-at c)) (a .n) (a .q) (now (a .flow)) (now (a .lengths)) (now (a .answer)) (now (a .table)) (a .running)
+    judging-of (columns (read-at c)) (a .n) (a .q) (slices (now (a .flow)) (now (a .lengths)) (now (a .answer)) (now (a .running)))
     (entry (read-at c) .pre .0)
 
 same-length : tie.Need-same-length

@@ -5,6 +5,7 @@ use mathlib.Core.Option.{Option, none, some}
 use Prim.Native.Nat.{ℕ}
 use lib.Dec.{ltb, eqb}
 use lib.ListN.{length}
+use Rattle.bounds.specs.Bounds.{mostBytes}
 use Rattle.network.specs.Network.{Network}
 use Rattle.network.specs.declared.Refusal.{Refusal}
 use Rattle.network.specs.declared.Refusal.the-variants.{Layout, LongFile}
@@ -13,27 +14,27 @@ use Rattle.dimacs.specs.Progress.{Progress}
 use Rattle.dimacs.specs.Reading.{Reading, before, past, down, readLines}
 
 -- The file keeps the layout and holds this network, or it is turned down.
-pub data Outcome : Type 0 where
-  holds : Network → Outcome
-  refused : Refusal → Outcome
+pub data File : Type 0 where
+  holds : Network → File
+  refused : Refusal → File
 
 -- the network of what was read: the node with s and the node with t "are source and sink of the only pair"
-unfoldable pub networkOf : Progress → ℕ → ℕ → Network
-networkOf p s t =
+unfoldable pub networkRead : Progress → ℕ → ℕ → Network
+networkRead p s t =
     record { nodes = p .nodes; tails = p .tails; heads = p .heads; capacities = p .capacities; sources = s ∷ []; sinks = t ∷ [] }
 
 -- The end of the file shows a missing s, t or a line: the place is then 0.
-unfoldable pub complete : Progress → Option ℕ → Option ℕ → Outcome
+unfoldable pub complete : Progress → Option ℕ → Option ℕ → File
 complete p none t = refused (Layout 0)
 complete p (some s) none = refused (Layout 0)
-complete p (some s) (some t) = cond (eqb (length (p .tails)) (p .wanted)) (holds (networkOf p s t)) (refused (Layout 0))
+complete p (some s) (some t) = cond (eqb (length (p .tails)) (p .wanted)) (holds (networkRead p s t)) (refused (Layout 0))
 
 -- It shows a missing p line too, as in the empty file.
-unfoldable pub closing : Reading → Outcome
+unfoldable pub closing : Reading → File
 closing before = refused (Layout 0)
 closing (past p) = complete p (p .source) (p .sink)
 closing (down r) = refused r
 
 -- What a file of these bytes comes to. Order: 10 first, then the file line by line.
-unfoldable pub parsed : List ℕ → Outcome
-parsed text = cond (ltb 65536 (length text)) (refused LongFile) (closing (readLines 1 (linesOf text) before))
+unfoldable pub parsed : List ℕ → File
+parsed text = cond (ltb mostBytes (length text)) (refused LongFile) (closing (readLines 1 (linesOf text) before))

@@ -1,0 +1,44 @@
+-- Document 01's bounds, each named once for the definitions. Assumes nothing.
+use Prim.Native.Nat.{ℕ, _^_}
+
+-- "n from 2 to 64" (document 01, "The floor and its flow")
+abbrev pub leastNodes : ℕ
+leastNodes = 2
+
+abbrev pub mostNodes : ℕ
+mostNodes = 64
+
+-- "m from 1 to 256"
+abbrev pub mostArcs : ℕ
+mostArcs = 256
+
+-- "k from 1 to 32"
+abbrev pub mostCommodities : ℕ
+mostCommodities = 32
+
+-- "capacity 1 to 1,000"
+abbrev pub mostCapacity : ℕ
+mostCapacity = 1000
+
+-- "precision q 4 to 16"
+abbrev pub leastPrecision : ℕ
+leastPrecision = 4
+
+abbrev pub mostPrecision : ℕ
+mostPrecision = 16
+
+-- "over 65,536 bytes" ("Turned down")
+abbrev pub mostBytes : ℕ
+mostBytes = 65536
+
+-- "running count above 2^63"
+abbrev pub mostRunning : ℕ
+mostRunning = 2 ^ 63
+
+-- "the seven numbers of the answer" ("The floor and its flow")
+abbrev pub answerNumbers : ℕ
+answerNumbers = 7
+
+-- "its number × 1,000 + its place"
+abbrev pub placeNumbers : ℕ
+placeNumbers = 1000

@@ -1,0 +1,32 @@
+// Document 01's bounds, each named once for the code. The definitions name the same numbers (specs/Bounds.antt); docs/WORKING.md says which step of
+// a proof stops each of them from growing.
+
+// Nodes. Document 01, "The floor and its flow".
+pub const LEAST_NODES: u64 = 2;
+
+pub const MOST_NODES: u64 = 64;
+
+// Arcs and commodities, at least 1 of each.
+pub const MOST_ARCS: usize = 256;
+
+pub const MOST_COMMODITIES: usize = 32;
+
+// An arc's capacity, at least 1.
+pub const MOST_CAPACITY: u64 = 1000;
+
+// The precision q: the method's epsilon is 1 / q.
+pub const LEAST_PRECISION: u64 = 4;
+
+pub const MOST_PRECISION: u64 = 16;
+
+// The bytes of a file.
+pub const MOST_BYTES: usize = 65536;
+
+// The running count up to which a call is accepted.
+pub const MOST_RUNNING: u64 = 1 << 63;
+
+// How many numbers an answer has.
+pub const ANSWER_NUMBERS: usize = 7;
+
+// What a refusal's number is multiplied by in a host call's result: places are below it.
+pub const PLACE_NUMBERS: u64 = 1000;

@@ -1,0 +1,129 @@
+-- The numbers of an outcome take eight bytes each, by the sizes of a run. Assumes nothing.
+use mathlib.Core.Path.{_≡_, ap}
+use mathlib.Core.List.{List}
+use mathlib.Core.Logic.{⊎-elim}
+use Prim.Native.Nat.{ℕ, zero, suc, _+_, _*_, _-_, _/_, _%_, _^_, _≤_, _<_}
+use native.Mathlib.Nat.{mul-le-mul, mul-le-mul-right, div-add-mod', mod-lt, div-lt-iff-lt-mul}
+use native.Mathlib.Omega.{arith}
+use lib.ListN.{length, getD, length-replicate, List·getD-eq-default}
+use Rattle.arith.specs.Sum.{sum}
+use Rattle.arith.proofs.Order.{le-or-lt}
+use Rattle.arith.proofs.Sums.{term-le-sum}
+use Rattle.network.specs.Flow.{loadOf}
+use Rattle.network.specs.Network.{Network, arcs, commodities, capacity}
+use Rattle.network.specs.Sound.{Sound}
+use Rattle.method.specs.Answer.{fullest, numbersOf, amounts, unjoined, outcomeOf}
+use Rattle.method.specs.Fits.{Words, Fits}
+use Rattle.method.specs.Iteration.{State, weight}
+use Rattle.method.specs.Sizes.{Sizes}
+use Rattle.method.specs.declared.Answer.{Answer}
+use Rattle.method.proofs.Table.{Table, zeros, zero-load}
+
+-- Past the end a list reads 0.
+words : (xs : List ℕ) → ((j : ℕ) → j < length xs → getD xs j 0 < 2 ^ 64) → Words xs
+words xs h j =
+    ⊎-elim (λ (b : length xs ≤ j). omega (arith, List·getD-eq-default xs 0 b)) (λ (b : j < length xs). h j b) (le-or-lt (length xs) j)
+
+-- the answer's numbers, one after the other
+seven : (a : Answer) → a .total < 2 ^ 64 → a .capacity < 2 ^ 64 → a .load < 2 ^ 64 → a .bound < 2 ^ 64 → a .alpha < 2 ^ 64 → a .count < 2 ^ 64 →
+    a .best < 2 ^ 64 → Words (numbersOf a)
+unfolding numbersOf
+seven a t c l b p n i = words (numbersOf a) each
+  where
+    each : (j : ℕ) → j < length (numbersOf a) → getD (numbersOf a) j 0 < 2 ^ 64
+    each zero h = t
+    each (suc zero) h = c
+    each (suc (suc zero)) h = l
+    each (suc (suc (suc zero))) h = b
+    each (suc (suc (suc (suc zero)))) h = p
+    each (suc (suc (suc (suc (suc zero))))) h = n
+    each (suc (suc (suc (suc (suc (suc zero)))))) h = i
+    each (suc (suc (suc (suc (suc (suc (suc j))))))) h = absurd (omega arith)
+
+module _ (net : Network) where
+  pub unjoined-fits : Fits net (unjoined net)
+  unfolding unjoined
+  unjoined-fits =
+      record {
+        amounts-count = length-replicate (commodities net * arcs net) 0;
+        lengths-count = length-replicate (arcs net) 0;
+        flow = λ j. omega (arith, zeros (commodities net * arcs net) j);
+        lengths = λ j. omega (arith, zeros (arcs net) j);
+        answer =
+            seven (record { total = 0; capacity = 1; load = 1; bound = 0; alpha = 1; count = 0; best = 0 }) (omega arith) (omega arith) (omega arith)
+            (omega arith) (omega arith) (omega arith) (omega arith);
+        total = omega arith;
+        loads = λ e l. omega (arith, zero-load net (commodities net * arcs net) e);
+      }
+
+  -- Lengths of at most D: each is at most its capacity times it.
+  lengths-fit : (l : List ℕ) → length l ≡ arcs net → ((e : ℕ) → e < arcs net → 1 ≤ capacity net e) → weight net l < 2 ^ 58 → Words l
+  unfolding weight
+  lengths-fit l z positive h =
+      words l
+      (λ j b.
+      omega (
+        arith,
+        term-le-sum (arcs net) (λ e. capacity net e * getD l e 0) j (omega arith),
+        mul-le-mul-right (getD l j 0) (positive j (omega arith)),
+      ))
+
+  -- An amount is at most its arc's load.
+  amount-le : (flow loads : List ℕ) (total : ℕ) → Table net flow loads total → (i e : ℕ) → i < commodities net → e < arcs net →
+      getD flow (i * arcs net + e) 0 ≤ getD loads e 0
+  unfolding loadOf amounts
+  amount-le flow loads total t i e b l =
+      omega (arith, t .sums e l, term-le-sum (commodities net) (λ i. amounts net flow i e) i b)
+
+  flow-fits : (flow loads : List ℕ) (total : ℕ) → Table net flow loads total → 1 ≤ arcs net → ((e : ℕ) → e < arcs net → getD loads e 0 < 2 ^ 21) → Words flow
+  flow-fits flow loads total t some small =
+      words flow
+      (λ j b.
+      let row : j / arcs net < commodities net = div-lt-iff-lt-mul some .1 (omega (arith, t .rows)) in
+      let e : j % arcs net < arcs net = mod-lt j some in
+      omega (
+        arith,
+        amount-le flow loads total t (j / arcs net) (j % arcs net) row e,
+        small (j % arcs net) e,
+        ap (λ p. getD flow p 0) (div-add-mod' j (arcs net)),
+      ))
+
+module _ (net : Network) (q : ℕ) (sound : Sound net q) (s : State) (sizes : Sizes net s) where
+  abbrev b : ℕ
+  b = fullest (net .capacities) (s .loads) (arcs net - 1)
+
+  -- A state of a run at which the loads are those of the flow table, and which has kept lengths: with b among the arcs.
+  pub state-fits :
+      b < arcs net → Table net (s .flow) (s .loads) (s .total) → length (s .bestLengths) ≡ arcs net → weight net (s .bestLengths) ≡ s .bound →
+      Fits net (outcomeOf net s)
+  unfolding outcomeOf
+  state-fits inside t z e =
+      let most = sound .arc-capacity b inside .most in
+      record {
+        amounts-count = t .rows;
+        lengths-count = z;
+        flow = flow-fits net (s .flow) (s .loads) (s .total) t (sound .counts .of-arcs .least) (sizes .load-high);
+        lengths = lengths-fit net (s .bestLengths) z (λ e l. sound .arc-capacity e l .least) (omega (arith, e, sizes .bound-high));
+        answer =
+            seven
+            (record {
+              total = s .total;
+              capacity = capacity net b;
+              load = getD (s .loads) b 0;
+              bound = s .bound;
+              alpha = s .alpha;
+              count = s .count;
+              best = s .best;
+            })
+            (omega (arith, sizes .total-high))
+            (omega (arith, most))
+            (omega (arith, sizes .load-high b inside))
+            (omega (arith, sizes .bound-high))
+            (omega (arith, sizes .alpha-high))
+            (omega (arith, sizes .count-high))
+            (omega (arith, sizes .count-high, sizes .best-high));
+        total = omega (arith, mul-le-mul (sizes .total-high) most);
+        loads = λ e l.
+            let small : loadOf net (amounts net (s .flow)) e ≤ 2 ^ 21 = omega (arith, t .sums e l, sizes .load-high e l) in
+            omega (arith, mul-le-mul small most);
+      }

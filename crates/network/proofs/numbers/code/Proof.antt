@@ -1,0 +1,22 @@
+-- `network::numbers::code` meets its contract: each case has its row. Assumes nothing.
+use borrow.Author.Needs.{needs}
+use mathlib.Core.Path.{sym, ap}
+use Rattle.network.specs.Refusal.{code}
+use Rattle.network.proofs.numbers.code.Statement.{statement}
+use Rattle.network.proofs.numbers.code.Tie as tie
+
+pub code-spec : {M : Type 1} → statement M
+code-spec =
+    tie.close (tie.spec (λ c. search needs) (λ c. search needs) (λ c. search needs) (λ c. search needs) (λ c. search needs)
+    (λ c. search needs) (λ c. search needs) (λ c. search needs) (λ c. search needs) (λ c. search needs) (λ c. search needs)
+    (λ c. sym (ap code (c .enum-told .given .1)))
+    (λ c. sym (ap code (c .enum-told2 .given .1)))
+    (λ c. sym (ap code (c .enum-told3 .given .1)))
+    (λ c. sym (ap code (c .enum-told4 .given .1)))
+    (λ c. sym (ap code (c .enum-told5 .given .1)))
+    (λ c. sym (ap code (c .before .r .given .1)))
+    (λ c. sym (ap code (c .before .r2 .given .1)))
+    (λ c. sym (ap code (c .before .r3 .given .1)))
+    (λ c. sym (ap code (c .before .r4 .given .1)))
+    (λ c. sym (ap code (c .enum-told6 .given .1)))
+    (λ c. sym (ap code (c .enum-told7 .given .1))))
