@@ -7,6 +7,9 @@ cd "$(dirname "$0")/.." || exit 2
 faults=0
 fault() { echo "docs: $*"; faults=$((faults + 1)); }
 
+# the kit's words that a definition file imports, without the places of their arguments
+kit() { sed -nE '/Rattle·/d; s/^use [A-Za-z.]+\.\{(.*)\}.*/\1/p' "$1" | tr ',' '\n' | sed 's/^ *//; s/^_//; s/_$//'; }
+
 # code lines of a definition file
 lines() { grep -vcE '^[[:space:]]*(--|use |$)' "$1"; }
 
@@ -54,11 +57,17 @@ for fraction in $(grep -oE '[0-9]{4,}/[0-9]+' docs/COURSE.md); do
 done
 
 page=docs/READING.md
-read_so_far=" " sum=0 sums=
+words=" $(sed -n '/^## 0\./,/^## 1\./p' "$page" | grep -oE '`[^`]+`' | tr -d '`\\' | tr ' ,\n' '   ') "
+read_so_far=" " sum=0 sums= named=6
 while IFS='|' read -r _ file count _; do
     file=$(tr -d '` ' <<<"$file") count=$(tr -d ' ' <<<"$count")
     [ -e "crates/$file" ] || { fault "$page: no file $file"; continue; }
     [ "$(lines "crates/$file")" -eq "$count" ] || fault "$page: $file has $(lines "crates/$file") lines, not $count"
+    while read -r word; do
+        case $words in *" $word "*) ;; *) fault "$page: section 0 lacks $word, which $file uses" ;; esac
+    done < <(kit "crates/$file")
+    # lines that name bounds and say what fits; six more stand in Run and Guarantee
+    case $file in bounds/specs/Bounds.antt | method/specs/Fits.antt) named=$((named + count)) ;; esac
     for used in $(uses "crates/$file"); do
         case $read_so_far in
         *" $used "*) ;;
@@ -69,7 +78,8 @@ while IFS='|' read -r _ file count _; do
     if [ "$file" = vithmork/specs/Host.antt ]; then sums=$sum sum=0; fi
 done < <(grep -E '^\| `[a-z_]+/specs/[A-Za-z]+\.antt` \| [0-9]+ \|' "$page")
 grep -q "$sums lines for .vithmork_solve. (sections 1 to 5), and $sum more" <(tr '\n' ' ' <"$page") || fault "$page: the sums are $sums and $sum"
-for contract in vithmork/specs/Host report/specs/Listed records/specs/Records; do
+grep -q "Of the $sums, $((sums - named)) are .* the other $named " <(tr '\n' ' ' <"$page") || fault "$page: of the $sums lines $named are added"
+for contract in vithmork/specs/Host dimacs/specs/Result report/specs/Listed records/specs/Records; do
     case $read_so_far in *" $contract.antt "*) ;; *) fault "$page: lacks $contract" ;; esac
 done
 

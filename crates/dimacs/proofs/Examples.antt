@@ -6,7 +6,7 @@ use Prim.Native.Nat.{ℕ}
 use Prim.Native.String.{String}
 use lib.Dec.{T}
 use Rattle.arith.specs.Lists.{same, keep}
-use Rattle.network.specs.Refusal.{code}
+use Rattle.network.specs.Refusal.{refusalCode}
 use Rattle.network.specs.Verdict.{outside}
 use Rattle.dimacs.specs.Meaning.{shaped, given, problemLine, sourceOrSink, terminalLine, arcLine, lettered, meaning}
 use Rattle.dimacs.specs.Number.{digit, every, fromDigits, numberOf}
@@ -19,7 +19,7 @@ use Rattle.dimacs.specs.Text.{bytes}
 -- An outcome in numbers: 0, the nodes, source, sink, tails, heads and capacities; or a refusal's number and place.
 answer : File → List ℕ
 answer (holds net) = 0 ∷ net .nodes ∷ net .sources ++ net .sinks ++ net .tails ++ net .heads ++ net .capacities
-answer (refused r) = code r .number ∷ code r .place ∷ []
+answer (refused r) = refusalCode r .number ∷ refusalCode r .place ∷ []
 
 pub record Case : Type 0 where
   pub file : String

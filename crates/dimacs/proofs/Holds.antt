@@ -10,7 +10,7 @@ use lib.Dec.{ltb, eqb}
 use lib.ListN.{length}
 use borrow.Author.Tests.{ltb-false, eqb-true}
 use Rattle.network.specs.Network.{Network}
-use Rattle.network.specs.Refusal.{code}
+use Rattle.network.specs.Refusal.{refusalCode}
 use Rattle.network.specs.declared.Refusal.{Refusal}
 use Rattle.network.specs.declared.Refusal.the-variants.{Layout, LongFile}
 use Rattle.dimacs.specs.File.{File, holds, refused, networkRead, complete, closing, parsed}
@@ -23,7 +23,7 @@ use Rattle.dimacs.proofs.Sized.{Kept, Sized, lines-sized}
 
 abbrev Bounded : File → Type 0
 Bounded (holds net) = OneCommodity net
-Bounded (refused r) = code r .place ≤ 65536
+Bounded (refused r) = refusalCode r .place ≤ 65536
 
 module _ (p : Progress) (k : Kept p) where
   full : (a b : ℕ) (t : Bool) → eqb (length (p .tails)) (p .wanted) ≡ t → Bounded (cond t (holds (networkRead p a b)) (refused (Layout 0)))
@@ -65,5 +65,5 @@ module _ (text : List ℕ) where
   pub network-sizes : {net : Network} → parsed text ≡ holds net → OneCommodity net
   network-sizes e = rw e at (parsed-bounded text)
 
-  pub refusal-place : {r : Refusal} → parsed text ≡ refused r → code r .place ≤ 65536
+  pub refusal-place : {r : Refusal} → parsed text ≡ refused r → refusalCode r .place ≤ 65536
   refusal-place e = rw e at (parsed-bounded text)

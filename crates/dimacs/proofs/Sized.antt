@@ -8,7 +8,7 @@ use Prim.Native.Nat.{ℕ, suc, _+_, _≤_}
 use native.Mathlib.Omega.{arith}
 use lib.Dec.{ltb}
 use lib.ListN.{length, length-append}
-use Rattle.network.specs.Refusal.{code}
+use Rattle.network.specs.Refusal.{refusalCode}
 use Rattle.network.specs.Sound.{Within}
 use Rattle.network.specs.Verdict.{outside}
 use Rattle.network.specs.declared.Refusal.the-variants.{Nodes, Arcs, Layout}
@@ -30,7 +30,7 @@ pub record Kept (p : Progress) : Type 0 where
 abbrev pub Sized : Reading → Type 0
 Sized before = Unit {0}
 Sized (past p) = Kept p
-Sized (down r) = code r .place ≤ 65536
+Sized (down r) = refusalCode r .place ≤ 65536
 
 counted : (i n m : ℕ) → Sized (opening i (Problem n m))
 unfolding opening begun

@@ -4,7 +4,7 @@ use mathlib.Core.Path.{_≡_, refl}
 use Prim.Native.Nat.{ℕ, _≤_, _<_, _^_}
 use native.Mathlib.Omega.{arith}
 use Rattle.network.specs.Network.{Network, arcs, commodities}
-use Rattle.network.specs.Refusal.{code, hostNumber}
+use Rattle.network.specs.Refusal.{refusalCode, hostNumber}
 use Rattle.network.specs.Sound.{Counts}
 use Rattle.network.specs.Verdict.{verdict, sizeConditions, itemConditions}
 use Rattle.network.specs.declared.Refusal.{Refusal}
@@ -14,7 +14,7 @@ use Rattle.network.specs.declared.Verdict.the-variants.{Accepted, Refuse
 use Rattle.network.proofs.Faults.{SizeFault, ItemFault, of-nodes, of-arcs, of-commodities, of-precision, of-ends, of-capacity, of-commodity, size-refused, item-refused}
 
 -- eleven numbers, each its own case
-number-most : (w : Refusal) → code w .number ≤ 11
+number-most : (w : Refusal) → refusalCode w .number ≤ 11
 number-most Nodes = omega arith
 number-most Arcs = omega arith
 number-most Commodities = omega arith
@@ -28,21 +28,21 @@ number-most LongFile = omega arith
 number-most FullCount = omega arith
 
 -- For a refusal of a file too: 65,536 bytes are at most as many lines.
-pub refusal-fits : (w : Refusal) → code w .place ≤ 65536 → hostNumber (Refused w) < 2 ^ 64
+pub refusal-fits : (w : Refusal) → refusalCode w .place ≤ 65536 → hostNumber (Refused w) < 2 ^ 64
 refusal-fits w h = omega (arith, number-most w)
 
 -- A verdict whose refusals have places that small.
-pub verdict-fits : (v : Verdict) → ((w : Refusal) → v ≡ Refused w → code w .place ≤ 65536) → hostNumber v < 2 ^ 64
+pub verdict-fits : (v : Verdict) → ((w : Refusal) → v ≡ Refused w → refusalCode w .place ≤ 65536) → hostNumber v < 2 ^ 64
 verdict-fits Accepted h = omega arith
 verdict-fits (Refused w) h = refusal-fits w (h w refl)
 
-size-place : {n m k q : ℕ} {w : Refusal} → SizeFault n m k q w → code w .place ≤ 65536
+size-place : {n m k q : ℕ} {w : Refusal} → SizeFault n m k q w → refusalCode w .place ≤ 65536
 size-place (of-nodes h) = omega arith
 size-place (of-arcs h) = omega arith
 size-place (of-commodities h) = omega arith
 size-place (of-precision h) = omega arith
 
-item-place : {net : Network} {q : ℕ} {w : Refusal} → Counts (net .nodes) (arcs net) (commodities net) q → ItemFault net w → code w .place ≤ 65536
+item-place : {net : Network} {q : ℕ} {w : Refusal} → Counts (net .nodes) (arcs net) (commodities net) q → ItemFault net w → refusalCode w .place ≤ 65536
 item-place c (of-ends e l h) = omega arith
 item-place c (of-capacity e l h) = omega arith
 item-place c (of-commodity i l h) = omega arith

@@ -13,20 +13,20 @@ at x p = record { number = x; place = p }
 
 -- Document 01's number and place: 1 stations, 2 belts, 3 pairs, 4 precision, 5 short table, 6 loose belt and 7 capacity at the belt, 8 loose pair at
 -- the pair, 9 layout at the line, 10 long file, 11 full count
-abbrev pub code : Refusal → Code
-code Nodes = at 1 0
-code Arcs = at 2 0
-code Commodities = at 3 0
-code Precision = at 4 0
-code ShortTable = at 5 0
-code (LooseArc p) = at 6 p
-code (Capacity p) = at 7 p
-code (LooseCommodity p) = at 8 p
-code (Layout p) = at 9 p
-code LongFile = at 10 0
-code FullCount = at 11 0
+abbrev pub refusalCode : Refusal → Code
+refusalCode Nodes = at 1 0
+refusalCode Arcs = at 2 0
+refusalCode Commodities = at 3 0
+refusalCode Precision = at 4 0
+refusalCode ShortTable = at 5 0
+refusalCode (LooseArc p) = at 6 p
+refusalCode (Capacity p) = at 7 p
+refusalCode (LooseCommodity p) = at 8 p
+refusalCode (Layout p) = at 9 p
+refusalCode LongFile = at 10 0
+refusalCode FullCount = at 11 0
 
 -- What a host call returns: 0, or the number times 1,000 plus the place. Document 01, "The floor and its flow".
 abbrev pub hostNumber : Verdict → ℕ
 hostNumber Accepted = 0
-hostNumber (Refused r) = code r .number * placeNumbers + code r .place
+hostNumber (Refused r) = refusalCode r .number * placeNumbers + refusalCode r .place

@@ -5,11 +5,11 @@ use crate::Verdict;
 use bounds::PLACE_NUMBERS;
 ghost use mathlib.Core.Path.{_≡_};
 ghost use Prim.Native.Nat.{_<_, _^_};
-ghost use Rattle.network.specs.Refusal.{code, hostNumber};
+ghost use Rattle.network.specs.Refusal.{refusalCode, hostNumber};
 
 // Document 01's number of a refusal, and the arc, commodity or line that it names, otherwise 0.
-pub fn code(r: Refusal) -> Code
-    ensures { λ x. ⌜ x ≡ code r ⌝ }
+pub fn refusal_code(r: Refusal) -> Code
+    ensures { λ x. ⌜ x ≡ refusalCode r ⌝ }
 {
     match r {
         Refusal::Nodes => Code {
@@ -56,7 +56,7 @@ pub fn host_number(v: Verdict) -> u64
     match v {
         Verdict::Accepted => 0,
         Verdict::Refused(why) => {
-            let c = code(why);
+            let c = refusal_code(why);
             c.number * PLACE_NUMBERS + c.place
         }
     }

@@ -3,7 +3,7 @@
 use libc::STDOUT_FILENO;
 use method::Answer;
 use network::Refusal;
-use network::numbers::code;
+use network::numbers::refusal_code;
 use records::Arc;
 use records::Reply;
 ghost use Prim.Native.Nat.{_≤_};
@@ -42,7 +42,7 @@ fn print_all(s: &[u64]) {
 
 fn print_refusal(why: Refusal) {
     io::write_all(STDOUT_FILENO, b" refused");
-    let c = code(why);
+    let c = refusal_code(why);
     print(c.number);
     print(c.place);
 }

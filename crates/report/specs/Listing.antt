@@ -4,7 +4,7 @@ use Prim.Native.Nat.{ℕ, _*_}
 use Rattle.arith.specs.Lists.{upTo, flat}
 use Rattle.network.specs.Flow.{loadOf}
 use Rattle.network.specs.Network.{Network, arcs, tail, head}
-use Rattle.network.specs.Refusal.{code}
+use Rattle.network.specs.Refusal.{refusalCode}
 use Rattle.network.specs.Verdict.{verdictOn}
 use Rattle.network.specs.declared.Refusal.{Refusal}
 use Rattle.network.specs.declared.Verdict.{Verdict}
@@ -35,7 +35,7 @@ outcomeRows net o = answerRows (o .answer) ++ flat (beltRow net o) (upTo (arcs n
 
 -- "A refusal is the header and refused,,,number,place."
 unfoldable pub refusalRow : Refusal → List ℕ
-refusalRow r = row (bytes "refused") [] [] (code r .number) (code r .place)
+refusalRow r = row (bytes "refused") [] [] (refusalCode r .number) (refusalCode r .place)
 
 -- The verdict on a network that a file holds: the program "takes q = 4", has room enough, and counts nothing between files.
 abbrev pub verdictHeld : Network → Verdict

@@ -3,7 +3,7 @@ use crate::put::put;
 use crate::put::put_number;
 use method::Answer;
 use network::Refusal;
-use network::numbers::code;
+use network::numbers::refusal_code;
 ghost use mathlib.Core.List.{[], _∷_};
 ghost use Prim.Native.Nat.{_+_, _*_, _^_, _≤_, _<_};
 ghost use lib.ListN.{length};
@@ -62,6 +62,6 @@ pub fn put_refusal(out: &mut [u8], at: usize, why: Refusal) -> usize
     requires { ⌜ at + 53 ≤ length (now out) ⌝ }
     ensures { λ r. ⌜ Put (refusalRow why) (now (out .entry)) at (now (out .exit)) r ⌝ }
 {
-    let c = code(why);
+    let c = refusal_code(why);
     put_row(out, at, b"refused", c.number, c.place)
 }

@@ -45,7 +45,7 @@ fn show_in(
 ) -> usize
     requires ready { ⌜ Ready (networkOf n (now tails) (now heads) (now capacities) (now sources) (now sinks)) at (length (now out)) ⌝ }
     requires flows { ⌜ length (now flow) ≡ length (now tails) ⌝ }
-    requires keeps { ⌜ length (now kept) ≡ length (now tails) ⌝ }
+    requires bests { ⌜ length (now kept) ≡ length (now tails) ⌝ }
     ensures { λ r. ⌜ Shown (networkOf n (now (tails .entry)) (now (heads .entry)) (now (capacities .entry)) (now (sources .entry)) (now (sinks .entry))) Accepted (now (out .entry)) at (now (out .exit)) r ⌝ }
 {
     let a = solver::solves::solve(n, 4, tails, heads, capacities, sources, sinks, flow, kept);

@@ -8,7 +8,7 @@ pub record Same (flow₀ loads₀ lengths₀ kept₀ dist₀ front₀ listed₀ 
   pub flows : length flow ≡ length flow₀
   pub loadings : length loads ≡ length loads₀
   pub lengthens : length lengths ≡ length lengths₀
-  pub keeps : length kept ≡ length kept₀
+  pub bests : length kept ≡ length kept₀
   pub dists : length dist ≡ length dist₀
   pub fronts : length front ≡ length front₀
   pub listings : length listed ≡ length listed₀

@@ -31,7 +31,7 @@ pub initial-is :
     flow ≡ replicate (length flow₀) 0 → kept ≡ replicate (length kept₀) 0 → stateOf lengths flow loads kept begun ≡ initial net
 unfolding initial
 initial-is net q lent z started unloaded empty nothing =
-    rw (started, unloaded, empty, nothing, lent .capacities, z .flows, z .loadings, z .keeps) refl
+    rw (started, unloaded, empty, nothing, lent .capacities, z .flows, z .loadings, z .bests) refl
 
 pub outcome-some : (net : Network) (q : ℕ) (c : Choice) → choice net (initial net .lengths) ≡ some c → outcome net q ≡ outcomeOf net (run net q)
 unfolding outcome

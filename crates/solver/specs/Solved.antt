@@ -14,12 +14,12 @@ use Rattle.run.specs.Runs.{Lent}
 pub record Solving (net : Network) (q : ℕ) (flow kept : List ℕ) : Type 0 where
   pub lent : Lent net q
   pub flows : length flow ≡ commodities net * arcs net
-  pub keeps : length kept ≡ arcs net
+  pub bests : length kept ≡ arcs net
 
 -- All tables of that size, and a bound for each commodity.
 pub record Sized (net : Network) (flow kept loads lengths bounds : List ℕ) : Type 0 where
   pub flows : length flow ≡ commodities net * arcs net
-  pub keeps : length kept ≡ arcs net
+  pub bests : length kept ≡ arcs net
   pub loadings : length loads ≡ arcs net
   pub lengthens : length lengths ≡ arcs net
   pub each : length bounds ≡ commodities net

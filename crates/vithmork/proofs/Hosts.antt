@@ -8,7 +8,7 @@ use lib.Dec.{ltb}
 use borrow.Author.Tests.{ltb-false, lt-ltb}
 use Rattle.bounds.specs.Bounds.{answerNumbers}
 use Rattle.network.specs.Network.{Network, arcs, commodities}
-use Rattle.network.specs.Refusal.{code, hostNumber}
+use Rattle.network.specs.Refusal.{refusalCode, hostNumber}
 use Rattle.network.specs.Sound.{Counts}
 use Rattle.network.specs.Verdict.{Condition, verdict, sizeConditions, itemConditions, verdictOn}
 use Rattle.network.specs.declared.Refusal.{Refusal}
@@ -57,7 +57,7 @@ pub own-fits : (k m : ℕ) (s : Slices) → hostNumber (verdict (hostConditions 
 unfolding hostConditions
 own-fits k m s =
     verdict-fits (verdict (hostConditions k m s))
-    (λ w h. refusal-has (λ w. code w .place ≤ 65536) w (more (λ t. omega arith) (more (λ t. omega arith) none)) h)
+    (λ w h. refusal-has (λ w. refusalCode w .place ≤ 65536) w (more (λ t. omega arith) (more (λ t. omega arith) none)) h)
 
 module _ (n q : ℕ) (belts pairs : List ℕ) (s : Slices) where
   abbrev net : Network

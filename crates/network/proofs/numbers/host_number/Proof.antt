@@ -9,8 +9,8 @@ use Rattle.network.proofs.numbers.host_number.Statement.{statement}
 use Rattle.network.proofs.numbers.host_number.Tie as tie
 
 -- the number of the verdict, by its code
-numbered : (c : tie.After-code) → c .code .result .number * 1000 + c .code .result .place ≡ hostNumber (c .before .before .before .before .args .v)
-numbered c = rw (c .code .ensures, c .before .before .v .given .1) refl
+numbered : (c : tie.After-refusal-code) → c .refusal-code .result .number * 1000 + c .refusal-code .result .place ≡ hostNumber (c .before .before .before .before .args .v)
+numbered c = rw (c .refusal-code .ensures, c .before .before .v .given .1) refl
 
 mul-result : tie.Need-mul-result
 mul-result c = omega (arith, numbered (c .before))

@@ -6,7 +6,7 @@ use Rattle.report.proofs.rows.put_refusal.Tie as tie
 
 returns : tie.Need-returns
 unfolding refusalRow
-returns c = rw (c .before .before .before .before .before .code .ensures) at (c .before .before .put-row .ensures)
+returns c = rw (c .before .before .before .before .before .refusal-code .ensures) at (c .before .before .put-row .ensures)
 
 pub put-refusal-spec : {M : Type 1} → statement M
 put-refusal-spec =

@@ -30,7 +30,7 @@ answer-at c = c .before .before .before .before .before
 solve-requires : tie.Need-solve-requires
 solve-requires c κs =
     let s = c .before .before .before .before .before .before .before .before .before .before in
-    record { lent = s .pre .0 .lent; flows = one-row (net s) (now (s .args .flow)) (s .pre .0 .one) (s .pre .1 .0); keeps = s .pre .1 .1 }
+    record { lent = s .pre .0 .lent; flows = one-row (net s) (now (s .args .flow)) (s .pre .0 .one) (s .pre .1 .0); bests = s .pre .1 .1 }
 
 put-answer-requires : tie.Need-put-answer-requires
 put-answer-requires c κs =

@@ -54,7 +54,7 @@ loop-holds c =
         begin-noted (net s) (s .args .q) (s .pre .0 .lent) (now (s .args .lengths)) (now (s .args .flow)) (now (s .args .loads)) (now (s .args .kept)) start r (c .begin .ensures) _ (c .before .before .threshold .ensures),
         (
           s .pre .1 .below,
-          record { flows = refl; loadings = refl; lengthens = refl; keeps = refl; dists = refl; fronts = refl; listings = refl; paths = refl },
+          record { flows = refl; loadings = refl; lengthens = refl; bests = refl; dists = refl; fronts = refl; listings = refl; paths = refl },
         ),
       ),
     )
@@ -105,7 +105,7 @@ sizes c =
       flows = k .1 .1 .1 .1 .1 .1 .1 .1 .1 .1 .1 .1 .0 ∙ i .flows;
       loadings = k .1 .1 .1 .1 .1 .1 .1 .1 .1 .1 .1 .1 .1 .0 ∙ i .loadings;
       lengthens = k .1 .1 .1 .1 .1 .1 .1 .1 .1 .1 .1 .1 .1 .1 .0 ∙ i .lengthens;
-      keeps = k .1 .1 .1 .1 .1 .1 .1 .1 .1 .1 .1 .1 .1 .1 .1 .0 ∙ i .keeps;
+      bests = k .1 .1 .1 .1 .1 .1 .1 .1 .1 .1 .1 .1 .1 .1 .1 .0 ∙ i .bests;
       dists = k .1 .1 .1 .1 .1 .1 .1 .1 .1 .1 .1 .1 .1 .1 .1 .1 .1 .0 ∙ i .dists;
       fronts = k .1 .1 .1 .1 .1 .1 .1 .1 .1 .1 .1 .1 .1 .1 .1 .1 .1 .1 .0 ∙ i .fronts;
       listings = k .1 .1 .1 .1 .1 .1 .1 .1 .1 .1 .1 .1 .1 .1 .1 .1 .1 .1 .1 .0 ∙ i .listings;
@@ -144,7 +144,7 @@ same-length-3 : tie.Need-same-length-3 Inv-loop μ-loop
 same-length-3 c = sizes (ended-at c) .lengthens
 
 same-length-4 : tie.Need-same-length-4 Inv-loop μ-loop
-same-length-4 c = sizes (ended-at c) .keeps
+same-length-4 c = sizes (ended-at c) .bests
 
 same-length-5 : tie.Need-same-length-5 Inv-loop μ-loop
 same-length-5 c = let f = ended-at c in f .iterate .ensures .below .each ∙ sym (entry f .pre .1 .below .each)

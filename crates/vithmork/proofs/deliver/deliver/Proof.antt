@@ -28,7 +28,7 @@ deliver-in-requires c κs =
       record {
         lent = s .pre .0;
         flows = length-take-le _ (replicate {A = ℕ} 8192 0) (few s);
-        keeps = length-take-le _ (replicate {A = ℕ} 256 0) (s .pre .0 .sound .counts .of-arcs .most);
+        bests = length-take-le _ (replicate {A = ℕ} 256 0) (s .pre .0 .sound .counts .of-arcs .most);
       },
       s .pre .1,
     )

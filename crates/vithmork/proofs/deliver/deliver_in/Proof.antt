@@ -45,7 +45,7 @@ write-all-requires-2 : tie.Need-write-all-requires-2
 write-all-requires-2 c κs =
     let f = solve-at (c .before .before .before .before) in
     let s = entry f in
-    (le-refl _, omega (arith, f .solve .kept .1 .1 .1 .1 .1 .1 .1 .1 .0, s .pre .0 .keeps, s .pre .1 .for-lengths))
+    (le-refl _, omega (arith, f .solve .kept .1 .1 .1 .1 .1 .1 .1 .1 .0, s .pre .0 .bests, s .pre .1 .for-lengths))
 
 put-answer-requires : tie.Need-put-answer-requires
 put-answer-requires c κs = entry (solve-at (flow-at (c .before .before .before))) .pre .1 .for-answer
