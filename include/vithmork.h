@@ -90,8 +90,8 @@ enum {
  *   lengths written: m lengths that give the bound
  *   answer  written: seven numbers (above)
  *   count   read and written: the running count, raised by the choices made. It
- *           is the host's own, for as many calls as it likes; it must be set,
- *           to 0 or any other number, before the first of them
+ *           is the host's own, for as many calls as it likes, and must be set
+ *           before the first of them: to 0, or where the host likes up to 2^63
  *
  * Returns 0, or for a refusal number * 1000 + place; a refusal changes no byte.
  * An unjoined floor is no refusal: its answer is 0, 1, 1, 0, 1, 0, 0.
@@ -106,9 +106,9 @@ enum {
  * for the running count too: two threads with one count lose part of it. They
  * may share belts and pairs.
  *
- * A call cannot be interrupted. It always ends: of eleven floors of 64 stations,
+ * A call cannot be interrupted; it always ends. Of eleven floors of 64 stations,
  * 256 belts and 32 pairs the slowest took 66 ms at q = 4 and 1.4 s at q = 16, on
- * one core of an Intel Xeon (docs/SPEED.md has them all). */
+ * one core of an Intel Xeon (docs/SPEED.md of the sources has them all). */
 uint64_t vithmork_solve(uint64_t n, uint64_t q,
                         const uint8_t *belts, size_t belts_len,
                         const uint8_t *pairs, size_t pairs_len,
