@@ -1,7 +1,11 @@
 #!/usr/bin/env bash
 # Prints the table of docs/STATUS.md from the log of a gate run: docs/status.sh LOG. Lines are counted without comments and blank ones.
 set -eu
-log=$1
+if [ $# -ne 1 ] || [ ! -r "$1" ]; then
+    echo "usage: docs/status.sh LOG, a file with all that a gate printed (bash .ci/run >LOG 2>&1)" >&2
+    exit 2
+fi
+log=$(readlink -f "$1")
 cd "$(dirname "$0")/.."
 
 # lines DIR SUFFIX COMMENT

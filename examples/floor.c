@@ -14,7 +14,7 @@ static const uint64_t pair[PAIRS][2] = {{1, 4}, {2, 3}};
 static uint8_t belts[VITHMORK_BELTS_BYTES(BELTS)];
 static uint8_t pairs[VITHMORK_PAIRS_BYTES(PAIRS)];
 static uint8_t flow[VITHMORK_FLOW_BYTES(PAIRS, BELTS)];
-static uint8_t length[VITHMORK_LENGTH_BYTES(BELTS)];
+static uint8_t lengths[VITHMORK_LENGTH_BYTES(BELTS)];
 static uint8_t answer[VITHMORK_ANSWER_BYTES];
 static uint8_t count[VITHMORK_COUNT_BYTES];
 
@@ -24,12 +24,16 @@ static void fill(void)
         vithmork_put_belt(belts, e, belt[e][0], belt[e][1], belt[e][2]);
     for (size_t p = 0; p < PAIRS; p++)
         vithmork_put_pair(pairs, p, pair[p][0], pair[p][1]);
+    vithmork_put(count, 0, 0);
 }
 
 static void print(void)
 {
     printf("total %.3f\n", vithmork_scaled(answer, vithmork_get(answer, VITHMORK_DRAWN)));
     printf("bound %.3f\n", vithmork_bound(answer));
+    for (size_t p = 0; p < PAIRS; p++)
+        printf("pair %u to %u carries %.3f\n", (unsigned)pair[p][0], (unsigned)pair[p][1],
+               vithmork_scaled(answer, vithmork_pair_total(belts, BELTS, pairs, p, flow)));
     for (size_t e = 0; e < BELTS; e++) {
         uint64_t load = 0;
         for (size_t p = 0; p < PAIRS; p++)
@@ -46,7 +50,7 @@ int main(void)
     fill();
     uint64_t returned = vithmork_solve(
         STATIONS, PRECISION, belts, sizeof belts, pairs, sizeof pairs, flow, sizeof flow,
-        length, sizeof length, answer, sizeof answer, count, sizeof count);
+        lengths, sizeof lengths, answer, sizeof answer, count, sizeof count);
     if (returned != VITHMORK_ACCEPTED) {
         vithmork_refusal refusal = vithmork_refused(returned);
         printf("refused: %u (%s), place %u\n", refusal.number, vithmork_word(refusal.number),

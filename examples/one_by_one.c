@@ -15,7 +15,7 @@ static const uint64_t pair[PAIRS][2] = {{1, 3}, {1, 2}, {2, 3}};
 static uint8_t belts[VITHMORK_BELTS_BYTES(BELTS)];
 static uint8_t pairs[VITHMORK_PAIRS_BYTES(PAIRS)];
 static uint8_t flow[VITHMORK_FLOW_BYTES(PAIRS, BELTS)];
-static uint8_t length[VITHMORK_LENGTH_BYTES(BELTS)];
+static uint8_t lengths[VITHMORK_LENGTH_BYTES(BELTS)];
 static uint8_t answer[VITHMORK_ANSWER_BYTES];
 static uint8_t count[VITHMORK_COUNT_BYTES];
 
@@ -25,6 +25,7 @@ static void fill(void)
         vithmork_put_belt(belts, e, belt[e][0], belt[e][1], belt[e][2]);
     for (size_t p = 0; p < PAIRS; p++)
         vithmork_put_pair(pairs, p, pair[p][0], pair[p][1]);
+    vithmork_put(count, 0, 0);
 }
 
 /* Solves for some pairs, adds each belt's amounts to carried, returns the total. */
@@ -32,7 +33,7 @@ static double solve(size_t first, size_t number, double *carried)
 {
     uint64_t returned = vithmork_solve(
         STATIONS, PRECISION, belts, sizeof belts, pairs + VITHMORK_PAIRS_BYTES(first),
-        VITHMORK_PAIRS_BYTES(number), flow, sizeof flow, length, sizeof length, answer,
+        VITHMORK_PAIRS_BYTES(number), flow, sizeof flow, lengths, sizeof lengths, answer,
         sizeof answer, count, sizeof count);
     if (returned != VITHMORK_ACCEPTED) {
         vithmork_refusal refusal = vithmork_refused(returned);

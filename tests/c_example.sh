@@ -1,20 +1,39 @@
 #!/usr/bin/env bash
 # Compiles the header as C99 and as C++17, compares what each C example prints with
 # tests/NAME.expected, whose figures are the second solver's (tests/second), not the
-# library's, and meets every refusal from C (tests/refusals.c).
+# library's, meets every refusal from C (tests/refusals.c) and tries what the header
+# adds to the call (tests/helpers.c). The header's times are those of docs/SPEED.md.
 set -eu
 cd "$(dirname "$0")/.."
 tests/second/archive.sh
 made=target/second
+archive=target/staticlib/libvithmork.a
 
-strict="-Wall -Wextra -Wpedantic -Werror -Iinclude"
+strict=(-Wall -Wextra -Wpedantic -Werror -Iinclude)
 echo '#include "vithmork.h"' >"$made/header.cpp"
-c++ -std=c++17 $strict -c -o "$made/header.o" "$made/header.cpp"
+c++ -std=c++17 "${strict[@]}" -c -o "$made/header.o" "$made/header.cpp"
 for program in examples/*.c; do
     name=$(basename "$program" .c)
-    cc -std=c99 $strict -o "$made/$name" "$program" target/staticlib/libvithmork.a
+    cc -std=c99 "${strict[@]}" -o "$made/$name" "$program" "$archive"
     "$made/$name" | diff "tests/$name.expected" -
 done
-cc -std=c99 $strict -o "$made/refusals" tests/refusals.c target/staticlib/libvithmork.a
+cc -std=c99 "${strict[@]}" -o "$made/refusals" tests/refusals.c "$archive"
 "$made/refusals"
+cc -std=c99 "${strict[@]}" -o "$made/helpers" tests/helpers.c "$archive"
+"$made/helpers"
+c++ -x c++ -std=c++17 "${strict[@]}" -o "$made/helpers" tests/helpers.c -x none "$archive"
+"$made/helpers"
+
+# slowest Q: the greatest time of the library, in ms, of the page's table for that precision
+slowest() {
+    awk -F'|' -v section="### q = $1" '
+        /^##/ { inside = $0 == section }
+        inside && $4 + 0 > most { most = $4 + 0 }
+        END { print most }' docs/SPEED.md
+}
+cost=$(awk -v at4="$(slowest 4)" -v at16="$(slowest 16)" 'BEGIN { printf "%.0f ms at q = 4 and %.1f s at q = 16", at4, at16 / 1000 }')
+if ! tr -s '\n *' ' ' <include/vithmork.h | grep -qF "the slowest took $cost"; then
+    echo "c_example: docs/SPEED.md has other times than the header: $cost"
+    exit 1
+fi
 echo "c_example: the header is C99 and C++17, the examples print what they should, and refusals read as they should"

@@ -18,14 +18,4 @@ for floor in tests/listing/*.max examples/*.max; do
 done
 echo "listing: $files stored listings, all alike"
 
-# README's command, from another folder too; without a file that it can read it says how it is used.
-(cd examples && ../list two_docks.max) | cmp - examples/two_docks.csv
-for wrong in "" examples/absent.max "examples/cross.max examples/cross.max"; do
-    # shellcheck disable=SC2086
-    ./list $wrong >target/second/list.out 2>target/second/list.err && status=0 || status=$?
-    if [ "$status" -ne 2 ] || [ -s target/second/list.out ] || ! grep -q '^usage: ' target/second/list.err; then
-        echo "listing: ./list $wrong is not turned down"
-        exit 1
-    fi
-done
 "$second" "$program"

@@ -10,11 +10,11 @@ enum { STATIONS = 3, BELTS = 2, PAIRS = 2, PRECISION = 4 };
 /* All that is lent, sound at first: each case spoils one part. */
 typedef struct {
     uint64_t n, q;
-    size_t belts_len, pairs_len, flow_len, length_len, answer_len, count_len;
+    size_t belts_len, pairs_len, flow_len, lengths_len, answer_len, count_len;
     uint8_t belts[VITHMORK_BELTS_BYTES(VITHMORK_MAX_BELTS + 1)];
     uint8_t pairs[VITHMORK_PAIRS_BYTES(VITHMORK_MAX_PAIRS + 1)];
     uint8_t flow[VITHMORK_FLOW_BYTES(PAIRS, BELTS)];
-    uint8_t length[VITHMORK_LENGTH_BYTES(BELTS)];
+    uint8_t lengths[VITHMORK_LENGTH_BYTES(BELTS)];
     uint8_t answer[VITHMORK_ANSWER_BYTES];
     uint8_t count[VITHMORK_COUNT_BYTES];
 } lent;
@@ -28,7 +28,7 @@ static lent sound(void)
     l.belts_len = VITHMORK_BELTS_BYTES(BELTS);
     l.pairs_len = VITHMORK_PAIRS_BYTES(PAIRS);
     l.flow_len = sizeof l.flow;
-    l.length_len = sizeof l.length;
+    l.lengths_len = sizeof l.lengths;
     l.answer_len = sizeof l.answer;
     l.count_len = sizeof l.count;
     vithmork_put_belt(l.belts, 0, 1, 2, 600);
@@ -42,7 +42,7 @@ static lent sound(void)
 static uint64_t solve(lent *l)
 {
     return vithmork_solve(l->n, l->q, l->belts, l->belts_len, l->pairs, l->pairs_len, l->flow,
-                          l->flow_len, l->length, l->length_len, l->answer, l->answer_len,
+                          l->flow_len, l->lengths, l->lengths_len, l->answer, l->answer_len,
                           l->count, l->count_len);
 }
 
@@ -85,7 +85,7 @@ int main(void)
     l.flow_len--;
     expect(l, VITHMORK_REFUSED_SHORT_TABLE, 0, "short table");
     l = sound();
-    l.length_len--;
+    l.lengths_len--;
     expect(l, VITHMORK_REFUSED_SHORT_TABLE, 0, "short table");
     l = sound();
     l.answer_len--;

@@ -15,4 +15,4 @@ pub main-spec : {M : Type 1} → statement M
 main-spec =
     tie.close (tie.spec (λ c κs. search needs) (λ c. search needs) (λ c κs. search needs) (λ c κs. search needs)
     (λ c. search needs) (λ c. search needs) (λ c κs. search needs) array-share-prefix-out slice-aggregate-write-all
-    (λ c κs. search needs) (λ c. search needs))
+    (λ c κs. search needs) (λ c. search needs) (λ c κs. search needs) (λ c. search needs) (λ c. search needs))

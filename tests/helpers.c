@@ -1,0 +1,97 @@
+/* What the header adds to the call: versions, absent slices and a pair's own
+ * total. Compiled as C99 and as C++17; exits with 1 if something is otherwise. */
+#include "vithmork.h"
+
+#include <stdio.h>
+#include <string.h>
+
+enum { STATIONS = 4, BELTS = 6, PAIRS = 3, PRECISION = 16 };
+
+static uint8_t belts[VITHMORK_BELTS_BYTES(BELTS)];
+static uint8_t pairs[VITHMORK_PAIRS_BYTES(PAIRS)];
+static uint8_t flow[VITHMORK_FLOW_BYTES(PAIRS, BELTS)];
+static uint8_t lengths[VITHMORK_LENGTH_BYTES(BELTS)];
+static uint8_t answer[VITHMORK_ANSWER_BYTES];
+static uint8_t count[VITHMORK_COUNT_BYTES];
+
+static int failed;
+
+static void expect(const char *what, uint64_t found, uint64_t due)
+{
+    if (found == due)
+        return;
+    printf("helpers: %s is %llu, not %llu\n", what, (unsigned long long)found,
+           (unsigned long long)due);
+    failed = 1;
+}
+
+static void versions(void)
+{
+    char text[32];
+    snprintf(text, sizeof text, "%d.%d.%d", VITHMORK_VERSION_MAJOR, VITHMORK_VERSION_MINOR,
+             VITHMORK_VERSION_PATCH);
+    expect("the version's text against its numbers", (uint64_t)strcmp(text, VITHMORK_VERSION), 0);
+}
+
+static void fill(void)
+{
+    vithmork_put_belt(belts, 0, 1, 2, 600);
+    vithmork_put_belt(belts, 1, 1, 3, 400);
+    vithmork_put_belt(belts, 2, 2, 3, 250);
+    vithmork_put_belt(belts, 3, 2, 4, 500);
+    vithmork_put_belt(belts, 4, 3, 4, 450);
+    vithmork_put_belt(belts, 5, 3, 1, 100);
+    vithmork_put_pair(pairs, 0, 1, 4);
+    vithmork_put_pair(pairs, 1, 2, 3);
+    vithmork_put_pair(pairs, 2, 3, 1);
+    vithmork_put(count, 0, 0);
+}
+
+/* Amounts by hand: pair 1 sends 7 + 2 from station 1 and has 3 of them come back. */
+static void by_hand(void)
+{
+    static const uint64_t amounts[PAIRS][BELTS] = {
+        {7, 2, 1, 6, 0, 3}, {0, 0, 5, 0, 0, 0}, {0, 0, 0, 0, 0, 0}};
+    for (size_t p = 0; p < PAIRS; p++)
+        for (size_t e = 0; e < BELTS; e++)
+            vithmork_put(flow, p * BELTS + e, amounts[p][e]);
+    expect("pair 1 by hand", vithmork_pair_total(belts, BELTS, pairs, 0, flow), 6);
+    expect("pair 2 by hand", vithmork_pair_total(belts, BELTS, pairs, 1, flow), 5);
+    expect("pair 3 by hand", vithmork_pair_total(belts, BELTS, pairs, 2, flow), 0);
+}
+
+/* Of the library's own plan the pairs' totals make the drawn total. */
+static void of_a_plan(void)
+{
+    uint64_t sum = 0;
+    expect("the call", vithmork_solve(STATIONS, PRECISION, belts, sizeof belts, pairs,
+                                      sizeof pairs, flow, sizeof flow, lengths, sizeof lengths,
+                                      answer, sizeof answer, count, sizeof count),
+           VITHMORK_ACCEPTED);
+    for (size_t p = 0; p < PAIRS; p++)
+        sum += vithmork_pair_total(belts, BELTS, pairs, p, flow);
+    expect("the sum over pairs", sum, vithmork_get(answer, VITHMORK_DRAWN));
+}
+
+static void absent(void)
+{
+    uint8_t *none = VITHMORK_ABSENT;
+    uint64_t of_belts = vithmork_solve(STATIONS, PRECISION, none, 0, pairs, sizeof pairs, flow,
+                                       sizeof flow, lengths, sizeof lengths, answer,
+                                       sizeof answer, count, sizeof count);
+    uint64_t of_tables = vithmork_solve(STATIONS, PRECISION, belts, sizeof belts, pairs,
+                                        sizeof pairs, none, 0, none, 0, none, 0, none, 0);
+    expect("an absent slice's pointer", none != NULL, 1);
+    expect("no belts", vithmork_refused(of_belts).number, VITHMORK_REFUSED_BELTS);
+    expect("no tables", vithmork_refused(of_tables).number, VITHMORK_REFUSED_SHORT_TABLE);
+}
+
+int main(void)
+{
+    versions();
+    fill();
+    by_hand();
+    of_a_plan();
+    absent();
+    return failed;
+}
