@@ -13,6 +13,7 @@ mod call;
 mod fast;
 #[path = "../tests/second/floors.rs"]
 mod floors;
+mod full;
 mod lend;
 #[path = "../tests/second/library.rs"]
 mod library;
@@ -31,9 +32,7 @@ mod solver;
 mod stack;
 
 use call::{get, Call};
-use floors::Capacities;
-use random::Random;
-use shapes::{FULL_SIZE, SHAPES};
+use full::{floors_at, mean, precision};
 use std::process::ExitCode;
 use std::time::{Duration, Instant};
 
@@ -83,22 +82,9 @@ fn options(mut words: impl Iterator<Item = String>) -> Option<Options> {
         }
     }
     if options.precisions.is_empty() {
-        options.precisions = vec![4, 8, 16];
+        options.precisions = full::PRECISIONS.into();
     }
     Some(options)
-}
-
-fn precision(word: &str) -> Option<u64> {
-    word.parse().ok().filter(|q| floors::PRECISIONS.contains(q))
-}
-
-fn floors_at(q: u64, seed: u64) -> Vec<(String, Call)> {
-    let mut random = Random::new(seed);
-    let mut call = |shape| {
-        let net = floors::floor(shape, FULL_SIZE, Capacities::Mixed, &mut random);
-        Call::new(&net, q)
-    };
-    SHAPES.into_iter().map(|shape| (format!("{shape:?}"), call(shape))).collect()
 }
 
 fn bench(q: u64, options: &Options) -> bool {
@@ -184,11 +170,6 @@ fn show_means(q: u64, rows: &[Times]) {
         print!(", plain/library {:.2}", mean(plain));
     }
     println!();
-}
-
-fn mean(ratios: impl Iterator<Item = f64>) -> f64 {
-    let logs: Vec<f64> = ratios.map(f64::ln).collect();
-    (logs.iter().sum::<f64>() / logs.len() as f64).exp()
 }
 
 /// The deepest of one call on each floor: what is on the stack does not depend
