@@ -2,8 +2,32 @@
 # Times the static library against the second solver, and sees that it cannot
 # allocate; three to five minutes, most of them the plain form's at q 16. Arguments
 # go to the program: --q 4, --fast (without the plain form), --seed 7.
+#
+# --against ARCHIVE times it against another archive instead, in one process and in
+# turn, and prints the ratio of each floor and their geometric mean; two minutes.
+# With it go --q 4, --seed 7, --rounds 20 (5 otherwise; more where the machine is
+# busy) and --layout base, for an archive with that call where this tree's is
+# another (bench/layouts.rs). An archive to compare with is a copy of
+# target/staticlib/libvithmork.a, made before a change, or what
+# bench/archive.sh REVISION FILE builds.
 set -eu
+from=$PWD
 cd "$(dirname "$0")/.."
+
+other= words=()
+while [ $# -gt 0 ]; do
+    case $1 in
+    --against)
+        if [ -z "${2-}" ]; then echo "bench: --against asks for the path of an archive" >&2 && exit 2; fi
+        case $2 in /*) other=$2 ;; *) other=$from/$2 ;; esac
+        shift
+        ;;
+    *) words+=("$1") ;;
+    esac
+    shift
+done
+if [ -n "$other" ]; then exec bench/against.sh "$other" "${words[@]}"; fi
+
 tests/second/archive.sh
 archive=target/staticlib/libvithmork.a
 
@@ -24,4 +48,4 @@ fi
 echo "allocates nothing: outside itself the archive calls ${lacking:-nothing}"
 
 rustc --edition 2021 -O -L native=target/staticlib -o target/second/bench bench/bench.rs
-target/second/bench "$@"
+target/second/bench "${words[@]}"

@@ -1,0 +1,110 @@
+//! The calls that archives of this project have had, each made on the tables of
+//! this tree. A change of the call adds an arm for the new one and keeps the
+//! adapters of those before, so that older archives can still be timed.
+
+use crate::call::Call;
+use crate::clock::spent;
+use std::mem::transmute;
+use std::time::Duration;
+
+#[derive(Clone, Copy, PartialEq)]
+pub enum Layout {
+    /// n and q; belts of three numbers, pairs; flow, lengths, an answer of seven
+    /// numbers, the running count.
+    Base,
+}
+
+impl Layout {
+    /// This tree's, that of tests/second/library.rs.
+    pub const HERE: Layout = Layout::Base;
+
+    pub fn named(name: &str) -> Option<Layout> {
+        match name {
+            "base" => Some(Layout::Base),
+            _ => None,
+        }
+    }
+}
+
+/// An archive's call, its arguments not yet known.
+type Symbol = unsafe extern "C" fn();
+
+#[link(name = "here", kind = "static")]
+extern "C" {
+    fn vithmork_solve();
+}
+
+// The other archive's vithmork_solve, which against.sh has renamed.
+#[link(name = "other", kind = "static")]
+extern "C" {
+    fn other_solve();
+}
+
+/// Both are called through one piece of code, so that their work space comes to
+/// lie at the same place of the stack.
+pub struct Archive {
+    symbol: Symbol,
+    layout: Layout,
+}
+
+/// What a call took, without what its adapter did before and after.
+pub struct Run {
+    pub took: Duration,
+    pub returned: u64,
+}
+
+impl Archive {
+    pub fn here() -> Archive {
+        Archive { symbol: vithmork_solve, layout: Layout::HERE }
+    }
+
+    pub fn there(layout: Layout) -> Archive {
+        Archive { symbol: other_solve, layout }
+    }
+
+    /// An adapter lays out what its archive asks for, times the call alone, and
+    /// leaves what was written where this tree's library would.
+    pub fn solve(&self, call: &mut Call) -> Run {
+        match self.layout {
+            Layout::Base => base(self.symbol, call),
+        }
+    }
+}
+
+fn timed(call: impl FnOnce() -> u64) -> Run {
+    let began = spent();
+    let returned = call();
+    Run { took: spent() - began, returned }
+}
+
+type Read = *const u8;
+type Written = *mut u8;
+
+#[rustfmt::skip]
+type Base = unsafe extern "C" fn(
+    n: u64, q: u64,
+    belts: Read, belts_len: usize,
+    pairs: Read, pairs_len: usize,
+    flow: Written, flow_len: usize,
+    length: Written, length_len: usize,
+    answer: Written, answer_len: usize,
+    count: Written, count_len: usize,
+) -> u64;
+
+#[rustfmt::skip]
+fn base(symbol: Symbol, call: &mut Call) -> Run {
+    let Call { n, q, belts, pairs, flow, length, answer, count } = call;
+    // SAFETY: an archive of this layout has these arguments, and asks of its caller
+    // only that each pointer and count be a slice of its own, as borrowed ones are.
+    timed(|| unsafe {
+        transmute::<Symbol, Base>(symbol)(
+            *n, *q,
+            belts.as_ptr(), belts.len(),
+            pairs.as_ptr(), pairs.len(),
+            flow.as_mut_ptr(), flow.len(),
+            length.as_mut_ptr(), length.len(),
+            answer.as_mut_ptr(), answer.len(),
+            count.as_mut_ptr(), count.len(),
+        )
+    })
+}
