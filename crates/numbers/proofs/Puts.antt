@@ -54,7 +54,7 @@ module _ (s : List ℕ) (i x : ℕ) (h : i < count s) where
 
   -- Every earlier number is kept.
   pub numberAt-putAt-earlier : (j : ℕ) → j < i → numberAt (putAt s i x) j ≡ numberAt s j
-  unfolding putAt
+  unfolding putAt toBytes
   numberAt-putAt-earlier j b =
       let within : 8 * i ≤ length s = omega arith in
       let room : 8 * j + 8 ≤ length (take (8 * i) s) = omega (arith, length-take-le (8 * i) s within) in

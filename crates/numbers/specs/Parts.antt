@@ -14,4 +14,4 @@ splice s p ds = take p s ++ (ds ++ drop (p + length ds) s)
 
 -- The bytes with x as number i, all others kept.
 unfoldable pub putAt : List ℕ → ℕ → ℕ → List ℕ
-putAt s i x = take (8 * i) s ++ (toBytes 8 x ++ drop (8 * i + 8) s)
+putAt s i x = splice s (8 * i) (toBytes 8 x)

@@ -3,6 +3,7 @@
 use Prim.Native.Nat.{ℕ, _+_, _*_, _^_, _≤_, _<_}
 use native.Mathlib.Nat.{le-trans, mul-le-mul, mul-le-mul-right}
 use native.Mathlib.Omega.{arith}
+use Rattle.bounds.specs.Bounds.{mostCapacity}
 use Rattle.arith.proofs.Sums.{sum-le}
 use Rattle.packing.proofs.Capacity.{volume-le}
 use Rattle.packing.proofs.Count.{count-all}
@@ -60,7 +61,7 @@ module _ {m q L : ℕ} {c : ℕ → ℕ} (p : Program m q L c) where
   alpha-below (Run.next r i) = new-alpha-below (i .least) (omega (arith, size-le r i, volume-below r)) (alpha-below r)
 
   -- An iteration draws at most 1,000.
-  pub total-le : {s : State} → Run m q c s → s .total ≤ 1000 * s .count
+  pub total-le : {s : State} → Run m q c s → s .total ≤ mostCapacity * s .count
   total-le (Run.start h) = omega (arith, h .total)
   total-le (Run.next r i) =
       omega (arith, total-le r, i .total, i .count, i .column .full, p .capacity-high (i .column .narrow) (i .column .inside))
