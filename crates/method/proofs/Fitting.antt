@@ -50,7 +50,7 @@ module _ (net : Network) where
         flow = λ j. omega (arith, zeros (commodities net * arcs net) j);
         lengths = λ j. omega (arith, zeros (arcs net) j);
         answer =
-            seven (record { total = 0; capacity = 1; load = 1; bound = 0; alpha = 1; count = 0; best = 0 }) (omega arith) (omega arith) (omega arith)
+            seven (unjoined net .answer) (omega arith) (omega arith) (omega arith)
             (omega arith) (omega arith) (omega arith) (omega arith);
         total = omega arith;
         loads = λ e l. omega (arith, zero-load net (commodities net * arcs net) e);
@@ -105,16 +105,7 @@ module _ (net : Network) (q : ℕ) (sound : Sound net q) (s : State) (sizes : Si
         flow = flow-fits net (s .flow) (s .loads) (s .total) t (sound .counts .of-arcs .least) (sizes .load-high);
         lengths = lengths-fit net (s .bestLengths) z (λ e l. sound .arc-capacity e l .least) (omega (arith, e, sizes .bound-high));
         answer =
-            seven
-            (record {
-              total = s .total;
-              capacity = capacity net b;
-              load = getD (s .loads) b 0;
-              bound = s .bound;
-              alpha = s .alpha;
-              count = s .count;
-              best = s .best;
-            })
+            seven (outcomeOf net s .answer)
             (omega (arith, sizes .total-high))
             (omega (arith, most))
             (omega (arith, sizes .load-high b inside))
