@@ -1,0 +1,25 @@
+// The network as one slice of numbers: its columns stand at fixed places, each with room for the most arcs or commodities. It travels from the
+// calls down to the loops as this slice and its shape; only a loop over a column cuts that column out.
+use bounds::MOST_ARCS;
+use bounds::MOST_COMMODITIES;
+
+// n, m and k.
+pub struct Shape {
+    pub nodes: u64,
+    pub arcs: usize,
+    pub commodities: usize,
+}
+
+// Where each column begins.
+pub const TAILS: usize = 0;
+
+pub const HEADS: usize = MOST_ARCS;
+
+pub const CAPACITIES: usize = 2 * MOST_ARCS;
+
+pub const SOURCES: usize = 3 * MOST_ARCS;
+
+pub const SINKS: usize = 3 * MOST_ARCS + MOST_COMMODITIES;
+
+// And how many numbers they take in all.
+pub const NET_NUMBERS: usize = 3 * MOST_ARCS + 2 * MOST_COMMODITIES;
