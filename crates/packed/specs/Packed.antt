@@ -5,6 +5,7 @@ use Prim.Native.Nat.{ℕ, _+_, _-_, _≤_}
 use lib.ListN.{length, take, drop}
 use Rattle.bounds.specs.Bounds.{mostArcs, mostCommodities}
 use Rattle.network.specs.Network.{Network}
+use Rattle.network.specs.Sound.{Sound}
 use Rattle.packed.specs.declared.Shape.{Shape}
 
 -- The n numbers from place a on: how the checker shows a part a .. a + n of a slice.
@@ -28,3 +29,18 @@ pub record Packed (s : Shape) (xs : List ℕ) : Type 0 where
   pub few-arcs : s .arcs ≤ mostArcs
   pub few-commodities : s .commodities ≤ mostCommodities
   pub places : 832 ≤ length xs
+
+-- An accepted network at precision q.
+pub record Lent (s : Shape) (q : ℕ) (xs : List ℕ) : Type 0 where
+  pub sound : Sound (netIn s xs) q
+  pub packed : Packed s xs
+
+-- The tables of the arcs stand in one slice in the same way.
+abbrev pub lengthsIn : Shape → List ℕ → List ℕ
+lengthsIn s xs = column 0 (s .arcs) xs
+
+abbrev pub loadsIn : Shape → List ℕ → List ℕ
+loadsIn s xs = column 256 (s .arcs) xs
+
+abbrev pub keptIn : Shape → List ℕ → List ℕ
+keptIn s xs = column 512 (s .arcs) xs

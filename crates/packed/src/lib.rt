@@ -23,3 +23,13 @@ pub const SINKS: usize = 3 * MOST_ARCS + MOST_COMMODITIES;
 
 // And how many numbers they take in all.
 pub const NET_NUMBERS: usize = 3 * MOST_ARCS + 2 * MOST_COMMODITIES;
+
+// The tables of the arcs as one slice too: their lengths, loads and kept lengths. Where each begins,
+pub const LENGTHS: usize = 0;
+
+pub const LOADS: usize = MOST_ARCS;
+
+pub const KEPT: usize = 2 * MOST_ARCS;
+
+// and how many numbers they take in all.
+pub const TABLE_NUMBERS: usize = 3 * MOST_ARCS;

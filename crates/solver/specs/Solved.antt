@@ -1,7 +1,7 @@
 -- What the solver asks, and what it leaves: the outcome of the method, with all that holds of it.
 use mathlib.Core.Path.{_≡_}
 use mathlib.Core.List.{List}
-use Prim.Native.Nat.{ℕ, _*_}
+use Prim.Native.Nat.{ℕ, _*_, _≤_}
 use lib.ListN.{length, getD}
 use Rattle.network.specs.Network.{Network, arcs, commodities}
 use Rattle.method.specs.Answer.{outcome}
@@ -9,12 +9,21 @@ use Rattle.method.specs.Guarantee.{Guarantee}
 use Rattle.method.specs.declared.Answer.{Answer}
 use Rattle.step.specs.declared.Progress.{Progress}
 use Rattle.run.specs.Runs.{Lent}
+use Rattle.packed.specs.Packed as packed
+use Rattle.packed.specs.Packed.{netIn}
+use Rattle.packed.specs.declared.Shape.{Shape}
 
 -- A network, and tables of just the size that its outcome has.
-pub record Solving (net : Network) (q : ℕ) (flow kept : List ℕ) : Type 0 where
+pub record SolvingColumns (net : Network) (q : ℕ) (flow kept : List ℕ) : Type 0 where
   pub lent : Lent net q
   pub flows : length flow ≡ commodities net * arcs net
   pub bests : length kept ≡ arcs net
+
+-- An accepted network, a flow table of just the size that its outcome has, and room for the tables of the arcs.
+pub record Solving (s : Shape) (q : ℕ) (net flow tables : List ℕ) : Type 0 where
+  pub lent : packed.Lent s q net
+  pub flows : length flow ≡ commodities (netIn s net) * arcs (netIn s net)
+  pub places : 768 ≤ length tables
 
 -- All tables of that size, and a bound for each commodity.
 pub record Sized (net : Network) (flow kept loads lengths bounds : List ℕ) : Type 0 where

@@ -7,7 +7,7 @@ use tables::loads;
 ghost use lib.ListN.{length};
 ghost use Rattle.solver.specs.Prepared.{Cleared, Working};
 ghost use Rattle.run.specs.Runs.{networkOf, Lent};
-ghost use Rattle.solver.specs.Solved.{Solving, Sized, Solved};
+ghost use Rattle.solver.specs.Solved.{SolvingColumns, Sized, Solved};
 
 // The tables before the first choice: lengths at their start, zeros in the others. Most of the network is taken for the contract, which speaks of it.
 fn prepare(
@@ -113,7 +113,7 @@ pub fn solve(
     flow: &mut [u64],
     kept: &mut [u64],
 ) -> Answer
-    requires { ⌜ Solving (networkOf n (now tails) (now heads) (now capacities) (now sources) (now sinks)) q (now flow) (now kept) ⌝ }
+    requires { ⌜ SolvingColumns (networkOf n (now tails) (now heads) (now capacities) (now sources) (now sinks)) q (now flow) (now kept) ⌝ }
     ensures { λ r. ⌜ Solved (networkOf n (now (tails .entry)) (now (heads .entry)) (now (capacities .entry)) (now (sources .entry)) (now (sinks .entry))) q r (now (flow .exit)) (now (kept .exit)) ⌝ }
 {
     let m = tails.len();

@@ -11,7 +11,7 @@ ghost use Rattle.bounds.specs.Bounds.{answerNumbers};
 ghost use Rattle.numbers.specs.Numbers.{count, numberAt, written};
 ghost use Rattle.method.specs.Answer.{numbersOf};
 ghost use Rattle.run.specs.Runs.{networkOf, Lent};
-ghost use Rattle.solver.specs.Solved.{Solving};
+ghost use Rattle.solver.specs.Solved.{SolvingColumns};
 ghost use Rattle.vithmork.specs.Deliver.{slices, Open, Delivered};
 
 // The seven numbers of the answer.
@@ -56,7 +56,7 @@ fn deliver_in(
     answer: &mut [u8],
     running: &mut [u8],
 )
-    requires solving { ⌜ Solving (networkOf n (now tails) (now heads) (now capacities) (now sources) (now sinks)) q (now flows) (now kept) ⌝ }
+    requires solving { ⌜ SolvingColumns (networkOf n (now tails) (now heads) (now capacities) (now sources) (now sinks)) q (now flows) (now kept) ⌝ }
     requires room { ⌜ Open (length (now sources)) (length (now tails)) (slices (now flow) (now lengths) (now answer) (now running)) ⌝ }
     ensures { λ r. ⌜ Delivered (networkOf n (now (tails .entry)) (now (heads .entry)) (now (capacities .entry)) (now (sources .entry)) (now (sinks .entry))) q (slices (now (flow .entry)) (now (lengths .entry)) (now (answer .entry)) (now (running .entry))) (slices (now (flow .exit)) (now (lengths .exit)) (now (answer .exit)) (now (running .exit))) ⌝ }
 {
