@@ -1,7 +1,4 @@
 // The network's verdict: what a call is turned down for, in document 01's order.
-pub mod checks;
-pub mod numbers;
-
 // Why a call is turned down. Document 01, "Turned down": its numbers and places are given by specs/Refusal.antt alone.
 pub enum Refusal {
     Nodes,

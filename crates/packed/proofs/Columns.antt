@@ -37,8 +37,8 @@ module _ (a n : ℕ) (xs : List ℕ) where
   pub column-before : (b k : ℕ) (ys : List ℕ) → a ≤ length xs → b + k ≤ a → column b k (putMid a (a + n - a) xs ys) ≡ column b k xs
   column-before b k ys h past =
       let front : (zs : List ℕ) → column b k (take a xs ++ zs) ≡ column b k (take a xs) = λ zs.
-          ap (take (b + k - b)) (drop-append-le b (take a xs) zs (omega (arith, length-take-le a xs h))) ∙
-          take-append-le (b + k - b) (drop b (take a xs)) zs (omega (arith, length-take-le a xs h, length-drop b (take a xs))) in
+      ap (take (b + k - b)) (drop-append-le b (take a xs) zs (omega (arith, length-take-le a xs h))) ∙
+      take-append-le (b + k - b) (drop b (take a xs)) zs (omega (arith, length-take-le a xs h, length-drop b (take a xs))) in
       front (ys ++ postOf a (a + n - a) xs) ∙ (sym (front (drop a xs)) ∙ ap (column b k) (take-append-drop a xs))
 
 -- The network's columns have as many numbers as its shape says.

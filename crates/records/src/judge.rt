@@ -1,8 +1,8 @@
 // A call whose sizes have passed: its arcs and commodities checked, then its network solved into the lent tables.
 use crate::Reply;
+use checks::items::check_arcs;
+use checks::items::check_commodities;
 use network::Verdict;
-use network::checks::check_arcs;
-use network::checks::check_commodities;
 ghost use lib.ListN.{length};
 ghost use Rattle.network.specs.Verdict.{verdict, itemConditions};
 ghost use Rattle.run.specs.Runs.{networkOf, Lent};

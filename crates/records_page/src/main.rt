@@ -1,9 +1,9 @@
 // Document 01's worked floors, and some that it turns down, solved through a slice of records. A line for each: what is lent, what the call
 // returns, the flow table and the length table, in which every place held a 9. The file `stdout` has the page's figures.
+use checks::numbers::refusal_code;
 use libc::STDOUT_FILENO;
 use method::Answer;
 use network::Refusal;
-use network::numbers::refusal_code;
 use records::Arc;
 use records::Reply;
 ghost use Prim.Native.Nat.{_≤_};

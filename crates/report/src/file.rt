@@ -2,9 +2,9 @@
 use crate::put::put;
 use crate::rows::put_refusal;
 use crate::solved::show;
+use checks::items::check_arcs;
+use checks::items::check_commodities;
 use network::Verdict;
-use network::checks::check_arcs;
-use network::checks::check_commodities;
 ghost use mathlib.Core.List.{[], _∷_};
 ghost use Prim.Native.Nat.{_+_, _≤_};
 ghost use lib.ListN.{length};

@@ -1,9 +1,9 @@
 // A call whose sizes have passed: its arcs and commodities checked, then the outcome delivered.
 use crate::deliver::deliver;
+use checks::items::check_arcs;
+use checks::items::check_commodities;
+use checks::numbers::host_number;
 use network::Verdict;
-use network::checks::check_arcs;
-use network::checks::check_commodities;
-use network::numbers::host_number;
 ghost use Rattle.network.specs.Verdict.{verdict, itemConditions};
 ghost use Rattle.run.specs.Runs.{networkOf};
 ghost use Rattle.vithmork.specs.Deliver.{slices};

@@ -4,9 +4,9 @@ mod deliver;
 mod judge;
 mod room;
 
+use checks::numbers::host_number;
+use checks::sizes::check_sizes;
 use network::Verdict;
-use network::checks::check_sizes;
-use network::numbers::host_number;
 ghost use Rattle.vithmork.specs.Host.{Hosted};
 
 // Solves the floor in the byte slices: 0 and the tables written, or a refusal's number * 1,000 + its place and no byte changed.

@@ -1,0 +1,37 @@
+// The sizes of a call: 1 to 4 of document 01's table, "Turned down", in its order.
+use bounds::LEAST_NODES;
+use bounds::LEAST_PRECISION;
+use bounds::MOST_ARCS;
+use bounds::MOST_COMMODITIES;
+use bounds::MOST_NODES;
+use bounds::MOST_PRECISION;
+use network::Refusal;
+use network::Verdict;
+ghost use mathlib.Core.Path.{_≡_};
+ghost use Rattle.network.specs.Verdict.{verdict, outside, sizeConditions};
+
+// x is none of lo, .., hi.
+pub fn outside(lo: u64, hi: u64, x: u64) -> bool
+    ensures { λ r. ⌜ r ≡ outside lo hi x ⌝ }
+{
+    x < lo || hi < x
+}
+
+// 1, 2, 3 and 4: nodes, arcs, commodities, precision.
+pub fn check_sizes(n: u64, m: usize, k: usize, q: u64) -> Verdict
+    ensures { λ r. ⌜ r ≡ verdict (sizeConditions n m k q) ⌝ }
+{
+    if outside(LEAST_NODES, MOST_NODES, n) {
+        return Verdict::Refused(Refusal::Nodes);
+    }
+    if outside(1, MOST_ARCS as u64, m as u64) {
+        return Verdict::Refused(Refusal::Arcs);
+    }
+    if outside(1, MOST_COMMODITIES as u64, k as u64) {
+        return Verdict::Refused(Refusal::Commodities);
+    }
+    if outside(LEAST_PRECISION, MOST_PRECISION, q) {
+        return Verdict::Refused(Refusal::Precision);
+    }
+    Verdict::Accepted
+}
