@@ -1,6 +1,6 @@
 -- The network that one slice of numbers holds. A column that is added later is added here, and to the functions that fill the slice.
 -- Assumes nothing.
-use mathlib.Core.List.{List}
+use mathlib.Core.List.{List, _++_}
 use Prim.Native.Nat.{ℕ, _+_, _-_, _≤_}
 use lib.ListN.{length, take, drop}
 use Rattle.bounds.specs.Bounds.{mostArcs, mostCommodities}
@@ -11,6 +11,10 @@ use Rattle.packed.specs.declared.Shape.{Shape}
 -- The n numbers from place a on: how the checker shows a part a .. a + n of a slice.
 abbrev pub column : ℕ → ℕ → List ℕ → List ℕ
 column a n xs = take (a + n - a) (drop a xs)
+
+-- The slice with ys in the place of those n numbers: how it shows a part that was lent and has come back.
+abbrev pub put : ℕ → ℕ → List ℕ → List ℕ → List ℕ
+put a n xs ys = take a xs ++ (ys ++ drop (a + n - a) (drop a xs))
 
 -- The columns stand at the places that src/lib.rt names.
 unfoldable pub netIn : Shape → List ℕ → Network

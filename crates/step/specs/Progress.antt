@@ -1,12 +1,11 @@
 -- The tables and numbers of a run as the method's state.
 use mathlib.Core.Bool.{Bool, false, cond}
-use mathlib.Core.List.{List, []}
+use mathlib.Core.List.{List}
 use Prim.Native.Nat.{ℕ, _+_}
-use lib.ListN.{getD}
-use Rattle.length.specs.Length.{growth}
-use Rattle.network.specs.Network.{Network}
-use Rattle.method.specs.Iteration.{State, draw, update}
-use Rattle.tables.specs.Tables.{atMark}
+use Rattle.packed.specs.Packed.{column, put, lengthsIn, loadsIn, keptIn}
+use Rattle.packed.specs.declared.Shape.{Shape}
+use Rattle.method.specs.Iteration.{State, draw}
+use Rattle.tables.specs.Tables.{longer, atMark}
 use Rattle.step.specs.declared.Progress.{Progress}
 
 -- The state that the tables and the numbers hold.
@@ -24,6 +23,14 @@ stateOf lengths flow loads kept p =
       bestLengths = kept;
     }
 
+-- The same where the tables of the arcs stand in one slice.
+abbrev pub stateIn : Shape → List ℕ → List ℕ → Progress → State
+stateIn s flow tables p = stateOf (lengthsIn s tables) flow (loadsIn s tables) (keptIn s tables) p
+
+-- Those tables, with the lengths of m arcs kept where they gave a better bound.
+abbrev pub keeping : Bool → ℕ → List ℕ → List ℕ
+keeping better m tables = cond better (put 512 m tables (column 0 m tables)) tables
+
 -- Before the first iteration, where D is d.
 abbrev pub begunWith : ℕ → Progress
 begunWith d = record { total = 0; count = 0; bound = 1; alpha = 0; best = 0; weight = d; halved = false; ended = false }
@@ -31,10 +38,6 @@ begunWith d = record { total = 0; count = 0; bound = 1; alpha = 0; best = 0; wei
 -- The same where D does not matter.
 abbrev pub begun : Progress
 begun = begunWith 0
-
--- A network with these capacities, of which nothing else is said: all that a step depends on.
-abbrev pub ofCapacities : List ℕ → Network
-ofCapacities capacities = record { nodes = 0; tails = capacities; heads = []; capacities = capacities; sources = []; sinks = [] }
 
 -- The numbers after an iteration with draw g and fraction D / a, which is better than the least so far or not, that left lengths of weight d.
 abbrev pub counted : Progress → ℕ → Bool → ℕ → ℕ → Bool → Bool → Progress
@@ -50,10 +53,6 @@ counted p g better a d halved ended =
       ended = ended;
     }
 
--- The lengths l grown along a path, and not yet halved.
-abbrev pub longer : List ℕ → ℕ → List ℕ → List ℕ → List ℕ
-longer capacities q path l = update (λ e x. growth q (draw capacities path) (getD capacities e 0) x) path l
-
--- Some of them is at the mark, so that all are halved.
+-- Some length of l grown along a path is at the mark, so that all are halved.
 abbrev pub halves : List ℕ → ℕ → List ℕ → List ℕ → Bool
-halves capacities q path l = atMark (longer capacities q path l)
+halves capacities q path l = atMark (longer capacities q (draw capacities path) path l)

@@ -1,13 +1,20 @@
 // One step of the run on the lent tables: what an iteration does once its path is chosen.
+use packed::CAPACITIES;
+use packed::KEPT;
+use packed::LENGTHS;
+use packed::LOADS;
+use packed::Shape;
 use tables::draws;
 use tables::lengths;
+use tables::lengths::Grown;
 use tables::loads;
-ghost use mathlib.Core.Bool.{cond};
 ghost use mathlib.Core.Path.{_≡_};
-ghost use Prim.Native.Nat.{_+_, _<_, _^_};
+ghost use Prim.Native.Nat.{_+_, _≤_, _<_, _^_};
 ghost use lib.ListN.{length};
-ghost use Rattle.step.specs.Progress.{stateOf, counted};
-ghost use Rattle.step.specs.Steps.{Stepping, Kept, Stepped};
+ghost use Rattle.bounds.specs.Bounds.{mostArcs};
+ghost use Rattle.packed.specs.Packed.{netIn};
+ghost use Rattle.step.specs.Progress.{stateIn, keeping, counted};
+ghost use Rattle.step.specs.Steps.{Steppable, Stepped};
 
 // The drawn total, the count of iterations, and D, alpha and number of the iteration of the least D / alpha so far. Beside these numbers of the
 // method's state, what would else be read off whole tables: D of the present lengths, whether the last iteration halved them, and whether some
@@ -24,27 +31,26 @@ pub struct Progress {
 }
 
 // The lengths kept where they gave a better bound.
-fn keep(better: bool, lengths: &[u64], kept: &mut [u64])
-    requires { ⌜ length (now kept) ≡ length (now lengths) ⌝ }
-    ensures { λ r. ⌜ now (kept .exit) ≡ cond better (now (lengths .entry)) (now (kept .entry)) ⌝ }
+fn keep(better: bool, m: usize, tables: &mut [u64])
+    requires { ⌜ (m ≤ mostArcs) × (768 ≤ length (now tables)) ⌝ }
+    ensures { λ r. ⌜ now (tables .exit) ≡ keeping better m (now (tables .entry)) ⌝ }
 {
     if better {
-        loads::copy(lengths, kept);
+        loads::copy_within(tables, LENGTHS, KEPT, m);
     }
 }
 
-// One more iteration, with draw g and fraction D / alpha, that left lengths of this weight.
+// One more iteration, with draw g and fraction D / alpha, that left lengths grown so.
 fn count(
     p: Progress,
     g: u64,
     better: bool,
     alpha: u64,
-    weight: u64,
-    halved: bool,
+    grown: Grown,
     ended: bool,
 ) -> Progress
     requires { ⌜ (p .total + g < 2 ^ 64) × (p .count + 1 < 2 ^ 64) ⌝ }
-    ensures { λ r. ⌜ r ≡ counted p g better alpha weight halved ended ⌝ }
+    ensures { λ r. ⌜ r ≡ counted p g better alpha (grown .weight) (grown .marked) ended ⌝ }
 {
     let number = p.count + 1;
     if better {
@@ -54,8 +60,8 @@ fn count(
             bound: p.weight,
             alpha,
             best: number,
-            weight,
-            halved,
+            weight: grown.weight,
+            halved: grown.marked,
             ended,
         }
     } else {
@@ -65,8 +71,8 @@ fn count(
             bound: p.bound,
             alpha: p.alpha,
             best: p.best,
-            weight,
-            halved,
+            weight: grown.weight,
+            halved: grown.marked,
             ended,
         }
     }
@@ -75,29 +81,40 @@ fn count(
 // The iteration that draws along the path of a commodity, alpha long by the lengths. Only the path's arcs are looked at, unless the lengths are
 // kept or halved.
 pub fn step(
+    s: Shape,
     q: u64,
     threshold: u64,
-    capacities: &[u64],
+    net: &[u64],
     commodity: usize,
     path: &[u64],
     alpha: u64,
     flow: &mut [u64],
-    loads: &mut [u64],
-    lengths: &mut [u64],
-    kept: &mut [u64],
+    tables: &mut [u64],
     p: Progress,
 ) -> Progress
-    requires stepping { ⌜ Stepping (now capacities) q commodity (now path) alpha (stateOf (now lengths) (now flow) (now loads) (now kept) p) ⌝ }
-    requires kept { ⌜ Kept (now capacities) threshold (stateOf (now lengths) (now flow) (now loads) (now kept) p) p ⌝ }
-    ensures { λ r. ⌜ Stepped (now (capacities .entry)) q threshold commodity (now (path .entry)) (stateOf (now (lengths .entry)) (now (flow .entry)) (now (loads .entry)) (now (kept .entry)) p) (now (lengths .exit)) (now (flow .exit)) (now (loads .exit)) (now (kept .exit)) r ⌝ }
+    requires { ⌜ Steppable s q threshold commodity (now net) (now path) alpha (now flow) (now tables) p ⌝ }
+    ensures { λ r. ⌜ Stepped (netIn s (now (net .entry))) q threshold commodity (now (path .entry)) (stateIn s (now (flow .entry)) (now (tables .entry)) p) (stateIn s (now (flow .exit)) (now (tables .exit)) r) r ⌝ }
 {
+    let m = s.arcs;
+    let capacities = &net[CAPACITIES..CAPACITIES + m];
     let g = draws::draw(capacities, path);
     let better = arith::less_product(p.weight, p.alpha, p.bound, alpha);
-    keep(better, lengths, kept);
-    let row = commodity * capacities.len();
-    draws::add(flow, row, path, g);
-    let ended = loads::load(loads, capacities, threshold, path, g);
-    let grown = lengths::grow(lengths, capacities, q, g, path, p.weight);
-    let weight = lengths::settle(lengths, capacities, grown);
-    count(p, g, better, alpha, weight, grown.marked, ended)
+    keep(better, m, tables);
+    draws::add(flow, commodity * m, path, g);
+    let ended = loads::load(
+        &mut tables[LOADS..LOADS + m],
+        capacities,
+        threshold,
+        path,
+        g,
+    );
+    let grown = lengths::lengthen(
+        &mut tables[LENGTHS..LENGTHS + m],
+        capacities,
+        q,
+        g,
+        path,
+        p.weight,
+    );
+    count(p, g, better, alpha, grown, ended)
 }

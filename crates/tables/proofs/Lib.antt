@@ -1,4 +1,5 @@
 pub mod Amounts
+pub mod Copied
 pub mod Counted
 pub mod Filled
 pub mod Followed
@@ -9,5 +10,6 @@ pub mod Lengthened
 pub mod Loadings
 pub mod Lowered
 pub mod OnPath
+pub mod Settling
 pub mod Stored
 pub mod Weighed

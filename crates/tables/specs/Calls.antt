@@ -7,7 +7,7 @@ use Prim.Native.Nat.{ℕ, _+_, _^_, _≤_, _<_}
 use lib.ListN.{length, getD}
 use Rattle.bounds.specs.Bounds.{mostNodes, mostArcs, mostCapacity, leastPrecision, mostPrecision}
 use Rattle.arith.specs.Times.{times}
-use Rattle.tables.specs.Tables.{Under, NoneAbove, Capacities, atThreshold}
+use Rattle.tables.specs.Tables.{Under, NoneAbove, Capacities, weightOf, longer, atThreshold}
 
 -- Growth along a path at precision q by the draw g, no more than the capacities on it. The path has no arc twice, so that each length is below
 -- the mark, document 01's 2^40, when it grows.
@@ -36,6 +36,12 @@ pub record Settling (capacities lengths : List ℕ) : Type 0 where
   pub arcs : length capacities ≤ mostArcs
   pub sizes : NoneAbove mostCapacity capacities
   pub grown : Under (2 ^ 41) lengths
+
+-- Growth along a path, and halving where a length comes to the mark by it. D of the lengths is at hand.
+pub record Lengthening (lengths capacities : List ℕ) (q g : ℕ) (path : List ℕ) (d : ℕ) : Type 0 where
+  pub growing : Growing lengths capacities q g path
+  pub grown : Settling capacities (longer capacities q g path lengths)
+  pub weight : d ≡ weightOf capacities lengths
 
 -- A draw g added at each place of a path, counted from base. Amounts stay far below 2^32, and a path has fewer arcs than there are nodes.
 pub record Adding (table : List ℕ) (base : ℕ) (path : List ℕ) (g : ℕ) : Type 0 where

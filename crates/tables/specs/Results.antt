@@ -3,15 +3,14 @@ use mathlib.Core.Path.{_≡_}
 use mathlib.Core.Bool.{Bool, cond}
 use mathlib.Core.List.{List, map}
 use Prim.Native.Nat.{ℕ, _+_}
-use lib.ListN.{getD}
-use Rattle.length.specs.Length.{growth, halving}
+use Rattle.length.specs.Length.{halving}
 use Rattle.method.specs.Iteration.{update}
 use Rattle.tables.specs.declared.lengths.Grown.{Grown}
-use Rattle.tables.specs.Tables.{weightOf, atMark, atThreshold}
+use Rattle.tables.specs.Tables.{weightOf, longer, atMark, atThreshold}
 
 -- The lengths of the path's arcs are grown by the draw g; their D, and whether some length is at the mark.
 pub record Grew (old capacities : List ℕ) (q g : ℕ) (path new : List ℕ) (r : Grown) : Type 0 where
-  pub lengths : new ≡ update (λ e x. growth q g (getD capacities e 0) x) path old
+  pub lengths : new ≡ longer capacities q g path old
   pub weight : r .weight ≡ weightOf capacities new
   pub marked : r .marked ≡ atMark new
 
@@ -19,6 +18,12 @@ pub record Grew (old capacities : List ℕ) (q g : ℕ) (path new : List ℕ) (r
 pub record Settled (old capacities : List ℕ) (marked : Bool) (new : List ℕ) (d : ℕ) : Type 0 where
   pub lengths : new ≡ cond marked (map halving old) old
   pub weight : d ≡ weightOf capacities new
+
+-- Both: the lengths are grown, and halved where one of them then is at the mark; their D, and whether they were halved.
+pub record Lengthened (old capacities : List ℕ) (q g : ℕ) (path new : List ℕ) (r : Grown) : Type 0 where
+  pub marked : r .marked ≡ atMark (longer capacities q g path old)
+  pub lengths : new ≡ cond (r .marked) (map halving (longer capacities q g path old)) (longer capacities q g path old)
+  pub weight : r .weight ≡ weightOf capacities new
 
 -- The loads of the path's arcs are raised by the draw g; whether some load is at the threshold.
 pub record Loaded (old capacities : List ℕ) (threshold : ℕ) (path : List ℕ) (g : ℕ) (new : List ℕ) (r : Bool) : Type 0 where

@@ -8,7 +8,8 @@ use lib.ListN.{length, getD}
 use Rattle.bounds.specs.Bounds.{mostCapacity}
 use Rattle.arith.specs.Lists.{exists}
 use Rattle.arith.specs.Sum.{sum}
-use Rattle.length.specs.Length.{mark}
+use Rattle.length.specs.Length.{mark, growth}
+use Rattle.method.specs.Iteration.{update}
 
 -- Every number of the table is less than b. Of a path: its arcs are among b arcs.
 abbrev pub Under : ℕ → List ℕ → Type 0
@@ -26,6 +27,10 @@ pub record Capacities (capacities : List ℕ) : Type 0 where
 -- D: the sum over all arcs of capacity times length.
 abbrev pub weightOf : List ℕ → List ℕ → ℕ
 weightOf capacities lengths = sum (length capacities) (λ e. getD capacities e 0 * getD lengths e 0)
+
+-- The lengths grown by the draw g along a path at precision q.
+abbrev pub longer : List ℕ → ℕ → ℕ → List ℕ → List ℕ → List ℕ
+longer capacities q g path lengths = update (λ e x. growth q g (getD capacities e 0) x) path lengths
 
 -- Some length is at the mark.
 abbrev pub atMark : List ℕ → Bool

@@ -7,8 +7,8 @@ ghost use lib.ListN.{length, getD};
 ghost use Rattle.arith.specs.Lists.{upTo};
 ghost use Rattle.length.specs.Length.{start, halving};
 ghost use Rattle.tables.specs.Tables.{Under, Capacities, weightOf};
-ghost use Rattle.tables.specs.Calls.{Growing, Weighing, Settling};
-ghost use Rattle.tables.specs.Results.{Grew, Settled};
+ghost use Rattle.tables.specs.Calls.{Growing, Weighing, Settling, Lengthening};
+ghost use Rattle.tables.specs.Results.{Grew, Settled, Lengthened};
 
 // Every length at its arc's start.
 pub fn start(capacities: &[u64], lengths: &mut [u64])
@@ -30,7 +30,7 @@ pub struct Grown {
 
 // The lengths of the path's arcs grown by the draw g. Only they change: their growth carries D over from the weight before, and only they can
 // have reached the mark.
-pub fn grow(
+fn grow(
     lengths: &mut [u64],
     capacities: &[u64],
     q: u64,
@@ -63,7 +63,7 @@ pub fn grow(
 }
 
 // Every length halved.
-pub fn halve(lengths: &mut [u64])
+fn halve(lengths: &mut [u64])
     requires { ⌜ Under (2 ^ 41) (now lengths) ⌝ }
     ensures { λ _. ⌜ now (lengths .exit) ≡ map halving (now (lengths .entry)) ⌝ }
 {
@@ -90,7 +90,7 @@ pub fn weight(capacities: &[u64], lengths: &[u64]) -> u64
 }
 
 // Every length halved if one has grown to the mark; D, summed anew only then.
-pub fn settle(lengths: &mut [u64], capacities: &[u64], grown: Grown) -> u64
+fn settle(lengths: &mut [u64], capacities: &[u64], grown: Grown) -> u64
     requires settling { ⌜ Settling (now capacities) (now lengths) ⌝ }
     requires weight { ⌜ grown .weight ≡ weightOf (now capacities) (now lengths) ⌝ }
     ensures { λ r. ⌜ Settled (now (lengths .entry)) (now (capacities .entry)) (grown .marked) (now (lengths .exit)) r ⌝ }
@@ -100,5 +100,26 @@ pub fn settle(lengths: &mut [u64], capacities: &[u64], grown: Grown) -> u64
         weight(capacities, lengths)
     } else {
         grown.weight
+    }
+}
+
+// The lengths of the path's arcs grown by the draw g, and all halved if one has grown to the mark: D of what they are then, and whether they
+// were halved.
+pub fn lengthen(
+    lengths: &mut [u64],
+    capacities: &[u64],
+    q: u64,
+    g: u64,
+    path: &[u64],
+    weight: u64,
+) -> Grown
+    requires { ⌜ Lengthening (now lengths) (now capacities) q g (now path) weight ⌝ }
+    ensures { λ r. ⌜ Lengthened (now (lengths .entry)) (now (capacities .entry)) q g (now (path .entry)) (now (lengths .exit)) r ⌝ }
+{
+    let grown = grow(lengths, capacities, q, g, path, weight);
+    let d = settle(lengths, capacities, grown);
+    Grown {
+        weight: d,
+        marked: grown.marked,
     }
 }

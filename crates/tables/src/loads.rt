@@ -1,8 +1,9 @@
 // The loads of all arcs: when they end the run, which arc is fullest, and tables of numbers cleared and copied.
 ghost use mathlib.Core.Path.{_≡_};
-ghost use Prim.Native.Nat.{_-_, _<_};
+ghost use Prim.Native.Nat.{_+_, _-_, _≤_, _<_};
 ghost use lib.ListN.{length, replicate};
 ghost use Rattle.method.specs.Answer.{fullest};
+ghost use Rattle.packed.specs.Packed.{column, put};
 ghost use Rattle.tables.specs.Calls.{Loading, Ranking};
 ghost use Rattle.tables.specs.Results.{Loaded};
 
@@ -61,6 +62,18 @@ pub fn copy(from: &[u64], to: &mut [u64])
     let mut e = 0;
     while e < from.len() {
         to[e] = from[e];
+        e += 1;
+    }
+}
+
+// The n numbers from one place of a table on put at another place, further on.
+pub fn copy_within(table: &mut [u64], from: usize, to: usize, n: usize)
+    requires { ⌜ (from + n ≤ to) × (to + n ≤ length (now table)) ⌝ }
+    ensures { λ _. ⌜ now (table .exit) ≡ put to n (now (table .entry)) (column from n (now (table .entry))) ⌝ }
+{
+    let mut e = 0;
+    while e < n {
+        table[to + e] = table[from + e];
         e += 1;
     }
 }
