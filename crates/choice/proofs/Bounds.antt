@@ -20,7 +20,6 @@ use Rattle.paths.specs.Far.{far}
 use Rattle.paths.specs.Graph.{Table}
 use Rattle.choice.specs.Raised.{Raised}
 use Rattle.paths.proofs.Descent.{distance-path}
-use Rattle.choice.proofs.Graphs.{graphOf, distances-net}
 use Rattle.paths.proofs.Lower.{distance-lower}
 use Rattle.paths.proofs.Walks.{walk-path, walk-length}
 
@@ -44,7 +43,7 @@ below-zero net l {n} q =
       lower = λ i b p r. all-replicate (λ x. x ≤ pathLength l p) 0 n (omega arith) i;
     }
 
-module _ {net : Network} {l d old new : List ℕ} {t : ℕ} (ends : Ends net) (pos : Positive net l) (T : Table (graphOf net) l d t far)
+module _ {net : Network} {l d old new : List ℕ} {t : ℕ} (ends : Ends net) (pos : Positive net l) (T : Table net l d t far)
     (B : Below net l old) (R : Raised (net .sources) (net .sinks) t d old new (commodities net)) where
   -- A distance is not below the bound: below the cap it is the length of a path, and at the cap no bound is above it.
   bound-le : (i : ℕ) → i < commodities net → sink net i ≡ t → getD old i 0 ≤ getD d (source net i) 0
@@ -52,7 +51,7 @@ module _ {net : Network} {l d old new : List ℕ} {t : ℕ} (ends : Ends net) (p
       ⊎-elim
       (λ (h : far ≤ getD d (source net i) 0). omega (arith, B .capped i b))
       (λ (h : getD d (source net i) 0 < far).
-      let D = distances-net (T .distances) in
+      let D = T .distances in
       let w = distance-path ends D pos (source net i) (ends .sources i b) h in
       omega (
         arith,
@@ -82,5 +81,5 @@ module _ {net : Network} {l d old new : List ℕ} {t : ℕ} (ends : Ends net) (p
         each = R .size ∙ B .each;
         capped = by-sink (λ i x. x ≤ far) (λ i b q. T .capped (source net i) (ends .sources i b .1)) (B .capped);
         lower = by-sink (λ i x. (p : List ℕ) → Path net (source net i) (sink net i) p → x ≤ pathLength l p)
-            (λ i b q p r. distance-lower (distances-net (T .distances)) (source net i) p (rw q at r)) (B .lower);
+            (λ i b q p r. distance-lower (T .distances) (source net i) p (rw q at r)) (B .lower);
       }

@@ -15,7 +15,6 @@ use Rattle.method.proofs.Unique.{chosen-choice}
 use Rattle.choice.specs.Closest.{Closest}
 use Rattle.paths.specs.Far.{far, Bounded}
 use Rattle.paths.specs.Walk.{Walk}
-use Rattle.choice.proofs.Graphs.{distances-net}
 use Rattle.choice.proofs.Reach.{near-path}
 use Rattle.paths.proofs.Simple.{walk-distinct, walk-few}
 use Rattle.paths.proofs.Walks.{walk-path, walk-length, walk-first}
@@ -39,7 +38,7 @@ module _ {net : Network} {l bounds d : List ℕ} {i : ℕ} (C : Closest net l bo
       {p : List ℕ} → Positive net l → Walk net l d (sink net i) (source net i) p →
       (choice net l ≡ some (choiceOf i p)) × (pathLength l p ≡ getD bounds i 0)
   closest-choice {p} pos w =
-      let D = distances-net (C .table .distances) in
+      let D = C .table .distances in
       let long : pathLength l p ≡ getD bounds i 0 = walk-length (D .sink) w ∙ sym (C .own) in (
         chosen-choice net l ends pos (choiceOf i p)
             (record {

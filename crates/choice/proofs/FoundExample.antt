@@ -22,7 +22,6 @@ use Rattle.paths.specs.Graph.{Table}
 use Rattle.choice.specs.Raised.{Raised}
 use Rattle.choice.proofs.Bounds.{below-zero, below-raised}
 use Rattle.choice.proofs.Found.{closest-none, closest-choice}
-use Rattle.choice.proofs.Graphs.{graphOf, distances-graph}
 use Rattle.paths.proofs.WalkExample.{floor, lengths, near, away, bounded, to-3, to-1, walk}
 
 -- Twice the commodity from 1 to 3.
@@ -51,17 +50,17 @@ four : (P : ℕ → Type 0) → P 0 → P 1 → P 2 → P 3 → (i : ℕ) → i 
 four P a b c d = below-more P 3 (below-more P 2 (two P a b) c) d
 
 -- The distances to 3, and to 1.
-table-3 : Table (graphOf twice) lengths near 3 far
+table-3 : Table twice lengths near 3 far
 table-3 =
     record {
-      distances = distances-graph (to-3 [] []);
+      distances = to-3 _ _;
       capped = λ v b. four (λ v. getD near v 0 ≤ far) (omega arith) (omega arith) (omega arith) (omega arith) v (omega arith);
     }
 
-table-1 : Table (graphOf parted) lengths away 1 far
+table-1 : Table parted lengths away 1 far
 table-1 =
     record {
-      distances = distances-graph (to-1 [] []);
+      distances = to-1 _ _;
       capped = λ v b. four (λ v. getD away v 0 ≤ far) (omega arith) (omega arith) (omega arith) (omega arith) v (omega arith);
     }
 

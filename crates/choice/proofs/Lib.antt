@@ -1,9 +1,8 @@
-pub mod Bare
 pub mod Bounds
 pub mod Found
 pub mod FoundExample
-pub mod Graphs
 pub mod Leasts
+pub mod Memories
 pub mod Raises
 pub mod Reach
 pub mod Ready

@@ -11,21 +11,16 @@ use Rattle.network.specs.Network.{Network, arcs, tail, head, source, sink}
 use Rattle.network.specs.Sound.{Sound}
 use Rattle.network.proofs.Sounds.{sound-ends}
 use Rattle.paths.specs.Far.{Bounded}
-use Rattle.choice.specs.Search.{Search}
+use Rattle.choice.specs.Search.{Survey}
 
--- Rows 1, 6 and 8 of document 01, "Turned down", give what the choice asks of the network.
-pub sound-search :
-    {net : Network} {q : ℕ} {l : List ℕ} {size room : ℕ} → Sound net q → Bounded net l → arcs net ≤ length l → net .nodes < size → net .nodes ≤ room →
-    Search net l size room
-sound-search {net} {q} sound bounds long b c =
+-- Rows 1, 3, 6 and 8 of document 01, "Turned down", give what the choice asks of the network.
+pub sound-survey : {net : Network} {q : ℕ} {l : List ℕ} → Sound net q → Bounded net l → arcs net ≤ length l → Survey net l
+sound-survey {net} {q} sound bounds long =
     record {
-      survey =
-          record {
-            fit = record { ends = sound-ends net q sound; lengths = long; small = λ e h. bounds e h .1; room = b };
-            positive = λ e h. bounds e h .0;
-            few = omega (arith, sound .counts .of-nodes .most);
-          };
-      places = c;
+      fit = record { ends = sound-ends net q sound; lengths = long; small = λ e h. bounds e h .1; room = omega (arith, sound .counts .of-nodes .most) };
+      positive = λ e h. bounds e h .0;
+      few = sound .counts .of-nodes .most;
+      some = sound .counts .of-commodities .least;
     }
 
 -- One arc and one commodity, from 1 to 2.
@@ -37,28 +32,25 @@ only : (P : ℕ → Type 0) → P 0 → (i : ℕ) → i < 1 → P i
 only P a = below-more P 0 (below-none P) a
 
 -- It meets all that is asked.
-pair-search : Search pair (1 ∷ []) 3 2
+pair-survey : Survey pair (1 ∷ [])
 unfolding pair
-pair-search =
+pair-survey =
     record {
-      survey =
+      fit =
           record {
-            fit =
+            ends =
                 record {
-                  ends =
-                      record {
-                        tails = only (λ e. Node pair (tail pair e)) (omega arith);
-                        heads = only (λ e. Node pair (head pair e)) (omega arith);
-                        sources = only (λ i. Node pair (source pair i)) (omega arith);
-                        sinks = only (λ i. Node pair (sink pair i)) (omega arith);
-                        apart = only (λ i. source pair i ≡ sink pair i → ⊥) (λ q. omega arith);
-                      };
-                  lengths = omega arith;
-                  small = only (λ e. getD (1 ∷ []) e 0 < 2 ^ 40) (omega arith);
-                  room = omega arith;
+                  tails = only (λ e. Node pair (tail pair e)) (omega arith);
+                  heads = only (λ e. Node pair (head pair e)) (omega arith);
+                  sources = only (λ i. Node pair (source pair i)) (omega arith);
+                  sinks = only (λ i. Node pair (sink pair i)) (omega arith);
+                  apart = only (λ i. source pair i ≡ sink pair i → ⊥) (λ q. omega arith);
                 };
-            positive = only (λ e. 1 ≤ getD (1 ∷ []) e 0) (omega arith);
-            few = omega arith;
+            lengths = omega arith;
+            small = only (λ e. getD (1 ∷ []) e 0 < 2 ^ 40) (omega arith);
+            room = omega arith;
           };
-      places = omega arith;
+      positive = only (λ e. 1 ≤ getD (1 ∷ []) e 0) (omega arith);
+      few = omega arith;
+      some = omega arith;
     }

@@ -13,7 +13,6 @@ use Rattle.choice.specs.Least.{Least}
 use Rattle.choice.specs.Raised.{Raised}
 use Rattle.choice.specs.Search.{Survey}
 use Rattle.choice.proofs.Bounds.{bounds-rise, below-raised}
-use Rattle.choice.proofs.Graphs.{graphOf}
 use Rattle.choice.proofs.Slack.{slack, slack-falls}
 
 -- Commodity i is the next to be searched.
@@ -24,8 +23,8 @@ pub record Turn (net : Network) (l bounds : List ℕ) (i : ℕ) : Type 0 where
 pub turned : {net : Network} {l bounds : List ℕ} {i : ℕ} → Below net l bounds → Least bounds (length bounds) i → Turn net l bounds i
 turned B L = record { below = B; least = rw (B .each) at L }
 
-module _ {net : Network} {l old new d : List ℕ} {size i j : ℕ} (lent : Survey net l size) (S : Turn net l old i)
-    (T : Table (graphOf net) l d (sink net i) far) (R : Raised (net .sources) (net .sinks) (sink net i) d old new (commodities net)) where
+module _ {net : Network} {l old new d : List ℕ} {i j : ℕ} (lent : Survey net l) (S : Turn net l old i)
+    (T : Table net l d (sink net i) far) (R : Raised (net .sources) (net .sinks) (sink net i) d old new (commodities net)) where
   pub turn-next : Least new (length new) j → Turn net l new j
   turn-next J = turned (below-raised (lent .fit .ends) (lent .positive) T (S .below) R) J
 

@@ -1,25 +1,32 @@
--- What the choice asks of the tables that it is lent, in tables of these sizes.
+-- What the choice asks of the slices that it is lent.
 use mathlib.Core.List.{List}
 use Prim.Native.Nat.{ℕ, _≤_}
-use Rattle.network.specs.Network.{Network, commodities}
-use Rattle.paths.specs.Frontier.{Frontier}
-use Rattle.paths.specs.Links.{Linked}
-use Rattle.choice.specs.Below.{Below}
-use Rattle.choice.specs.Search.{Survey, Search}
+use lib.ListN.{length}
+use Rattle.bounds.specs.Bounds.{mostNodes}
+use Rattle.network.specs.Network.{Network}
+use Rattle.packed.specs.Packed.{column, netIn, Packed}
+use Rattle.packed.specs.declared.Shape.{Shape}
+use Rattle.paths.specs.Index.{Into, Out}
+use Rattle.choice.specs.Memory.{Memory}
+use Rattle.choice.specs.Search.{Survey}
 
--- The search for the nearest commodity.
-pub record Nearing (net : Network) (l first next bounds : List ℕ) (dists fronts flags : ℕ) : Type 0 where
-  pub survey : Survey net l dists
-  pub some : 1 ≤ commodities net
-  pub links : Linked (net .heads) (net .nodes) first next
-  pub room : Frontier (net .nodes) fronts flags
-  pub below : Below net l bounds
+-- The search for the nearest commodity, over the arcs into each node.
+pub record Surveying (s : Shape) (net into l memory : List ℕ) : Type 0 where
+  pub packed : Packed s net
+  pub survey : Survey (netIn s net) l
+  pub index : Into (netIn s net) into
+  pub memory-of : Memory s (netIn s net) l memory
 
--- That search, over the arcs into each node, and the walk of the commodity found, over the arcs out of each node.
-pub record Choosing (net : Network) (l first-in next-in first-out next-out bounds : List ℕ) (dists fronts flags places : ℕ) : Type 0 where
-  pub search : Search net l dists places
-  pub some : 1 ≤ commodities net
-  pub into : Linked (net .heads) (net .nodes) first-in next-in
-  pub out : Linked (net .tails) (net .nodes) first-out next-out
-  pub room : Frontier (net .nodes) fronts flags
-  pub below : Below net l bounds
+-- One slice has both indexes of the arcs, at the places that src/lib.rt names.
+pub record Indexed (net : Network) (indexes : List ℕ) : Type 0 where
+  pub numbers : 2180 ≤ length indexes
+  pub into : Into net (column 0 1090 indexes)
+  pub out : Out net (column 1090 1090 indexes)
+
+-- That search, and the walk of the commodity found, over the arcs out of each node, into a table with this many places.
+pub record Choosing (s : Shape) (net indexes l memory : List ℕ) (places : ℕ) : Type 0 where
+  pub packed : Packed s net
+  pub survey : Survey (netIn s net) l
+  pub indexed : Indexed (netIn s net) indexes
+  pub memory-of : Memory s (netIn s net) l memory
+  pub room : mostNodes ≤ places

@@ -4,11 +4,13 @@ use mathlib.Core.Option.{none, some}
 use mathlib.Core.List.{List}
 use Prim.Native.Nat.{ℕ, _≤_, _<_}
 use lib.ListN.{take}
+use Rattle.bounds.specs.Bounds.{mostNodes}
 use Rattle.network.specs.Network.{Network}
 use Rattle.network.specs.Path.{pathLength}
+use Rattle.packed.specs.declared.Shape.{Shape}
 use Rattle.method.specs.Choice.{choiceOf, choice}
 use Rattle.paths.specs.Far.{far}
-use Rattle.choice.specs.Below.{Below}
+use Rattle.choice.specs.Memory.{Memory}
 use Rattle.choice.specs.declared.Selected.{Selected}
 
 -- The commodity and the first entries of the table of arcs are the choice, from 1 to 63 arcs, and the distance is alpha, their length.
@@ -16,7 +18,7 @@ pub record Picked (net : Network) (l : List ℕ) (r : Selected) (path : List ℕ
   pub chosen : choice net l ≡ some (choiceOf (r .commodity) (take (r .arcs) path))
   pub alpha : pathLength l (take (r .arcs) path) ≡ r .distance
   pub some-arc : 1 ≤ r .arcs
-  pub few-arcs : r .arcs ≤ 63
+  pub few-arcs : r .arcs < mostNodes
 
 -- The distance tells: far where no commodity is joined, below far where one is chosen.
 pub record Chose (net : Network) (l : List ℕ) (r : Selected) (path : List ℕ) : Type 0 where
@@ -24,7 +26,7 @@ pub record Chose (net : Network) (l : List ℕ) (r : Selected) (path : List ℕ)
   pub nothing : r .distance ≡ far → choice net l ≡ none
   pub something : r .distance < far → Picked net l r path
 
--- And all that it leaves: the choice, and bounds that hold by the lengths as they are.
-pub record Left (net : Network) (l : List ℕ) (r : Selected) (path bounds : List ℕ) : Type 0 where
+-- And all that it leaves: the choice, and a memory that holds by the lengths as they are.
+pub record Left (s : Shape) (net : Network) (l : List ℕ) (r : Selected) (path memory : List ℕ) : Type 0 where
   pub chose : Chose net l r path
-  pub below : Below net l bounds
+  pub memory-of : Memory s net l memory

@@ -6,7 +6,7 @@ use lib.ListN.{getD}
 use Rattle.network.specs.Network.{Network, commodities, source, sink}
 use Rattle.choice.specs.Below.{Below}
 use Rattle.paths.specs.Far.{far}
-use Rattle.paths.specs.Graph.{graph, Table}
+use Rattle.paths.specs.Graph.{Table}
 use Rattle.choice.specs.Least.{Least}
 
 -- Commodity i is the lowest-numbered of least bound, d has the distances to its sink, and its bound is that of its source. So no path of any
@@ -14,5 +14,5 @@ use Rattle.choice.specs.Least.{Least}
 pub record Closest (net : Network) (l bounds d : List ℕ) (i : ℕ) : Type 0 where
   pub least : Least bounds (commodities net) i
   pub below : Below net l bounds
-  pub table : Table (graph (net .nodes) (net .tails) (net .heads)) l d (sink net i) far
+  pub table : Table net l d (sink net i) far
   pub own : getD bounds i 0 ≡ getD d (source net i) 0

@@ -1,17 +1,27 @@
 -- Bounds raised to the distances to one node: what that asks, and what it leaves.
 use mathlib.Core.Path.{_≡_}
 use mathlib.Core.List.{List}
-use Prim.Native.Nat.{ℕ, _<_}
+use Prim.Native.Nat.{ℕ, _≤_, _<_}
 use lib.ListN.{length, getD}
-
--- Each commodity has a sink and a bound, and its source a distance.
-pub record Raising (sources sinks d bounds : List ℕ) : Type 0 where
-  pub ends : (i : ℕ) → i < length sources → i < length sinks
-  pub each : length bounds ≡ length sources
-  pub room : (i : ℕ) → i < length sources → getD sources i 0 < length d
+use Rattle.bounds.specs.Bounds.{mostNodes, mostCommodities}
+use Rattle.packed.specs.Packed.{column}
+use Rattle.choice.specs.Memory.{distancesIn}
 
 -- Of the first k commodities those with sink t have the distance of their source as their bound; no other bound has changed.
 pub record Raised (sources sinks : List ℕ) (t : ℕ) (d old new : List ℕ) (k : ℕ) : Type 0 where
   pub size : length new ≡ length old
   pub shared : (i : ℕ) → i < k → getD sinks i 0 ≡ t → getD new i 0 ≡ getD d (getD sources i 0) 0
   pub others : (i : ℕ) → (getD sinks i 0 ≡ t → ⊥) → getD new i 0 ≡ getD old i 0
+
+-- The same of a memory, whose distances stay.
+pub record RaisedIn (sources sinks : List ℕ) (t : ℕ) (old new : List ℕ) (k : ℕ) : Type 0 where
+  pub bounds : Raised sources sinks t (distancesIn old) (column 0 (length sources) old) (column 0 (length sources) new) k
+  pub distances : distancesIn new ≡ distancesIn old
+  pub numbers : length new ≡ length old
+
+-- Each commodity has a sink and a bound, and its source a distance.
+pub record Raising (sources sinks memory : List ℕ) : Type 0 where
+  pub ends : (i : ℕ) → i < length sources → i < length sinks
+  pub few : length sources ≤ mostCommodities
+  pub places : 97 ≤ length memory
+  pub nodes : (i : ℕ) → i < length sources → getD sources i 0 ≤ mostNodes

@@ -1,13 +1,21 @@
 // The nearest commodity, found lazily. Each commodity has a bound, a number that its distance is not below: lengths only grow, so a distance
 // found earlier is one. Only where the bound is the least is the distance searched for, and one search serves every commodity with that sink.
+// Bounds and distances stand in one slice, which is remembered from choice to choice.
+use crate::BOUNDS;
+use crate::DISTANCES;
+use crate::DISTANCE_NUMBERS;
+use packed::SINKS;
+use packed::SOURCES;
+use packed::Shape;
 use paths::search::distances;
 ghost use Prim.Native.Nat.{_≤_};
 ghost use lib.ListN.{length};
-ghost use Rattle.choice.specs.Calls.{Nearing};
+ghost use Rattle.packed.specs.Packed.{netIn};
+ghost use Rattle.choice.specs.Calls.{Surveying};
 ghost use Rattle.choice.specs.Closest.{Closest};
 ghost use Rattle.choice.specs.Least.{Least};
-ghost use Rattle.choice.specs.Raised.{Raising, Raised};
-ghost use Rattle.choice.specs.Search.{bare};
+ghost use Rattle.choice.specs.Memory.{boundsIn, distancesIn};
+ghost use Rattle.choice.specs.Raised.{Raising, RaisedIn};
 
 // The lowest-numbered commodity of least bound.
 fn least(bounds: &[u64]) -> usize
@@ -26,56 +34,48 @@ fn least(bounds: &[u64]) -> usize
 }
 
 // The bounds of all commodities with this sink, raised to the distances of their sources.
-fn raise(sources: &[u64], sinks: &[u64], sink: u64, dist: &[u64], bounds: &mut [u64])
-    requires { ⌜ Raising (now sources) (now sinks) (now dist) (now bounds) ⌝ }
-    ensures { λ _. ⌜ Raised (now (sources .entry)) (now (sinks .entry)) sink (now (dist .entry)) (now (bounds .entry)) (now (bounds .exit)) (length (now (sources .entry))) ⌝ }
+fn raise(sources: &[u64], sinks: &[u64], sink: u64, memory: &mut [u64])
+    requires { ⌜ Raising (now sources) (now sinks) (now memory) ⌝ }
+    ensures { λ _. ⌜ RaisedIn (now (sources .entry)) (now (sinks .entry)) sink (now (memory .entry)) (now (memory .exit)) (length (now (sources .entry))) ⌝ }
 {
     let mut i = 0;
     while i < sources.len() {
         if sinks[i] == sink {
             let s = sources[i] as usize;
-            bounds[i] = dist[s];
+            memory[BOUNDS + i] = memory[DISTANCES + s];
         }
         i += 1;
     }
 }
 
-// The lowest-numbered commodity whose sink is nearest to its source; dist is left with the distances to that sink.
+// The lowest-numbered commodity whose sink is nearest to its source; the distances to that sink are left in memory.
 // A commodity of least bound is searched. If one with the same sink is of least bound afterwards, its bound is its distance; else the search goes on.
 pub fn nearest(
-    n: u64,
-    tails: &[u64],
-    heads: &[u64],
+    s: Shape,
+    net: &[u64],
+    into: &[u64],
     lengths: &[u64],
-    sources: &[u64],
-    sinks: &[u64],
-    first_in: &[u64],
-    next_in: &[u64],
-    bounds: &mut [u64],
-    dist: &mut [u64],
-    front: &mut [u64],
-    listed: &mut [u64],
+    memory: &mut [u64],
 ) -> usize
-    requires { ⌜ Nearing (bare n (now tails) (now heads) (now sources) (now sinks)) (now lengths) (now «first_in») (now «next_in») (now bounds) (length (now dist)) (length (now front)) (length (now listed)) ⌝ }
-    ensures { λ r. ⌜ Closest (bare n (now (tails .entry)) (now (heads .entry)) (now (sources .entry)) (now (sinks .entry))) (now (lengths .entry)) (now (bounds .exit)) (now (dist .exit)) r ⌝ }
+    requires { ⌜ Surveying s (now net) (now into) (now lengths) (now memory) ⌝ }
+    ensures { λ r. ⌜ Closest (netIn s (now (net .entry))) (now (lengths .entry)) (boundsIn s (now (memory .exit))) (distancesIn (now (memory .exit))) r ⌝ }
 {
-    let mut i = least(bounds);
+    let k = s.commodities;
+    let sources = &net[SOURCES..SOURCES + k];
+    let sinks = &net[SINKS..SINKS + k];
+    let mut i = least(&memory[BOUNDS..BOUNDS + k]);
     loop {
         let searched = sinks[i];
         distances(
-            n,
-            tails,
-            heads,
+            s,
+            net,
+            into,
             lengths,
-            first_in,
-            next_in,
             searched,
-            dist,
-            front,
-            listed,
+            &mut memory[DISTANCES..DISTANCES + DISTANCE_NUMBERS],
         );
-        raise(sources, sinks, searched, dist, bounds);
-        i = least(bounds);
+        raise(sources, sinks, searched, memory);
+        i = least(&memory[BOUNDS..BOUNDS + k]);
         if sinks[i] == searched {
             break;
         }

@@ -2,12 +2,39 @@
 mod lazy;
 
 use crate::lazy::nearest;
+use bounds::MOST_COMMODITIES;
+use bounds::MOST_NODES;
+use packed::SINKS;
+use packed::SOURCES;
+use packed::Shape;
 use paths::greedy::walk;
+use paths::index::INDEX_NUMBERS;
 use paths::search::FAR;
 ghost use lib.ListN.{length};
+ghost use Rattle.packed.specs.Packed.{netIn};
 ghost use Rattle.choice.specs.Calls.{Choosing};
 ghost use Rattle.choice.specs.Chose.{Left};
-ghost use Rattle.choice.specs.Search.{bare};
+
+// What is remembered from choice to choice: the bounds of the commodities and the distances of the nodes. Where each begins,
+pub const BOUNDS: usize = 0;
+
+pub const DISTANCES: usize = MOST_COMMODITIES;
+
+// how many distances there are, from node 0 on,
+pub const DISTANCE_NUMBERS: usize = MOST_NODES as usize + 1;
+
+// and how many numbers they take in all.
+pub const MEMORY_NUMBERS: usize = MOST_COMMODITIES + DISTANCE_NUMBERS;
+
+// A place for each arc of a path, which has fewer arcs than there are nodes.
+pub const PATH_NUMBERS: usize = MOST_NODES as usize;
+
+// Both indexes of the arcs in one slice: of those into each node, and of those out of it.
+pub const INTO: usize = 0;
+
+pub const OUT: usize = INDEX_NUMBERS;
+
+pub const INDEXES_NUMBERS: usize = 2 * INDEX_NUMBERS;
 
 // What is chosen: the commodity, how many arcs its path has, and how long it is; the distance is FAR where no commodity is joined.
 pub struct Selected {
@@ -16,43 +43,26 @@ pub struct Selected {
     pub distance: u64,
 }
 
-// The choice of an iteration. The path's arcs are the first entries of path. The bounds may be used again while lengths only grow; dist, front and
-// listed are scratch.
+// The choice of an iteration. The path's arcs are the first entries of path. The memory may be used again while lengths only grow.
 pub fn choose(
-    n: u64,
-    tails: &[u64],
-    heads: &[u64],
+    s: Shape,
+    net: &[u64],
+    indexes: &[u64],
     lengths: &[u64],
-    sources: &[u64],
-    sinks: &[u64],
-    first_in: &[u64],
-    next_in: &[u64],
-    first_out: &[u64],
-    next_out: &[u64],
-    bounds: &mut [u64],
-    dist: &mut [u64],
-    front: &mut [u64],
-    listed: &mut [u64],
+    memory: &mut [u64],
     path: &mut [u64],
 ) -> Selected
-    requires { ⌜ Choosing (bare n (now tails) (now heads) (now sources) (now sinks)) (now lengths) (now «first_in») (now «next_in») (now «first_out») (now «next_out») (now bounds) (length (now dist)) (length (now front)) (length (now listed)) (length (now path)) ⌝ }
-    ensures { λ r. ⌜ Left (bare n (now (tails .entry)) (now (heads .entry)) (now (sources .entry)) (now (sinks .entry))) (now (lengths .entry)) r (now (path .exit)) (now (bounds .exit)) ⌝ }
+    requires { ⌜ Choosing s (now net) (now indexes) (now lengths) (now memory) (length (now path)) ⌝ }
+    ensures { λ r. ⌜ Left s (netIn s (now (net .entry))) (now (lengths .entry)) r (now (path .exit)) (now (memory .exit)) ⌝ }
 {
     let i = nearest(
-        n,
-        tails,
-        heads,
+        s,
+        net,
+        &indexes[INTO..INTO + INDEX_NUMBERS],
         lengths,
-        sources,
-        sinks,
-        first_in,
-        next_in,
-        bounds,
-        dist,
-        front,
-        listed,
+        memory,
     );
-    let distance = bounds[i];
+    let distance = memory[BOUNDS + i];
     if distance >= FAR {
         return Selected {
             commodity: i,
@@ -60,16 +70,14 @@ pub fn choose(
             distance,
         };
     }
-    let source = sources[i];
-    let sink = sinks[i];
+    let source = net[SOURCES + i];
+    let sink = net[SINKS + i];
     let arcs = walk(
-        n,
-        tails,
-        heads,
+        s,
+        net,
+        &indexes[OUT..OUT + INDEX_NUMBERS],
         lengths,
-        first_out,
-        next_out,
-        dist,
+        &memory[DISTANCES..DISTANCES + DISTANCE_NUMBERS],
         source,
         sink,
         path,

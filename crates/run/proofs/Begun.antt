@@ -12,13 +12,13 @@ use Rattle.method.proofs.Sized.{reached-sizes}
 use Rattle.tables.specs.Calls.{Weighing}
 use Rattle.tables.specs.Tables.{weightOf}
 use Rattle.step.specs.declared.Progress.{Progress}
-use Rattle.run.specs.Noted.{Noted}
 use Rattle.step.specs.Progress.{stateOf, begun, begunWith}
-use Rattle.run.specs.Runs.{Lent, Chooses}
-use Rattle.run.proofs.Noted.{weight-same}
+use Rattle.run.specs.Noted.{Noted}
+use Rattle.run.specs.Runs.{Chooses}
 use Rattle.run.proofs.Running.{Running, running-start}
+use Rattle.run.proofs.Whole.{Whole}
 
-module _ (net : Network) (q : ℕ) (lent : Lent net q) (L F Y K : List ℕ) (start : stateOf L F Y K begun ≡ initial net) where
+module _ {net : Network} {q : ℕ} (lent : Whole net q) {L F Y K : List ℕ} (start : stateOf L F Y K begun ≡ initial net) where
   first : L ≡ initial net .lengths
   first = ap (λ s. s .lengths) start
 
@@ -37,10 +37,10 @@ module _ (net : Network) (q : ℕ) (lent : Lent net q) (L F Y K : List ℕ) (sta
         short = λ e l. omega (arith, short e (omega (arith, long)));
       }
 
-  module _ (r : Progress) (h : r ≡ begunWith (weightOf (net .capacities) L)) where
-    pub begin-noted : (t : ℕ) → t ≡ threshold (arcs net) q → Noted net q t L r
+  module _ {r : Progress} (h : r ≡ begunWith (weightOf (net .capacities) L)) where
+    pub begin-noted : {t : ℕ} → t ≡ threshold (arcs net) q → Noted net q t L r
     unfolding weight
-    begin-noted t e = record { threshold = e; weight = ap (λ x. x .weight) h ∙ weight-same net L (lent .capacities) }
+    begin-noted e = record { threshold = e; weight = rw (lent .capacities) at (ap (λ x. x .weight) h) }
 
     pub begin-running : Chooses net → Running net q (stateOf L F Y K r)
     begin-running chooses = rw (h, start) (running-start net q (lent .sound) chooses)

@@ -1,4 +1,4 @@
--- A step along the chosen path is an iteration, and what it notes beside the state is so of the network. Assumes nothing.
+-- A step along the chosen path is an iteration. Assumes nothing.
 use mathlib.Core.Path.{_≡_, sym, ap, _∙_}
 use mathlib.Core.Option.{some}
 use mathlib.Core.List.{List}
@@ -11,30 +11,24 @@ use Rattle.method.specs.Iteration.{State, iteration, advance}
 use Rattle.method.specs.Run.{ended}
 use Rattle.method.proofs.Times.{update-length}
 use Rattle.step.specs.declared.Progress.{Progress}
-use Rattle.step.specs.Progress.{stateOf}
-use Rattle.run.specs.Noted.{Iterated}
-use Rattle.run.specs.Runs.{Lent}
 use Rattle.step.specs.Steps.{Stepped}
+use Rattle.run.specs.Noted.{Iterated}
 use Rattle.run.proofs.Chosen.{iteration-is}
-use Rattle.run.proofs.Noted.{weight-same}
-use Rattle.run.proofs.OfCapacities.{advance-same}
 use Rattle.run.proofs.Running.{ended-is}
 
-module _ (net : Network) (q : ℕ) (lent : Lent net q) (t : ℕ) (e : t ≡ threshold (arcs net) q) (s : State) (places : length (s .loads) ≡ arcs net)
-    (i : ℕ) (path : List ℕ) (h : choice net (s .lengths) ≡ some (choiceOf i path)) (lengths flow loads kept : List ℕ) (r : Progress)
-    (w : Stepped (net .capacities) q t i path s lengths flow loads kept r) where
-  state : stateOf lengths flow loads kept r ≡ iteration net q s
-  state =
-      w .state ∙ (advance-same net q (choiceOf i path) s (lent .capacities) ∙ sym (iteration-is net q s (choiceOf i path) h))
+module _ (net : Network) (q t : ℕ) (e : t ≡ threshold (arcs net) q) (s : State) (places : length (s .loads) ≡ arcs net) (i : ℕ)
+    (path : List ℕ) (h : choice net (s .lengths) ≡ some (choiceOf i path)) (new : State) (r : Progress) (w : Stepped net q t i path s new r) where
+  state : new ≡ iteration net q s
+  state = w .state ∙ sym (iteration-is net q s (choiceOf i path) h)
 
-  loaded : length loads ≡ arcs net
+  loaded : length (new .loads) ≡ arcs net
   unfolding advance
   loaded = ap (λ x. length (x .loads)) (w .state) ∙ (update-length _ path (s .loads) ∙ places)
 
-  pub iterated : Iterated net q s lengths flow loads kept r
+  pub iterated : Iterated net q s new r
   iterated =
       record {
         state = state;
-        weight = w .weight ∙ weight-same net lengths (lent .capacities);
-        ended = w .ended ∙ (ended-is net q (stateOf lengths flow loads kept r) t loaded e ∙ ap (ended net q) state);
+        weight = w .weight;
+        ended = w .ended ∙ (ended-is net q new t loaded e ∙ ap (ended net q) state);
       }

@@ -3,8 +3,7 @@ pub mod Chosen
 pub mod Iterated
 pub mod Longer
 pub mod Noted
-pub mod OfCapacities
 pub mod Onward
 pub mod Ready
 pub mod Running
-pub mod Same
+pub mod Whole

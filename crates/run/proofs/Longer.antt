@@ -7,14 +7,19 @@ use native.Mathlib.Nat.{le-refl}
 use native.Mathlib.Omega.{arith}
 use lib.ListN.{length, getD, set, replicate}
 use Rattle.length.proofs.Size.{growth-least}
-use Rattle.network.specs.Network.{Network}
+use Rattle.bounds.specs.Bounds.{mostCommodities}
+use Rattle.network.specs.Network.{Network, arcs, commodities}
+use Rattle.packed.specs.Packed.{put}
+use Rattle.packed.specs.declared.Shape.{Shape}
 use Rattle.method.specs.Choice.{choiceOf}
 use Rattle.method.specs.Iteration.{State, draw, update, grown, settled, advance}
 use Rattle.length.specs.Length.{growth}
 use Rattle.method.proofs.Times.{update-length}
-use Rattle.choice.specs.Below.{Below}
-use Rattle.choice.proofs.Bounds.{below-grown, below-zero}
-use Rattle.step.specs.Progress.{ofCapacities, longer, halves}
+use Rattle.choice.specs.Memory.{Memory}
+use Rattle.choice.proofs.Bounds.{below-grown}
+use Rattle.choice.proofs.Memories.{memory-zero}
+use Rattle.tables.specs.Tables.{longer}
+use Rattle.step.specs.Progress.{halves}
 
 -- A store of no less leaves no number less,
 set-least : (xs : List ℕ) (e v j : ℕ) → getD xs e 0 ≤ v → getD xs j 0 ≤ getD (set xs e v) j 0
@@ -31,20 +36,29 @@ update-least f h [] xs j = le-refl _
 update-least f h (e ∷ p) xs j =
     omega (arith, set-least xs e (f e (getD xs e 0)) j (h e (getD xs e 0)), update-least f h p (set xs e (f e (getD xs e 0))) j)
 
-module _ (caps : List ℕ) (q i : ℕ) (path : List ℕ) (s : State) (same : length (s .lengths) ≡ length caps) where
+module _ (net : Network) (q i : ℕ) (path : List ℕ) (s : State) (same : length (s .lengths) ≡ arcs net) where
+  abbrev caps : List ℕ
+  caps = net .capacities
+
   -- Where no length is at the mark the lengths are those that have grown.
-  unhalved : halves caps q path (s .lengths) ≡ false → advance (ofCapacities caps) q (choiceOf i path) s .lengths ≡ longer caps q path (s .lengths)
+  unhalved : halves caps q path (s .lengths) ≡ false → advance net q (choiceOf i path) s .lengths ≡ longer caps q (draw caps path) path (s .lengths)
   unfolding advance grown settled
   unhalved h =
       rw (← (update-length (λ e x. growth q (draw caps path) (getD caps e 0) x) path (s .lengths) ∙ same), h) refl
 
-  -- The bounds after the iteration: kept, or 0 where it halved.
-  pub below-next :
-      {net : Network} {l bounds : List ℕ} (halved : Bool) → Below net (s .lengths) bounds → halved ≡ halves caps q path (s .lengths) →
-      l ≡ advance (ofCapacities caps) q (choiceOf i path) s .lengths → Below net l (cond halved (replicate (length bounds) 0) bounds)
-  below-next {net} {l} true B h e = below-zero net l (B .each)
-  below-next {net} {l} {bounds} false B h e =
-      below-grown
-      (λ j. rw (e ∙ unhalved (sym h))
-      (update-least (λ e x. growth q (draw caps path) (getD caps e 0) x) (λ e x. growth-least q (draw caps path) (getD caps e 0) x) path (s .lengths) j))
-      B
+  -- The memory after the iteration: kept, or with bounds of 0 where it halved.
+  pub memory-next :
+      {z : Shape} {l old new : List ℕ} (halved : Bool) → z .commodities ≤ mostCommodities → z .commodities ≡ commodities net →
+      Memory z net (s .lengths) old → halved ≡ halves caps q path (s .lengths) → l ≡ advance net q (choiceOf i path) s .lengths →
+      new ≡ cond halved (put 0 (z .commodities) old (replicate (z .commodities) 0)) old → Memory z net l new
+  memory-next {z} {l} {old} true few k M h e f = rw f (memory-zero old (replicate (z .commodities) 0) few k (M .places) refl l)
+  memory-next {z} {l} {old} false few k M h e f =
+      rw f
+      (record {
+        places = M .places;
+        below =
+            below-grown
+            (λ j. rw (e ∙ unhalved (sym h))
+            (update-least (λ e x. growth q (draw caps path) (getD caps e 0) x) (λ e x. growth-least q (draw caps path) (getD caps e 0) x) path (s .lengths) j))
+            (M .below);
+      })

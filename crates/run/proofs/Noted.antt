@@ -1,45 +1,38 @@
 -- At every state that the run reaches, no load is at the threshold, so that a step may be made with the numbers beside the state.
 -- Assumes nothing.
-use mathlib.Core.Path.{_≡_, refl, sym, _∙_}
+use mathlib.Core.Path.{_≡_, sym, _∙_}
 use mathlib.Core.Bool.{false}
-use mathlib.Core.List.{List}
 use Prim.Native.Nat.{ℕ, _*_}
 use native.Mathlib.Omega.{arith}
 use borrow.Author.Tests.{lt-leb}
 use lib.Dec.{leb}
-use lib.ListN.{length, getD}
+use lib.ListN.{getD}
 use Rattle.arith.proofs.Exists.{none-exists}
 use Rattle.length.specs.Level.{threshold}
 use Rattle.length.proofs.Bounds.{threshold-most}
 use Rattle.network.specs.Network.{Network, arcs, capacity}
-use Rattle.method.specs.Iteration.{State, weight}
+use Rattle.method.specs.Iteration.{State}
 use Rattle.method.specs.Run.{ended}
 use Rattle.method.proofs.Instance.{seen}
 use Rattle.method.proofs.Reached.{Reached}
 use Rattle.step.specs.declared.Progress.{Progress}
-use Rattle.step.specs.Progress.{ofCapacities}
 use Rattle.run.specs.Noted.{Noted}
-use Rattle.run.specs.Runs.{Lent}
+use Rattle.run.proofs.Whole.{Whole}
 use Rattle.step.specs.Steps.{Kept}
 use Rattle.run.proofs.Running.{ended-is}
 
--- D by the capacities alone.
-pub weight-same : (net : Network) (l : List ℕ) → length (net .capacities) ≡ arcs net → weight (ofCapacities (net .capacities)) l ≡ weight net l
-unfolding weight
-weight-same net l h = rw h refl
-
-module _ (net : Network) (q : ℕ) (lent : Lent net q) (s : State) (r : Reached net q s) where
+module _ (net : Network) (q : ℕ) (lent : Whole net q) (s : State) (r : Reached net q s) where
   -- The run has not ended.
   not-full : ended net q s ≡ false
   unfolding ended threshold seen
   not-full = none-exists (arcs net) (λ e. leb (threshold (arcs net) q * capacity net e) (getD (s .loads) e 0)) (λ e l. lt-leb _ _ (r .below e l))
 
-  pub kept-ready : (t : ℕ) (p : Progress) → Noted net q t (s .lengths) p → Kept (net .capacities) t s p
+  pub kept-ready : (t : ℕ) (p : Progress) → Noted net q t (s .lengths) p → Kept net t s p
   kept-ready t p n =
       let m = lent .sound .counts .of-arcs in
       let x = lent .sound .counts .precision in
       record {
-        weight = n .weight ∙ sym (weight-same net (s .lengths) (lent .capacities));
+        weight = n .weight;
         ending =
             record {
               same = r .valid .table .places ∙ sym (lent .capacities);

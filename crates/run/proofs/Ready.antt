@@ -22,13 +22,12 @@ use Rattle.method.proofs.Reached.{Reached, Valid, chosen-at, fair}
 use Rattle.method.proofs.Sized.{reached-sizes, grown-sizes}
 use Rattle.method.proofs.Times.{update-length}
 use Rattle.tables.specs.Calls.{Settling}
-use Rattle.step.specs.Progress.{longer}
 use Rattle.step.specs.Steps.{Stepping}
-use Rattle.run.specs.Runs.{Lent}
-use Rattle.tables.specs.Tables.{Under, Capacities}
+use Rattle.run.proofs.Whole.{Whole}
+use Rattle.tables.specs.Tables.{Under, Capacities, longer}
 use Rattle.tables.proofs.OnPath.{draw-at, draw-most, below-under}
 
-module _ (net : Network) (q : ℕ) (lent : Lent net q) (s : State) (r : Reached net q s) (i : ℕ) (p : List ℕ)
+module _ (net : Network) (q : ℕ) (lent : Whole net q) (s : State) (r : Reached net q s) (i : ℕ) (p : List ℕ)
     (h : choice net (s .lengths) ≡ some (choiceOf i p)) where
   abbrev caps : List ℕ
   caps = net .capacities
@@ -88,13 +87,13 @@ module _ (net : Network) (q : ℕ) (lent : Lent net q) (s : State) (r : Reached 
         z .load-high (x % m) e,
       )
 
-  row-place : (j : ℕ) → j < length p → i * length caps + getD p j 0 < length (s .flow)
-  row-place j l = omega (arith, places j l, mul-le-mul-right (length caps) listed, v .table .rows, ap (λ t. commodities net * t) (lent .capacities))
+  row-place : (j : ℕ) → j < length p → i * arcs net + getD p j 0 < length (s .flow)
+  row-place j l = omega (arith, places j l, lent .capacities, mul-le-mul-right (arcs net) listed, v .table .rows)
 
   arcs-few : length caps ≤ 256
   arcs-few = omega (arith, lent .capacities, lent .sound .counts .of-arcs .most)
 
-  grown-settling : Settling caps (longer caps q p (s .lengths))
+  grown-settling : Settling caps (longer caps q (draw caps p) p (s .lengths))
   unfolding grown
   grown-settling =
       let long = update-length (λ e x. growth q (draw caps p) (getD caps e 0) x) p (s .lengths) in
@@ -105,10 +104,10 @@ module _ (net : Network) (q : ℕ) (lent : Lent net q) (s : State) (r : Reached 
         grown = λ e l. grown-sizes net q (lent .sound) s v (choiceOf i p) h e (omega (arith, long, v .lengths));
       }
 
-  pub ready : Stepping caps q i p (pathLength (s .lengths) p) s
+  pub ready : Stepping net q i p (pathLength (s .lengths) p) s
   ready =
       record {
-        arcs = arc;
+        some-arc = arc;
         alpha = refl;
         growing =
             record {
@@ -132,8 +131,7 @@ module _ (net : Network) (q : ℕ) (lent : Lent net q) (s : State) (r : Reached 
               small = small;
               few = few;
             };
-        kept = v .bests ∙ sym (v .lengths);
-        row = omega (arith, listed, mul-le-mul (lent .sound .counts .of-commodities .most) (lent .sound .counts .of-arcs .most), mul-le-mul-right (length caps) listed, ap (λ t. commodities net * t) (lent .capacities));
+        row = omega (arith, listed, mul-le-mul (lent .sound .counts .of-commodities .most) (lent .sound .counts .of-arcs .most), mul-le-mul-right (arcs net) listed);
         total = omega (arith, z .total-high);
         count = omega (arith, z .count-high);
       }

@@ -1,14 +1,18 @@
-// The run: iterations until some load is at the threshold, on lent tables of numbers.
+// The run: iterations until some load is at the threshold, on the lent slices.
 use crate::iterations::iterate;
+use packed::CAPACITIES;
+use packed::LENGTHS;
+use packed::Shape;
 use step::Progress;
 use tables::lengths;
 ghost use mathlib.Core.Path.{_≡_};
 ghost use lib.ListN.{length};
+ghost use Rattle.packed.specs.Packed.{netIn};
 ghost use Rattle.method.specs.Run.{run};
 ghost use Rattle.tables.specs.Calls.{Weighing};
 ghost use Rattle.tables.specs.Tables.{weightOf};
-ghost use Rattle.step.specs.Progress.{stateOf, begun, begunWith};
-ghost use Rattle.run.specs.Runs.{networkOf, Placed, Starting};
+ghost use Rattle.step.specs.Progress.{stateIn, begun, begunWith};
+ghost use Rattle.run.specs.Runs.{Room, Starting};
 
 // Nothing drawn yet, the least fraction 1 over 0, and D of the first lengths.
 fn begin(capacities: &[u64], lengths: &[u64]) -> Progress
@@ -30,58 +34,27 @@ fn begin(capacities: &[u64], lengths: &[u64]) -> Progress
 
 // Iterations until some load is at the threshold. There are at most m * T of them: the count falls short of that by one less each time.
 pub fn run(
-    n: u64,
+    s: Shape,
     q: u64,
-    tails: &[u64],
-    heads: &[u64],
-    capacities: &[u64],
-    sources: &[u64],
-    sinks: &[u64],
-    first_in: &[u64],
-    next_in: &[u64],
-    first_out: &[u64],
-    next_out: &[u64],
+    net: &[u64],
+    indexes: &[u64],
     flow: &mut [u64],
-    loads: &mut [u64],
-    lengths: &mut [u64],
-    kept: &mut [u64],
-    bounds: &mut [u64],
-    dist: &mut [u64],
-    front: &mut [u64],
-    listed: &mut [u64],
+    tables: &mut [u64],
+    memory: &mut [u64],
     path: &mut [u64],
 ) -> Progress
-    requires placed { ⌜ Placed (networkOf n (now tails) (now heads) (now capacities) (now sources) (now sinks)) q (now «first_in») (now «next_in») (now «first_out») (now «next_out») (length (now dist)) (length (now front)) (length (now listed)) (length (now path)) ⌝ }
-    requires starting { ⌜ Starting (networkOf n (now tails) (now heads) (now capacities) (now sources) (now sinks)) (now bounds) (stateOf (now lengths) (now flow) (now loads) (now kept) begun) ⌝ }
-    ensures { λ r. ⌜ stateOf (now (lengths .exit)) (now (flow .exit)) (now (loads .exit)) (now (kept .exit)) r ≡ run (networkOf n (now (tails .entry)) (now (heads .entry)) (now (capacities .entry)) (now (sources .entry)) (now (sinks .entry))) q ⌝ }
+    requires room { ⌜ Room s q (now net) (now indexes) (length (now tables)) (length (now path)) ⌝ }
+    requires starting { ⌜ Starting s (netIn s (now net)) (now memory) (stateIn s (now flow) (now tables) begun) ⌝ }
+    ensures { λ r. ⌜ stateIn s (now (flow .exit)) (now (tables .exit)) r ≡ run (netIn s (now (net .entry))) q ⌝ }
 {
-    let threshold = length::threshold(tails.len() as u64, q);
-    let mut p = begin(capacities, lengths);
+    let m = s.arcs;
+    let threshold = length::threshold(m as u64, q);
+    let mut p = begin(
+        &net[CAPACITIES..CAPACITIES + m],
+        &tables[LENGTHS..LENGTHS + m],
+    );
     loop {
-        p = iterate(
-            n,
-            q,
-            threshold,
-            tails,
-            heads,
-            capacities,
-            sources,
-            sinks,
-            first_in,
-            next_in,
-            first_out,
-            next_out,
-            flow,
-            loads,
-            lengths,
-            kept,
-            bounds,
-            dist,
-            front,
-            listed,
-            path,
-            p,
-        );
+        p = iterate(s, q, threshold, net, indexes, flow, tables, memory, path, p);
         if p.ended {
             break;
         }

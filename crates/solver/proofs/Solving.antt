@@ -2,12 +2,12 @@
 use mathlib.Core.Path.{_≡_, refl, sym, ap, _∙_}
 use mathlib.Core.Option.{none, some}
 use mathlib.Core.List.{List, map}
-use Prim.Native.Nat.{ℕ, _-_}
+use Prim.Native.Nat.{ℕ, _*_, _-_}
 use native.Mathlib.Omega.{arith}
 use lib.ListN.{length, getD, replicate}
 use Rattle.arith.specs.Lists.{upTo}
 use Rattle.length.specs.Length.{start}
-use Rattle.network.specs.Network.{Network, arcs}
+use Rattle.network.specs.Network.{Network, arcs, commodities}
 use Rattle.method.specs.Answer.{fullest, outcome, outcomeOf, unjoined}
 use Rattle.method.specs.Choice.{Choice, choice}
 use Rattle.method.specs.Iteration.{initial}
@@ -17,8 +17,9 @@ use Rattle.method.proofs.Guaranteed.{guarantee}
 use Rattle.tables.specs.Calls.{Ranking}
 use Rattle.step.specs.declared.Progress.{Progress}
 use Rattle.step.specs.Progress.{stateOf, begun}
-use Rattle.run.specs.Runs.{Lent, Chooses}
-use Rattle.solver.specs.Solved.{Sized, Solved, answerOf, noAnswer}
+use Rattle.run.specs.Runs.{Chooses}
+use Rattle.run.proofs.Whole.{Whole}
+use Rattle.solver.specs.Solved.{Solved, answerOf, noAnswer}
 
 -- The lengths that the start leaves.
 abbrev pub firstLengths : List ℕ → List ℕ
@@ -26,12 +27,10 @@ firstLengths capacities = map (λ e. start (getD capacities e 0)) (upTo (length 
 
 -- The tables once they are cleared are those of the definition's start.
 pub initial-is :
-    (net : Network) (q : ℕ) → Lent net q → {flow₀ kept₀ loads₀ lengths₀ bounds₀ : List ℕ} → Sized net flow₀ kept₀ loads₀ lengths₀ bounds₀ →
-    {lengths flow loads kept : List ℕ} → lengths ≡ firstLengths (net .capacities) → loads ≡ replicate (length loads₀) 0 →
-    flow ≡ replicate (length flow₀) 0 → kept ≡ replicate (length kept₀) 0 → stateOf lengths flow loads kept begun ≡ initial net
+    {net : Network} {q : ℕ} → Whole net q → {L F Y K : List ℕ} {m y k f : ℕ} → L ≡ firstLengths (net .capacities) → Y ≡ replicate y 0 →
+    K ≡ replicate k 0 → F ≡ replicate f 0 → m ≡ arcs net → y ≡ m → k ≡ m → f ≡ commodities net * arcs net → stateOf L F Y K begun ≡ initial net
 unfolding initial
-initial-is net q lent z started unloaded empty nothing =
-    rw (started, unloaded, empty, nothing, lent .capacities, z .flows, z .loadings, z .bests) refl
+initial-is whole started unloaded nothing empty em ey ek ef = rw (started, unloaded, nothing, empty, ey, ek, ef, em, whole .capacities) refl
 
 pub outcome-some : (net : Network) (q : ℕ) (c : Choice) → choice net (initial net .lengths) ≡ some c → outcome net q ≡ outcomeOf net (run net q)
 unfolding outcome
@@ -41,13 +40,9 @@ pub outcome-none : (net : Network) (q : ℕ) → choice net (initial net .length
 unfolding outcome
 outcome-none net q h = rw (h, outcome) refl
 
-pub lengths-is : (net : Network) (q : ℕ) → Lent net q → firstLengths (net .capacities) ≡ initial net .lengths
-unfolding initial
-lengths-is net q lent = rw (lent .capacities) refl
-
 -- No commodity is joined: the tables of the start are the outcome's.
 pub solved-none :
-    (net : Network) (q : ℕ) → Lent net q → (flow kept : List ℕ) → choice net (initial net .lengths) ≡ none → flow ≡ initial net .flow →
+    (net : Network) (q : ℕ) → Whole net q → (flow kept : List ℕ) → choice net (initial net .lengths) ≡ none → flow ≡ initial net .flow →
     kept ≡ initial net .bestLengths → Solved net q noAnswer flow kept
 unfolding unjoined initial
 solved-none net q lent flow kept h f k =
@@ -61,7 +56,7 @@ solved-none net q lent flow kept h f k =
 
 -- The run's tables are the outcome's.
 pub solved-some :
-    (net : Network) (q : ℕ) → Lent net q → (c : Choice) → choice net (initial net .lengths) ≡ some c → (flow kept loads lengths : List ℕ) (p : Progress) →
+    (net : Network) (q : ℕ) → Whole net q → (c : Choice) → choice net (initial net .lengths) ≡ some c → (flow kept loads lengths : List ℕ) (p : Progress) →
     stateOf lengths flow loads kept p ≡ run net q → length loads ≡ arcs net →
     Solved net q (answerOf (net .capacities) loads (fullest (net .capacities) loads (length loads - 1)) p) flow kept
 unfolding outcomeOf
@@ -77,7 +72,7 @@ solved-some net q lent c h flow kept loads lengths p r size =
 
 -- Loads and capacities of the end, as the answer compares them.
 pub ranking :
-    (net : Network) (q : ℕ) → Lent net q → Chooses net → (loads : List ℕ) → loads ≡ run net q .loads → length loads ≡ arcs net →
+    (net : Network) (q : ℕ) → Whole net q → Chooses net → (loads : List ℕ) → loads ≡ run net q .loads → length loads ≡ arcs net →
     Ranking loads (net .capacities)
 ranking net q lent chooses loads r size =
     let z = final-sizes net q (lent .sound) chooses in

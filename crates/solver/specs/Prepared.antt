@@ -1,28 +1,30 @@
 -- What stands before the first choice.
 use mathlib.Core.Path.{_≡_}
 use mathlib.Core.List.{List}
-use Prim.Native.Nat.{ℕ, _≤_}
-use Rattle.network.specs.Network.{Network}
+use Prim.Native.Nat.{ℕ, _*_, _≤_}
+use lib.ListN.{length}
+use Rattle.bounds.specs.Bounds.{mostNodes}
+use Rattle.network.specs.Network.{Network, arcs, commodities}
+use Rattle.packed.specs.Packed.{netIn, Lent}
+use Rattle.packed.specs.declared.Shape.{Shape}
 use Rattle.method.specs.Iteration.{initial}
-use Rattle.step.specs.Progress.{stateOf, begun}
-use Rattle.run.specs.Runs.{Lent, Space, Bounding}
-use Rattle.solver.specs.Solved.{Sized}
+use Rattle.choice.specs.Memory.{Memory}
+use Rattle.step.specs.Progress.{stateIn, begun}
 
--- Room for the lists of the arcs at each node: a first arc for each node number, and a next arc for each arc.
-pub record Lists (firsts nexts : ℕ) : Type 0 where
-  pub first : 65 ≤ firsts
-  pub next : 256 ≤ nexts
+-- The tables are those of the method's start, and the memory holds by its lengths.
+pub record Cleared (s : Shape) (net : Network) (flow tables memory : List ℕ) : Type 0 where
+  pub state : stateIn s flow tables begun ≡ initial net
+  pub memory-of : Memory s net (stateIn s flow tables begun .lengths) memory
 
--- The tables are those of the method's start, and the bounds are below the distances.
-pub record Cleared (net : Network) (flow kept loads lengths bounds : List ℕ) : Type 0 where
-  pub state : stateOf lengths flow loads kept begun ≡ initial net
-  pub below : Bounding net lengths bounds
+-- The sizes of the tables, for an accepted network.
+pub record Preparing (s : Shape) (q : ℕ) (net flow tables memory : List ℕ) : Type 0 where
+  pub lent : Lent s q net
+  pub flows : length flow ≡ commodities (netIn s net) * arcs (netIn s net)
+  pub tabled : 768 ≤ length tables
+  pub memorised : 97 ≤ length memory
 
 -- What the solver asks with work space lent.
-pub record Working (net : Network) (q : ℕ) (flow kept loads lengths bounds : List ℕ)
-    (firsts-in nexts-in firsts-out nexts-out nodes fronts marks places : ℕ) : Type 0 where
-  pub lent : Lent net q
-  pub sized : Sized net flow kept loads lengths bounds
-  pub into : Lists firsts-in nexts-in
-  pub out : Lists firsts-out nexts-out
-  pub space : Space nodes fronts marks places
+pub record Working (s : Shape) (q : ℕ) (net indexes flow tables memory path : List ℕ) : Type 0 where
+  pub preparing : Preparing s q net flow tables memory
+  pub indexes-of : 2180 ≤ length indexes
+  pub path-of : mostNodes ≤ length path

@@ -8,30 +8,14 @@ use Rattle.method.specs.Answer.{outcome}
 use Rattle.method.specs.Guarantee.{Guarantee}
 use Rattle.method.specs.declared.Answer.{Answer}
 use Rattle.step.specs.declared.Progress.{Progress}
-use Rattle.run.specs.Runs.{Lent}
-use Rattle.packed.specs.Packed as packed
-use Rattle.packed.specs.Packed.{netIn}
+use Rattle.packed.specs.Packed.{netIn, Lent}
 use Rattle.packed.specs.declared.Shape.{Shape}
-
--- A network, and tables of just the size that its outcome has.
-pub record SolvingColumns (net : Network) (q : ℕ) (flow kept : List ℕ) : Type 0 where
-  pub lent : Lent net q
-  pub flows : length flow ≡ commodities net * arcs net
-  pub bests : length kept ≡ arcs net
 
 -- An accepted network, a flow table of just the size that its outcome has, and room for the tables of the arcs.
 pub record Solving (s : Shape) (q : ℕ) (net flow tables : List ℕ) : Type 0 where
-  pub lent : packed.Lent s q net
+  pub lent : Lent s q net
   pub flows : length flow ≡ commodities (netIn s net) * arcs (netIn s net)
   pub places : 768 ≤ length tables
-
--- All tables of that size, and a bound for each commodity.
-pub record Sized (net : Network) (flow kept loads lengths bounds : List ℕ) : Type 0 where
-  pub flows : length flow ≡ commodities net * arcs net
-  pub bests : length kept ≡ arcs net
-  pub loadings : length loads ≡ arcs net
-  pub lengthens : length lengths ≡ arcs net
-  pub each : length bounds ≡ commodities net
 
 -- The answer of a run that left these loads and numbers.
 abbrev pub answerOf : List ℕ → List ℕ → ℕ → Progress → Answer

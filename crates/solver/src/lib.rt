@@ -1,7 +1,11 @@
-// The solver: the outcome of the method on lent tables of numbers.
-pub mod outcomes;
-pub mod solves;
+// The solver: the outcome of the method on lent slices.
+mod outcomes;
+mod solves;
 
+use choice::INDEXES_NUMBERS;
+use choice::MEMORY_NUMBERS;
+use choice::PATH_NUMBERS;
+use crate::solves::solve_in;
 use method::Answer;
 use packed::Shape;
 ghost use Rattle.packed.specs.Packed.{netIn, keptIn};
@@ -12,17 +16,17 @@ pub fn solve(s: Shape, q: u64, net: &[u64], flow: &mut [u64], tables: &mut [u64]
     requires { ⌜ Solving s q (now net) (now flow) (now tables) ⌝ }
     ensures { λ r. ⌜ Solved (netIn s (now (net .entry))) q r (now (flow .exit)) (keptIn s (now (tables .exit))) ⌝ }
 {
-    let m = s.arcs;
-    let k = s.commodities;
-    solves::solve(
-        s.nodes,
+    let mut indexes = [0u64; INDEXES_NUMBERS];
+    let mut memory = [0u64; MEMORY_NUMBERS];
+    let mut path = [0u64; PATH_NUMBERS];
+    solve_in(
+        s,
         q,
-        &net[0..0 + m],
-        &net[256..256 + m],
-        &net[512..512 + m],
-        &net[768..768 + k],
-        &net[800..800 + k],
+        net,
+        &mut indexes,
         flow,
-        &mut tables[512..512 + m],
+        tables,
+        &mut memory,
+        &mut path,
     )
 }

@@ -1,5 +1,10 @@
 // The outcome from the tables of the start: no answer where no commodity is joined, else that of the run.
 use method::Answer;
+use packed::CAPACITIES;
+use packed::LENGTHS;
+use packed::LOADS;
+use packed::Shape;
+use paths::search::FAR;
 use run::runs;
 use step::Progress;
 use tables::loads;
@@ -7,9 +12,10 @@ ghost use mathlib.Core.Path.{_≡_};
 ghost use Prim.Native.Nat.{_-_};
 ghost use lib.ListN.{length};
 ghost use Rattle.method.specs.Answer.{fullest};
+ghost use Rattle.packed.specs.Packed.{netIn, keptIn};
 ghost use Rattle.tables.specs.Calls.{Ranking};
+ghost use Rattle.run.specs.Runs.{Room};
 ghost use Rattle.solver.specs.Prepared.{Cleared};
-ghost use Rattle.run.specs.Runs.{networkOf, Placed};
 ghost use Rattle.solver.specs.Solved.{Solved, answerOf, noAnswer};
 
 // The answer: the fullest arc gives the scale.
@@ -46,73 +52,35 @@ fn unjoined() -> Answer
 
 // The first choice, and the run where there is one.
 pub fn outcome(
-    n: u64,
+    s: Shape,
     q: u64,
-    tails: &[u64],
-    heads: &[u64],
-    capacities: &[u64],
-    sources: &[u64],
-    sinks: &[u64],
-    first_in: &[u64],
-    next_in: &[u64],
-    first_out: &[u64],
-    next_out: &[u64],
+    net: &[u64],
+    indexes: &[u64],
     flow: &mut [u64],
-    kept: &mut [u64],
-    loads: &mut [u64],
-    lengths: &mut [u64],
-    bounds: &mut [u64],
-    dist: &mut [u64],
-    front: &mut [u64],
-    listed: &mut [u64],
+    tables: &mut [u64],
+    memory: &mut [u64],
     path: &mut [u64],
 ) -> Answer
-    requires placed { ⌜ Placed (networkOf n (now tails) (now heads) (now capacities) (now sources) (now sinks)) q (now «first_in») (now «next_in») (now «first_out») (now «next_out») (length (now dist)) (length (now front)) (length (now listed)) (length (now path)) ⌝ }
-    requires cleared { ⌜ Cleared (networkOf n (now tails) (now heads) (now capacities) (now sources) (now sinks)) (now flow) (now kept) (now loads) (now lengths) (now bounds) ⌝ }
-    ensures { λ r. ⌜ Solved (networkOf n (now (tails .entry)) (now (heads .entry)) (now (capacities .entry)) (now (sources .entry)) (now (sinks .entry))) q r (now (flow .exit)) (now (kept .exit)) ⌝ }
+    requires room { ⌜ Room s q (now net) (now indexes) (length (now tables)) (length (now path)) ⌝ }
+    requires cleared { ⌜ Cleared s (netIn s (now net)) (now flow) (now tables) (now memory) ⌝ }
+    ensures { λ r. ⌜ Solved (netIn s (now (net .entry))) q r (now (flow .exit)) (keptIn s (now (tables .exit))) ⌝ }
 {
+    let m = s.arcs;
     let first = choice::choose(
-        n,
-        tails,
-        heads,
-        lengths,
-        sources,
-        sinks,
-        first_in,
-        next_in,
-        first_out,
-        next_out,
-        bounds,
-        dist,
-        front,
-        listed,
+        s,
+        net,
+        indexes,
+        &tables[LENGTHS..LENGTHS + m],
+        memory,
         path,
     );
-    let distance = first.distance;
-    if distance >= paths::search::FAR {
+    if first.distance >= FAR {
         return unjoined();
     }
-    let p = runs::run(
-        n,
-        q,
-        tails,
-        heads,
-        capacities,
-        sources,
-        sinks,
-        first_in,
-        next_in,
-        first_out,
-        next_out,
-        flow,
-        loads,
-        lengths,
-        kept,
-        bounds,
-        dist,
-        front,
-        listed,
-        path,
-    );
-    answer(capacities, loads, p)
+    let p = runs::run(s, q, net, indexes, flow, tables, memory, path);
+    answer(
+        &net[CAPACITIES..CAPACITIES + m],
+        &tables[LOADS..LOADS + m],
+        p,
+    )
 }

@@ -1,154 +1,68 @@
-// The solver: lists of arcs made, tables cleared, and the outcome.
+// The indexes of the arcs made, the tables cleared, and the outcome.
+use choice::BOUNDS;
+use choice::INTO;
+use choice::OUT;
 use crate::outcomes::outcome;
 use method::Answer;
-use paths::links;
+use packed::CAPACITIES;
+use packed::KEPT;
+use packed::LENGTHS;
+use packed::LOADS;
+use packed::Shape;
+use paths::index;
+use paths::index::INDEX_NUMBERS;
 use tables::lengths;
 use tables::loads;
-ghost use lib.ListN.{length};
-ghost use Rattle.solver.specs.Prepared.{Cleared, Working};
-ghost use Rattle.run.specs.Runs.{networkOf, Lent};
-ghost use Rattle.solver.specs.Solved.{SolvingColumns, Sized, Solved};
+ghost use Rattle.packed.specs.Packed.{netIn, keptIn};
+ghost use Rattle.choice.specs.Calls.{Indexed};
+ghost use Rattle.solver.specs.Prepared.{Indexing, Preparing, Cleared, Working};
+ghost use Rattle.solver.specs.Solved.{Solved};
 
-// The tables before the first choice: lengths at their start, zeros in the others. Most of the network is taken for the contract, which speaks of it.
-fn prepare(
-    n: u64,
-    q: u64,
-    tails: &[u64],
-    heads: &[u64],
-    capacities: &[u64],
-    sources: &[u64],
-    sinks: &[u64],
-    flow: &mut [u64],
-    kept: &mut [u64],
-    loads: &mut [u64],
-    lengths: &mut [u64],
-    bounds: &mut [u64],
-)
-    requires lent { ⌜ Lent (networkOf n (now tails) (now heads) (now capacities) (now sources) (now sinks)) q ⌝ }
-    requires sized { ⌜ Sized (networkOf n (now tails) (now heads) (now capacities) (now sources) (now sinks)) (now flow) (now kept) (now loads) (now lengths) (now bounds) ⌝ }
-    ensures { λ _. ⌜ Cleared (networkOf n (now (tails .entry)) (now (heads .entry)) (now (capacities .entry)) (now (sources .entry)) (now (sinks .entry))) (now (flow .exit)) (now (kept .exit)) (now (loads .exit)) (now (lengths .exit)) (now (bounds .exit)) ⌝ }
+// Both indexes.
+fn index_both(s: Shape, net: &[u64], indexes: &mut [u64])
+    requires { ⌜ Indexing s (now net) (now indexes) ⌝ }
+    ensures { λ _. ⌜ Indexed (netIn s (now (net .entry))) (now (indexes .exit)) ⌝ }
 {
-    lengths::start(capacities, lengths);
-    loads::clear(loads);
-    loads::clear(flow);
-    loads::clear(kept);
-    loads::clear(bounds);
+    index::index_into(s, net, &mut indexes[INTO..INTO + INDEX_NUMBERS]);
+    index::index_out(s, net, &mut indexes[OUT..OUT + INDEX_NUMBERS]);
 }
 
-// The outcome, with work space lent: the lists of the arcs into and out of each node are made once.
-fn solve_in(
-    n: u64,
+// The tables before the first choice: lengths at their start, zeros in the others. q is taken for the contract.
+fn prepare(
+    s: Shape,
     q: u64,
-    tails: &[u64],
-    heads: &[u64],
-    capacities: &[u64],
-    sources: &[u64],
-    sinks: &[u64],
-    first_in: &mut [u64],
-    next_in: &mut [u64],
-    first_out: &mut [u64],
-    next_out: &mut [u64],
+    net: &[u64],
     flow: &mut [u64],
-    kept: &mut [u64],
-    loads: &mut [u64],
-    lengths: &mut [u64],
-    bounds: &mut [u64],
-    dist: &mut [u64],
-    front: &mut [u64],
-    listed: &mut [u64],
+    tables: &mut [u64],
+    memory: &mut [u64],
+)
+    requires { ⌜ Preparing s q (now net) (now flow) (now tables) (now memory) ⌝ }
+    ensures { λ _. ⌜ Cleared s (netIn s (now (net .entry))) (now (flow .exit)) (now (tables .exit)) (now (memory .exit)) ⌝ }
+{
+    let m = s.arcs;
+    let k = s.commodities;
+    lengths::start(&net[CAPACITIES..CAPACITIES + m], &mut tables[LENGTHS..LENGTHS + m]);
+    loads::clear(&mut tables[LOADS..LOADS + m]);
+    loads::clear(&mut tables[KEPT..KEPT + m]);
+    loads::clear(flow);
+    loads::clear(&mut memory[BOUNDS..BOUNDS + k]);
+}
+
+// The outcome, with work space lent: the indexes are made once.
+pub fn solve_in(
+    s: Shape,
+    q: u64,
+    net: &[u64],
+    indexes: &mut [u64],
+    flow: &mut [u64],
+    tables: &mut [u64],
+    memory: &mut [u64],
     path: &mut [u64],
 ) -> Answer
-    requires { ⌜ Working (networkOf n (now tails) (now heads) (now capacities) (now sources) (now sinks)) q (now flow) (now kept) (now loads) (now lengths) (now bounds) (length (now «first_in»)) (length (now «next_in»)) (length (now «first_out»)) (length (now «next_out»)) (length (now dist)) (length (now front)) (length (now listed)) (length (now path)) ⌝ }
-    ensures { λ r. ⌜ Solved (networkOf n (now (tails .entry)) (now (heads .entry)) (now (capacities .entry)) (now (sources .entry)) (now (sinks .entry))) q r (now (flow .exit)) (now (kept .exit)) ⌝ }
+    requires { ⌜ Working s q (now net) (now indexes) (now flow) (now tables) (now memory) (now path) ⌝ }
+    ensures { λ r. ⌜ Solved (netIn s (now (net .entry))) q r (now (flow .exit)) (keptIn s (now (tables .exit))) ⌝ }
 {
-    links::link(n, heads, first_in, next_in);
-    links::link(n, tails, first_out, next_out);
-    prepare(
-        n,
-        q,
-        tails,
-        heads,
-        capacities,
-        sources,
-        sinks,
-        flow,
-        kept,
-        loads,
-        lengths,
-        bounds,
-    );
-    outcome(
-        n,
-        q,
-        tails,
-        heads,
-        capacities,
-        sources,
-        sinks,
-        first_in,
-        next_in,
-        first_out,
-        next_out,
-        flow,
-        kept,
-        loads,
-        lengths,
-        bounds,
-        dist,
-        front,
-        listed,
-        path,
-    )
-}
-
-// The outcome of an accepted network, in tables of just its size.
-pub fn solve(
-    n: u64,
-    q: u64,
-    tails: &[u64],
-    heads: &[u64],
-    capacities: &[u64],
-    sources: &[u64],
-    sinks: &[u64],
-    flow: &mut [u64],
-    kept: &mut [u64],
-) -> Answer
-    requires { ⌜ SolvingColumns (networkOf n (now tails) (now heads) (now capacities) (now sources) (now sinks)) q (now flow) (now kept) ⌝ }
-    ensures { λ r. ⌜ Solved (networkOf n (now (tails .entry)) (now (heads .entry)) (now (capacities .entry)) (now (sources .entry)) (now (sinks .entry))) q r (now (flow .exit)) (now (kept .exit)) ⌝ }
-{
-    let m = tails.len();
-    let k = sources.len();
-    let mut first_in = [0u64; 65];
-    let mut next_in = [0u64; 256];
-    let mut first_out = [0u64; 65];
-    let mut next_out = [0u64; 256];
-    let mut loads = [0u64; 256];
-    let mut lengths = [0u64; 256];
-    let mut bounds = [0u64; 32];
-    let mut dist = [0u64; 65];
-    let mut front = [0u64; 64];
-    let mut listed = [0u64; 65];
-    let mut path = [0u64; 64];
-    solve_in(
-        n,
-        q,
-        tails,
-        heads,
-        capacities,
-        sources,
-        sinks,
-        &mut first_in,
-        &mut next_in,
-        &mut first_out,
-        &mut next_out,
-        flow,
-        kept,
-        &mut loads[..m],
-        &mut lengths[..m],
-        &mut bounds[..k],
-        &mut dist,
-        &mut front,
-        &mut listed,
-        &mut path,
-    )
+    index_both(s, net, indexes);
+    prepare(s, q, net, flow, tables, memory);
+    outcome(s, q, net, indexes, flow, tables, memory, path)
 }

@@ -18,20 +18,11 @@ pub record Tabled (m : ℕ) (T L Y K : List ℕ) : Type 0 where
   pub kept : column 512 m T ≡ K
 
 module _ {m : ℕ} {T L Y K : List ℕ} (H : Tabled m T L Y K) where
-  pub lengths-size : length L ≡ m
-  lengths-size = rw (← (H .lengths)) (column-length 0 m T (omega (arith, H .few, H .places)))
-
-  pub loads-size : length Y ≡ m
-  loads-size = rw (← (H .loads)) (column-length 256 m T (omega (arith, H .few, H .places)))
-
   fits : (a : ℕ) → a ≤ 512 → a + m ≤ length T
   fits a b = omega (arith, H .few, H .places)
 
-  same-size : (a b : ℕ) → a ≤ 512 → b ≤ 512 → length (column a m T) ≡ length (column b m T)
-  same-size a b c d = column-length a m T (fits a c) ∙ sym (column-length b m T (fits b d))
-
-  sized : (a : ℕ) → a ≤ 512 → {k : ℕ} → k ≡ length (column a m T) → k ≡ m
-  sized a b same = same ∙ column-length a m T (fits a b)
+  pub column-size : (a : ℕ) → a ≤ 512 → length (column a m T) ≡ m
+  column-size a b = column-length a m T (fits a b)
 
   room : (a : ℕ) → a ≤ 512 → (ys : List ℕ) → length ys ≡ m → 768 ≤ length (put a m T ys)
   room a b ys same = omega (arith, put-length a m T ys (fits a b) same, H .places)
@@ -39,7 +30,7 @@ module _ {m : ℕ} {T L Y K : List ℕ} (H : Tabled m T L Y K) where
   -- Each table when its part is back.
   pub with-lengths : (ys : List ℕ) → length ys ≡ length (column 0 m T) → Tabled m (put 0 m T ys) ys Y K
   with-lengths ys q =
-      let same = sized 0 (omega arith) q in
+      let same = q ∙ column-size 0 (omega arith) in
       record {
         few = H .few;
         places = room 0 (omega arith) ys same;
@@ -50,7 +41,7 @@ module _ {m : ℕ} {T L Y K : List ℕ} (H : Tabled m T L Y K) where
 
   pub with-loads : (ys : List ℕ) → length ys ≡ length (column 256 m T) → Tabled m (put 256 m T ys) L ys K
   with-loads ys q =
-      let same = sized 256 (omega arith) q in
+      let same = q ∙ column-size 256 (omega arith) in
       record {
         few = H .few;
         places = room 256 (omega arith) ys same;
@@ -61,7 +52,7 @@ module _ {m : ℕ} {T L Y K : List ℕ} (H : Tabled m T L Y K) where
 
   pub with-kept : (ys : List ℕ) → length ys ≡ length (column 512 m T) → Tabled m (put 512 m T ys) L Y ys
   with-kept ys q =
-      let same = sized 512 (omega arith) q in
+      let same = q ∙ column-size 512 (omega arith) in
       record {
         few = H .few;
         places = room 512 (omega arith) ys same;
@@ -73,7 +64,7 @@ module _ {m : ℕ} {T L Y K : List ℕ} (H : Tabled m T L Y K) where
   -- The lengths kept, or not.
   keeps : (better : Bool) → Tabled m (keeping better m T) L Y (cond better L K)
   keeps true =
-      let k = with-kept (column 0 m T) (same-size 0 512 (omega arith) (omega arith)) in
+      let k = with-kept (column 0 m T) (column-size 0 (omega arith) ∙ sym (column-size 512 (omega arith))) in
       record { few = k .few; places = k .places; lengths = k .lengths; loads = k .loads; kept = k .kept ∙ H .lengths }
   keeps false = H
 

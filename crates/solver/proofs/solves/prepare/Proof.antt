@@ -1,65 +1,99 @@
 -- `solver::solves::prepare` meets its contract: the cleared tables are the definition's start. Assumes nothing.
 use borrow.Author.Needs.{needs}
 use denote.Ref.{now}
-use mathlib.Core.Path.{sym, _∙_}
+use mathlib.Core.Path.{_≡_, sym, ap, _∙_}
+use mathlib.Core.List.{List}
+use Prim.Native.Nat.{ℕ, _≤_}
 use native.Mathlib.Omega.{arith}
-use Rattle.choice.proofs.Bounds.{below-zero}
-use Rattle.run.specs.Runs.{networkOf}
+use lib.ListN.{length, replicate}
+use Rattle.method.specs.Iteration.{initial}
+use Rattle.packed.specs.Packed.{column, put, netIn}
+use Rattle.packed.proofs.Columns.{column-length, arcs-is, capacities-length, commodities-is}
+use Rattle.choice.specs.Memory.{Memory}
+use Rattle.choice.proofs.Memories.{memory-zero}
+use Rattle.step.specs.Progress.{stateOf, begun}
+use Rattle.step.proofs.Tabled.{Tabled, tabled, column-size, with-lengths, with-loads, with-kept, in-slice}
+use Rattle.run.proofs.Whole.{whole}
 use Rattle.solver.proofs.Solving.{initial-is}
 use Rattle.solver.proofs.solves.prepare.Statement.{statement}
 use Rattle.solver.proofs.solves.prepare.Tie as tie
 
-start-requires : tie.Need-start-requires
-start-requires c κs =
-    let s = c .before .before .before .before .before .before .before .before .before .before .before in
-    let a = s .pre .0 in (
-      s .pre .1 .lengthens ∙ sym (a .capacities),
-      record {
-        least = λ e l. a .sound .arc-capacity e (omega (arith, a .capacities)) .least;
-        most = λ e l. a .sound .arc-capacity e (omega (arith, a .capacities)) .most;
-      },
-    )
-
--- from each call back to the one before it, from the first to the function's entry, and from the end of the function to the last
+-- from each call back to the one before it, and from the first to the function's entry
 abbrev entry : tie.After-start → tie.Start
-entry c = c .before .before .before .before .before .before .before .before .before .before .before .before
+entry c = c .before .before .before .before .before .before .before
 
 abbrev start-at : tie.After-clear → tie.After-start
 start-at c = c .before .before .before .before
 
-abbrev clear-at : tie.After-clear2 → tie.After-clear
-clear-at c = c .before .before .before .before
+abbrev loads-at : tie.After-clear2 → tie.After-clear
+loads-at c = c .before .before .before .before
 
-abbrev clear2-at : tie.After-clear3 → tie.After-clear2
-clear2-at c = c .before .before .before .before
+abbrev kept-at : tie.After-clear3 → tie.After-clear2
+kept-at c = c .before .before .before .before
 
-abbrev clear3-at : tie.After-slice-known10 → tie.After-clear3
-clear3-at c = c .before .before .before .before .before .before
+abbrev flow-at : tie.After-clear4 → tie.After-clear3
+flow-at c = c .before .before .before .before
+
+abbrev m : tie.Start → ℕ
+m s = s .args .s .arcs
+
+start-requires : tie.Need-start-requires
+unfolding netIn
+start-requires c κs =
+    let s = c .before .before .before .before .before .before in
+    let a = s .pre .lent in
+    let full : length (column 512 (m s) (now (s .args .net))) ≡ m s = capacities-length (a .packed) ∙ arcs-is (a .packed) in (
+      column-length 0 (m s) (now (s .args .tables)) (omega (arith, a .packed .few-arcs, s .pre .tabled)) ∙ sym full,
+      record {
+        least = λ e l. a .sound .arc-capacity e (omega (arith, capacities-length (a .packed))) .least;
+        most = λ e l. a .sound .arc-capacity e (omega (arith, capacities-length (a .packed))) .most;
+      },
+    )
+
+-- the tables of the arcs after each call that changes them
+started : (c : tie.After-start) → let s = entry c in let T = now (s .args .tables) in
+    Tabled (m s) (put 0 (m s) T (c .start .last .1 .0)) (c .start .last .1 .0) (column 256 (m s) T) (column 512 (m s) T)
+started c =
+    let s = entry c in
+    with-lengths (tabled (m s) (now (s .args .tables)) (s .pre .lent .packed .few-arcs) (s .pre .tabled)) (c .start .last .1 .0) (c .start .kept .1 .0)
+
+unloaded : (c : tie.After-clear) → let f = start-at c in let s = entry f in let T = now (s .args .tables) in
+    Tabled (m s) (put 256 (m s) (put 0 (m s) T (f .start .last .1 .0)) (c .clear .last .0)) (f .start .last .1 .0) (c .clear .last .0) (column 512 (m s) T)
+unloaded c = with-loads (started (start-at c)) (c .clear .last .0) (c .clear .kept .0)
+
+cleared : (c : tie.After-clear2) → let g = loads-at c in let f = start-at g in let s = entry f in let T = now (s .args .tables) in
+    Tabled (m s) (put 512 (m s) (put 256 (m s) (put 0 (m s) T (f .start .last .1 .0)) (g .clear .last .0)) (c .clear2 .last .0)) (f .start .last .1 .0)
+    (g .clear .last .0) (c .clear2 .last .0)
+cleared c = with-kept (unloaded (loads-at c)) (c .clear2 .last .0) (c .clear2 .kept .0)
 
 returns : tie.Need-returns
+unfolding netIn
 returns c =
-    let kept = clear3-at c in
-    let flow = clear2-at kept in
-    let loads = clear-at flow in
-    let lengths = start-at loads in
-    let s = entry lengths in
-    let a = s .args in
+    let last = c .before .before in
+    let flow = flow-at last in
+    let kept = kept-at flow in
+    let loads = loads-at kept in
+    let start = start-at loads in
+    let s = entry start in
+    let z = s .args in
+    let p = s .pre in
+    let net = netIn (z .s) (now (z .net)) in
     record {
       state =
-          initial-is
-          (networkOf (a .n) (now (a .tails)) (now (a .heads)) (now (a .capacities)) (now (a .sources)) (now (a .sinks)))
-          (a .q)
-          (s .pre .0)
-          (s .pre .1)
-          (lengths .start .ensures)
-          (loads .clear .ensures)
-          (flow .clear2 .ensures)
-          (kept .clear3 .ensures);
-      below = rw (c .before .before .clear4 .ensures) (below-zero _ _ (s .pre .1 .each));
+          in-slice (cleared kept) (λ L Y K. stateOf L (flow .clear3 .last .0) Y K begun ≡ initial net)
+          (initial-is (whole (p .lent)) (start .start .ensures) (loads .clear .ensures) (kept .clear2 .ensures) (flow .clear3 .ensures)
+          (sym (arcs-is (p .lent .packed))) (column-size (started start) 256 (omega arith)) (column-size (unloaded loads) 512 (omega arith)) (p .flows));
+      memory-of =
+          memory-zero (now (z .memory)) (last .clear4 .last .0) (p .lent .packed .few-commodities) (sym (commodities-is (p .lent .packed))) (p .memorised)
+          (last .clear4 .ensures ∙
+          ap (λ (i : ℕ). replicate {A = ℕ} i 0) (column-length 0 (z .s .commodities) (now (z .memory)) (omega (arith, p .lent .packed .few-commodities, p .memorised)))) _;
     }
 
 pub prepare-spec : {M : Type 1} → statement M
 prepare-spec =
-    tie.close (tie.spec start-requires (λ c κs. search needs) (λ c κs. search needs) (λ c κs. search needs)
-    (λ c κs. search needs) (λ c. search needs) (λ c. search needs) (λ c. search needs) (λ c. search needs)
-    (λ c. search needs) returns)
+    tie.close (tie.spec (λ c. search needs) (λ c. search needs) (λ c. search needs) (λ c. search needs)
+    (λ c. search needs) (λ c. search needs) (λ c. search needs) (λ c. search needs) start-requires (λ c. search needs)
+    (λ c. search needs) (λ c. search needs) (λ c. search needs) (λ c κs. search needs) (λ c. search needs)
+    (λ c. search needs) (λ c. search needs) (λ c. search needs) (λ c κs. search needs) (λ c κs. search needs)
+    (λ c. search needs) (λ c. search needs) (λ c. search needs) (λ c. search needs) (λ c κs. search needs)
+    (λ c. search needs) (λ c. search needs) (λ c. search needs) returns)

@@ -1,0 +1,60 @@
+-- A bound stored in a memory: the bounds with it, and the distances as they were. Assumes nothing.
+use mathlib.Core.Path.{_≡_, refl, ap, _∙_}
+use mathlib.Core.List.{List}
+use Prim.Native.Nat.{ℕ, _+_, _-_, _≤_, _<_}
+use native.Mathlib.Omega.{arith}
+use lib.ListN.{length, getD, take, set, replicate, length-set, length-replicate}
+use lib.Seq.{take-set-lt, drop-set-lt}
+use Rattle.bounds.specs.Bounds.{mostCommodities}
+use Rattle.network.specs.Network.{Network, commodities}
+use Rattle.packed.specs.Packed.{column, put}
+use Rattle.packed.specs.declared.Shape.{Shape}
+use Rattle.packed.proofs.Columns.{column-at, column-length, column-put, put-length}
+use Rattle.choice.specs.Memory.{distancesIn, Memory}
+use Rattle.choice.specs.Raised.{Raised, RaisedIn, Raising}
+use Rattle.choice.proofs.Bounds.{below-zero}
+use Rattle.choice.proofs.Raises.{raised-none, raised-shared, raised-other}
+
+module _ (k i x : ℕ) (memory : List ℕ) (b : i < k) where
+  bounds-set : column 0 k (set memory i x) ≡ set (column 0 k memory) i x
+  bounds-set = let whole : 0 + k - 0 ≡ k = omega arith in rw whole (take-set-lt k memory i x b)
+
+  distances-set : k ≤ mostCommodities → distancesIn (set memory i x) ≡ distancesIn memory
+  distances-set few = ap (take (32 + 65 - 32)) (drop-set-lt 32 memory i x (omega arith))
+
+module _ {sources sinks : List ℕ} {t : ℕ} {old : List ℕ} where
+  pub raised-in-none : RaisedIn sources sinks t old old 0
+  raised-in-none = record { bounds = raised-none; distances = refl; numbers = refl }
+
+  module _ {new : List ℕ} {i : ℕ} (R : RaisedIn sources sinks t old new i) (b : i < length sources) where
+    pub raised-in-other : (getD sinks i 0 ≡ t → ⊥) → RaisedIn sources sinks t old new (i + 1)
+    raised-in-other n = record { bounds = raised-other (R .bounds) n; distances = R .distances; numbers = R .numbers }
+
+    -- The distance that is read is the one that was there.
+    reads : (s : ℕ) → s < 65 → getD new (32 + s) 0 ≡ getD (distancesIn old) s 0
+    reads s c = rw (← (R .distances)) (rw (column-at 32 65 new s c) refl)
+
+    pub raised-in-shared :
+        Raising sources sinks old → getD sinks i 0 ≡ t →
+        RaisedIn sources sinks t old (set new (0 + i) (getD new (32 + getD sources i 0) 0)) (i + 1)
+    raised-in-shared A q =
+        let x : ℕ = getD new (32 + getD sources i 0) 0 in
+        let place : 0 + i ≡ i = omega arith in
+        rw place (record {
+          bounds =
+              rw (bounds-set (length sources) i x new b, reads (getD sources i 0) (omega (arith, A .nodes i b)))
+              (raised-shared (R .bounds) (omega (arith, column-length 0 (length sources) new (omega (arith, A .few, A .places, R .numbers)))) q);
+          distances = distances-set (length sources) i x new b (A .few) ∙ R .distances;
+          numbers = length-set new i x ∙ R .numbers;
+        })
+
+-- Bounds of 0 are below whatever the lengths.
+pub memory-zero :
+    {s : Shape} {net : Network} (old zs : List ℕ) → s .commodities ≤ mostCommodities → s .commodities ≡ commodities net → 97 ≤ length old →
+    zs ≡ replicate (s .commodities) 0 → (l : List ℕ) → Memory s net l (put 0 (s .commodities) old zs)
+memory-zero {s} {net} old zs few k places e l =
+    let size : length zs ≡ s .commodities = ap length e ∙ length-replicate {A = ℕ} (s .commodities) 0 in
+    record {
+      places = omega (arith, put-length 0 (s .commodities) old zs (omega arith) size);
+      below = rw (column-put 0 (s .commodities) old zs (omega arith) size, e) (below-zero net l k);
+    }

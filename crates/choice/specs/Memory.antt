@@ -1,0 +1,20 @@
+-- What is remembered from choice to choice, in one slice: a bound for each commodity, and the distances of the nodes.
+use mathlib.Core.List.{List}
+use Prim.Native.Nat.{ℕ, _≤_}
+use lib.ListN.{length}
+use Rattle.network.specs.Network.{Network}
+use Rattle.packed.specs.Packed.{column}
+use Rattle.packed.specs.declared.Shape.{Shape}
+use Rattle.choice.specs.Below.{Below}
+
+-- The bounds and the distances stand at the places that src/lib.rt names.
+abbrev pub boundsIn : Shape → List ℕ → List ℕ
+boundsIn s memory = column 0 (s .commodities) memory
+
+abbrev pub distancesIn : List ℕ → List ℕ
+distancesIn memory = column 32 65 memory
+
+-- There is a place for each, and the bounds are below the distances by the lengths l.
+pub record Memory (s : Shape) (net : Network) (l memory : List ℕ) : Type 0 where
+  pub places : 97 ≤ length memory
+  pub below : Below net l (boundsIn s memory)
