@@ -62,3 +62,17 @@ pub record Putting (v : ℕ) (ix : List ℕ) : Type 0 where
 unfoldable pub put : ℕ → ℕ → ℕ → List ℕ → List ℕ
 put v e w ix =
     set (set (set ix (66 + begins ix (v + 1)) e) (578 + begins ix (v + 1)) w) (v + 1) (begins ix (v + 1) + 1)
+
+-- Arc e is next; there are no more than 256, and each has another end.
+pub record Adding (here there : List ℕ) (v e : ℕ) (ix : List ℕ) : Type 0 where
+  pub building : Building here there v e ix
+  pub few : length here ≤ mostArcs
+  pub others : length here ≤ length there
+  pub arc : e < length here
+
+-- The node after the last is next.
+pub record Opening (here there : List ℕ) (last : ℕ) (ix : List ℕ) : Type 0 where
+  pub building : Building here there last (length here) ix
+  pub few : length here ≤ mostArcs
+  pub others : length here ≤ length there
+  pub node : last < mostNodes

@@ -9,7 +9,7 @@ ghost use Prim.Native.Nat.{_+_, _<_};
 ghost use lib.ListN.{length, getD};
 ghost use Rattle.packed.specs.Packed.{netIn};
 ghost use Rattle.paths.specs.Index.{Index, Into, Out};
-ghost use Rattle.paths.specs.Indexing.{Indexable, Indexing, Joins, Building, Putting, put};
+ghost use Rattle.paths.specs.Indexing.{Indexable, Indexing, Joins, Building, Putting, put, Adding, Opening};
 
 // First stands for each node, and one past the last, the place where its arcs begin; the arcs of the places stand from here on,
 pub const ARCS: usize = 66;
@@ -31,19 +31,27 @@ fn put(v: usize, e: usize, w: u64, ix: &mut [u64])
     ix[v + 1] = p as u64 + 1;
 }
 
-// The arcs of the next node.
+// Arc e is put there if it is at node v.
+fn add(here: &[u64], there: &[u64], v: usize, e: usize, ix: &mut [u64])
+    requires { ⌜ Adding (now here) (now there) v e (now ix) ⌝ }
+    ensures { λ r. ⌜ Building (now (here .entry)) (now (there .entry)) v (e + 1) (now (ix .exit)) ⌝ }
+{
+    if here[e] != v as u64 {
+        return;
+    }
+    put(v, e, there[e], ix);
+}
+
+// The arcs of the node after the last.
 fn row(here: &[u64], there: &[u64], last: usize, ix: &mut [u64])
-    requires building { ⌜ Building (now here) (now there) last (length (now here)) (now ix) ⌝ }
-    requires indexing { ⌜ Indexing (last + 1) (now here) (now there) (length (now ix)) ⌝ }
+    requires { ⌜ Opening (now here) (now there) last (now ix) ⌝ }
     ensures { λ r. ⌜ Building (now (here .entry)) (now (there .entry)) (last + 1) (length (now (here .entry))) (now (ix .exit)) ⌝ }
 {
     let v = last + 1;
     ix[v + 1] = ix[v];
     let mut e = 0;
     while e < here.len() {
-        if here[e] == v as u64 {
-            put(v, e, there[e], ix);
-        }
+        add(here, there, v, e, ix);
         e += 1;
     }
 }
