@@ -6,6 +6,7 @@ pub mod Enlisting
 pub mod Fars
 pub mod Filled
 pub mod Flags
+pub mod Indexes
 pub mod Labels
 pub mod Leading
 pub mod Listings

@@ -27,6 +27,9 @@ abbrev μ-loop : tie.MeasureT-loop
 abbrev entry : tie.At-loop Inv-loop μ-loop → tie.Start Inv-loop μ-loop
 entry c = c .before .before .before .before
 
+slice-write-ix-2 : tie.Need-slice-write-ix-2 Inv-loop μ-loop
+slice-write-ix-2 c = simp length-set (omega (arith, c .before .before .before .pre .numbers))
+
 loop-holds : tie.Need-loop-holds Inv-loop μ-loop
 loop-holds c =
     let s = c .before .before .before in
@@ -68,5 +71,5 @@ returns c =
 
 pub index-by-spec : {M : Type 1} → statement M
 index-by-spec =
-    tie.close (tie.spec Inv-loop μ-loop (λ c. search needs) (λ c. search needs) loop-holds row-requires
+    tie.close (tie.spec Inv-loop μ-loop (λ c. search needs) slice-write-ix-2 loop-holds row-requires
     (λ c. search needs) (λ c. search needs) loop-again same-length returns)
