@@ -72,7 +72,6 @@ module _ {here there : List ℕ} {v : ℕ} {e : ℕ} {ix : List ℕ} (B : Buildi
         (λ (l : u < v). old c (record { joins = U .joins; first = λ s. absurd (omega arith) }))
         (eq-or-lt-of-le c)
 
-
     -- and it is put behind the others.
     pub building-put : Building here there v (e + 1) (put v e (getD there e 0) ix)
     building-put =

@@ -1,18 +1,16 @@
 -- An index on its way: empty at first, then one arc more, one passed by, and one node more.
 -- Assumes nothing.
-use mathlib.Core.Path.{_≡_, refl, sym, ap, _∙_}
-use mathlib.Core.Logic.{_⊎_, inl, inr, ⊎-elim}
+use mathlib.Core.Path.{_≡_, sym, ap, _∙_}
+use mathlib.Core.Logic.{⊎-elim}
 use mathlib.Core.List.{List}
 use Prim.Native.Nat.{ℕ, zero, suc, _+_, _≤_, _<_}
-use native.Mathlib.Nat.{eq-or-lt-of-le, le-refl}
+use native.Mathlib.Nat.{eq-or-lt-of-le}
 use native.Mathlib.Omega.{arith}
 use lib.ListN.{length, getD, set, length-set}
 use lib.Seq.{getD-set-same, getD-set-other}
-use Rattle.bounds.specs.Bounds.{mostNodes, mostArcs}
 use Rattle.paths.specs.Index.{begins, Place, Index}
-use Rattle.paths.specs.Indexing.{Joins, Upto, Building, Putting, put, taken}
-use Rattle.paths.proofs.Counts.{taken-within, taken-put, taken-on, taken-next}
-use Rattle.paths.proofs.Putting.{put-length, put-next, put-begins, put-place, place-put, put-places}
+use Rattle.paths.specs.Indexing.{Joins, Building}
+use Rattle.paths.proofs.Counts.{taken-on}
 
 -- The same index by another relation that tells the same.
 pub index-same :

@@ -1,13 +1,12 @@
 -- The two indexes of a packed network, by its two columns of ends.
 -- Assumes nothing.
-use mathlib.Core.Path.{_≡_, sym, ap, subst, _∙_}
+use mathlib.Core.Path.{_≡_, ap, _∙_}
 use mathlib.Core.List.{List}
 use mathlib.Core.Option.{some}
-use Prim.Native.Nat.{ℕ, _≤_, _<_}
+use Prim.Native.Nat.{ℕ, _≤_}
 use native.Mathlib.Omega.{arith}
 use lib.ListN.{length}
 use Rattle.network.specs.Network.{Network, arcs}
-use Rattle.network.specs.Path.{leads}
 use Rattle.network.proofs.Leads.{leads-some, some-leads}
 use Rattle.packed.specs.Packed.{netIn}
 use Rattle.packed.specs.declared.Shape.{Shape}

@@ -42,12 +42,14 @@ module _ (net : Network) (l d : List ℕ) (u e w : ℕ) (h : leads net u e ≡ s
       (λ (q : getD (relaxed l d u e w) v 0 ≡ getD d v 0).
       let (f, o) = had (omega arith) in
       (f, record { to = o .to; leads-to = o .leads-to; long = omega (arith, o .long, over-le f (o .to)) }))
-      (λ (s : Shortened l d u e w (relaxed l d u e w) v).
-      (e, record {
-        to = w;
-        leads-to = subst (λ (x : ℕ). leads net x e ≡ some w) (sym (s .at)) h;
-        long = omega (arith, s .now, over-le e w);
-      }))
+      (λ (s : Shortened l d u e w (relaxed l d u e w) v). (
+        e,
+        record {
+          to = w;
+          leads-to = subst (λ (x : ℕ). leads net x e ≡ some w) (sym (s .at)) h;
+          long = omega (arith, s .now, over-le e w);
+        },
+      ))
       (relaxed-entry l d u e w v)
 
   pub labels-relaxed : {t far : ℕ} → Labels net l d t far → Labels net l (relaxed l d u e w) t far

@@ -10,7 +10,7 @@ use lib.ListN.{length, getD, set, length-set}
 use lib.Seq.{getD-set-same, getD-set-other}
 use Rattle.bounds.specs.Bounds.{mostNodes}
 use Rattle.paths.specs.Index.{begins, Place}
-use Rattle.paths.specs.Indexing.{Joins, Upto, Building}
+use Rattle.paths.specs.Indexing.{Building}
 use Rattle.paths.proofs.Counts.{taken-next}
 
 module _ {here there : List ℕ} {v : ℕ} {ix : List ℕ} (B : Building here there v (length here) ix) (b : v < mostNodes) where
@@ -90,4 +90,3 @@ module _ {here there : List ℕ} {v : ℕ} {ix : List ℕ} (B : Building here th
           (λ (q : u ≡ v + 1 + 1). rw q (le-refl _))
           (λ (l : u < v + 1 + 1). omega (arith, last, elsewhere u (λ r. omega arith), B .order u (omega arith)))
           (eq-or-lt-of-le c)
-

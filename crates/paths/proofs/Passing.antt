@@ -84,7 +84,7 @@ module _ {net : Network} {out l d : List ℕ} {v : ℕ} (L : Leaving net out l d
             omega (
               arith,
               L .index .ascending v p (r .0) (arcAt out p) j (endAt out p) (way .to) (L .node)
-              (record { from = P .from; below = passing-below; arc = refl; end = refl })
-              (r .1)
-              c,
+                  (record { from = P .from; below = passing-below; arc = refl; end = refl })
+                  (r .1)
+                  c,
             )

@@ -91,6 +91,6 @@ module _ (ss ts : List ℕ) where
   walk = step {v = 1} {e = 0} (λ q. omega arith) way-1 (λ j b w. omega arith) (step {v = 2} {e = 1} (λ q. omega arith) way-2 arc-0-elsewhere stop)
     where
       arc-0-elsewhere : (j : ℕ) → j < 1 → Way (floor ss ts) lengths near 2 1 j → ⊥
-      arc-0-elsewhere = 
+      arc-0-elsewhere =
           below-more (λ j. Way (floor ss ts) lengths near 2 1 j → ⊥) 0 (λ j b w. omega arith)
           (λ w. omega (arith, leads-some (floor ss ts) 2 0 (w .to) (w .leads-to) .1))

@@ -6,7 +6,7 @@ use packed::Shape;
 use packed::TAILS;
 ghost use mathlib.Core.Path.{_≡_};
 ghost use Prim.Native.Nat.{_+_, _<_};
-ghost use lib.ListN.{length, getD};
+ghost use lib.ListN.{length};
 ghost use Rattle.packed.specs.Packed.{netIn};
 ghost use Rattle.paths.specs.Index.{Index, Into, Out};
 ghost use Rattle.paths.specs.Indexing.{Indexable, Indexing, Joins, Building, Putting, put, Adding, Opening};

@@ -69,7 +69,19 @@ pub fn relax_into(
     let mut p = into[v as usize] as usize;
     let end = into[v as usize + 1] as usize;
     while p < end {
-        count = reach(s, net, into, lengths, sink, v, p, dist, front, listed, count);
+        count = reach(
+            s,
+            net,
+            into,
+            lengths,
+            sink,
+            v,
+            p,
+            dist,
+            front,
+            listed,
+            count,
+        );
         p += 1;
     }
     count

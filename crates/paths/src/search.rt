@@ -49,7 +49,18 @@ fn distances_in(
     while size > 0 {
         let at = nearest(front, size, dist);
         let v = take_out(n, at, front, listed, size);
-        size = relax_into(s, net, into, lengths, sink, v, dist, front, listed, size - 1);
+        size = relax_into(
+            s,
+            net,
+            into,
+            lengths,
+            sink,
+            v,
+            dist,
+            front,
+            listed,
+            size - 1,
+        );
     }
 }
 
