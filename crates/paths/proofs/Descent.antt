@@ -1,33 +1,35 @@
 -- Below the cap a walk leads to t: each tight arc leads to a nearer node. So a distance below the cap is the length of a path. Guarantee, section 6.
 -- Assumes nothing.
-use mathlib.Core.Path.{_≡_, refl, sym, subst}
+use mathlib.Core.Path.{_≡_, refl, sym, ap, subst, _∙_}
 use mathlib.Core.Bool.{Bool, true, false}
 use mathlib.Core.Logic.{_⊎_, inl, inr}
 use mathlib.Core.List.{List, [], _∷_}
-use Prim.Native.Nat.{ℕ, zero, suc, _+_, _≤_, _<_}
+use mathlib.Core.Option.{Option, none, some, Option·none-ne-some, Option·some-injective}
+use Prim.Native.Nat.{ℕ, zero, suc, _≤_, _<_}
 use native.Mathlib.Nat.{le-refl}
 use native.Mathlib.Omega.{arith}
-use lib.Dec.{ltb, eqb}
+use lib.Dec.{eqb}
 use lib.ListN.{getD}
-use borrow.Author.Tests.{ltb-true, ltb-false, eqb-true, eqb-false}
+use borrow.Author.Tests.{eqb-true, eqb-false}
 use Rattle.network.specs.Ends.{Node, Ends, Positive}
-use Rattle.network.specs.Network.{Network, arcs, tail, head}
-use Rattle.paths.specs.Distances.{Way, Distances}
+use Rattle.network.specs.Network.{Network}
+use Rattle.network.specs.Path.{leads}
+use Rattle.paths.specs.Distances.{over, Way, Distances}
 use Rattle.paths.specs.Walk.{Walk, stop, step}
+use Rattle.paths.proofs.Leading.{leads-arc, leads-into}
 use Rattle.paths.proofs.Lowest.{lowest}
 
--- Whether arc e is such a way is decided by three tests.
+-- Whether arc e is such a way is decided by where it leads, and how long that is.
 way-or-not : (net : Network) (l d : List ℕ) (v x e : ℕ) → Way net l d v x e ⊎ (Way net l d v x e → ⊥)
-way-or-not net l d v x e =
-    by-tests (ltb e (arcs net)) (eqb (tail net e) v) (eqb (getD l e 0 + getD d (head net e) 0) x) refl refl refl
+way-or-not net l d v x e = by-end (leads net v e) refl
   where
-    by-tests :
-        (a b c : Bool) → ltb e (arcs net) ≡ a → eqb (tail net e) v ≡ b → eqb (getD l e 0 + getD d (head net e) 0) x ≡ c →
-        Way net l d v x e ⊎ (Way net l d v x e → ⊥)
-    by-tests true true true p q r = inl (record { arc = ltb-true e _ p; from = eqb-true _ v q; long = eqb-true _ x r })
-    by-tests true true false p q r = inr (λ w. eqb-false _ x r (w .long))
-    by-tests true false c p q r = inr (λ w. eqb-false _ v q (w .from))
-    by-tests false b c p q r = inr (λ w. omega (arith, ltb-false e _ p, w .arc))
+    by-test : (w : ℕ) → leads net v e ≡ some w → (b : Bool) → eqb (over l d e w) x ≡ b → Way net l d v x e ⊎ (Way net l d v x e → ⊥)
+    by-test w h true q = inl (record { to = w; leads-to = h; long = eqb-true _ x q })
+    by-test w h false q = inr (λ y. eqb-false _ x q (ap (over l d e) (Option·some-injective w (y .to) (sym h ∙ y .leads-to)) ∙ y .long))
+
+    by-end : (o : Option ℕ) → leads net v e ≡ o → Way net l d v x e ⊎ (Way net l d v x e → ⊥)
+    by-end none h = inr (λ y. Option·none-ne-some (y .to) (sym h ∙ y .leads-to))
+    by-end (some w) h = by-test w h (eqb (over l d e w) x) refl
 
 module _ {net : Network} {l d : List ℕ} {t far : ℕ} (ends : Ends net) (D : Distances net l d t far) (pos : Positive net l) where
   -- one step, where there is a walk from each nearer node
@@ -42,7 +44,8 @@ module _ {net : Network} {l d : List ℕ} {t far : ℕ} (ends : Ends net) (D : D
           let tight = D .tight v node (eqb-false v t q) near in
           let low = lowest (Way net l d v (getD d v 0)) (way-or-not net l d v (getD d v 0)) (tight .0) (tight .1) in
           let way = low .1 .has in
-          let rest = walks (head net (low .0)) (ends .heads (low .0) (way .arc)) (omega (arith, way .long, pos (low .0) (way .arc))) in
+          let rest =
+          walks (way .to) (leads-into net v (low .0) (way .to) (way .leads-to) ends) (omega (arith, way .long, pos (low .0) (leads-arc net v (low .0) (way .to) (way .leads-to)))) in
           (low .0 ∷ rest .0, step (eqb-false v t q) way (low .1 .none-lower) (rest .1))
 
   -- from a node at a distance of at most n

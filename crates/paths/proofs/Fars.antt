@@ -7,13 +7,14 @@ use Prim.Native.Nat.{ℕ, _+_, _≤_}
 use native.Mathlib.Omega.{arith}
 use lib.ListN.{length, getD, set, replicate}
 use lib.Seq.{getD-set-same, getD-set-other}
-use Rattle.network.specs.Network.{Network, arcs, tail, head}
+use Rattle.network.specs.Network.{Network}
 use Rattle.paths.specs.Far.{far}
 use Rattle.paths.specs.Graph.{Fit}
 use Rattle.paths.specs.Labels.{Labels}
 use Rattle.paths.specs.Listing.{Enlisted}
-use Rattle.paths.specs.Searching.{Searching}
+use Rattle.paths.specs.Searching.{Searching, Any}
 use Rattle.paths.proofs.Filled.{filled-at, filled-room}
+use Rattle.paths.proofs.Leading.{leads-from, leads-into}
 use Rattle.paths.proofs.Relaxing.{set-entry}
 
 module _ (net : Network) (l rest : List ℕ) (t : ℕ) (b : t ≤ net .nodes) where
@@ -42,17 +43,17 @@ module _ (net : Network) (l rest : List ℕ) (t : ℕ) (b : t ≤ net .nodes) wh
   -- With the sink on the list the search can go on.
   pub searching-start :
       {old front listed : List ℕ} {size r : ℕ} → Fit net l (length (set fars t 0)) → Enlisted (net .nodes) old size t front listed r →
-      Searching net l t t (arcs net) (set fars t 0) front listed r
+      Searching net l t Any (set fars t 0) front listed r
   searching-start {listed = listed} f E =
       record {
         fit = f;
         labels = labels-start;
         listing = E .listing;
-        feasible = λ j c off at.
-            let ne : head net j ≡ t → ⊥ = λ q. omega (arith, E .has, ap (λ k. getD listed k 0) q) in
+        feasible = λ u e w h any off.
+            let ne : w ≡ t → ⊥ = λ q. omega (arith, E .has, ap (λ k. getD listed k 0) q) in
             omega (
               arith,
-              start-far (head net j) (f .ends .heads j c .1) ne,
-              labels-start .capped (tail net j) (f .ends .tails j c .1),
+              start-far w (leads-into net u e w h (f .ends) .1) ne,
+              labels-start .capped u (leads-from net u e w h (f .ends) .1),
             );
       }

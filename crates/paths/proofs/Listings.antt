@@ -6,7 +6,7 @@ use mathlib.Core.List.{List}
 use Prim.Native.Nat.{ℕ, zero, suc, _≤_, _<_}
 use native.Mathlib.Nat.{eq-or-lt-of-le}
 use native.Mathlib.Omega.{arith}
-use lib.ListN.{length, getD}
+use lib.ListN.{length, getD, replicate, length-replicate, getD-replicate}
 use Rattle.arith.proofs.Sums.{sum-const, sum-le, sum-lt}
 use Rattle.paths.specs.Frontier.{Frontier}
 use Rattle.paths.specs.Listing.{Listing}
@@ -22,6 +22,13 @@ listing-empty room none =
       found = λ v b h. absurd (omega (arith, none v b));
       few = omega arith;
     }
+
+-- Zeros are an empty list.
+pub listing-zeros : (n places size : ℕ) → n ≤ places → n < size → Listing n (replicate places 0) (replicate size 0) 0
+listing-zeros n places size a b =
+    listing-empty
+    (record { front = omega (arith, length-replicate {A = ℕ} places 0); listed = omega (arith, length-replicate {A = ℕ} size 0) })
+    (λ v c. getD-replicate size v 0 0 (omega arith))
 
 module _ {n : ℕ} {front listed : List ℕ} {size : ℕ} (L : Listing n front listed size) where
   -- There are no more entries than nodes,

@@ -1,28 +1,20 @@
 -- No path is shorter than the distance of its start. Guarantee, section 6.
 -- Assumes nothing.
-use mathlib.Core.Path.{_≡_, ap}
-use mathlib.Core.Option.{some, Option·some-injective}
+use mathlib.Core.Path.{ap}
+use mathlib.Core.Option.{Option·some-injective}
 use mathlib.Core.List.{List, [], _∷_}
-use Prim.Native.Nat.{ℕ, _+_, _≤_}
+use Prim.Native.Nat.{ℕ, _≤_}
 use native.Mathlib.Omega.{arith}
 use lib.ListN.{getD}
 use Rattle.network.specs.Network.{Network}
-use Rattle.network.specs.Path.{leads, follow, Path, pathLength}
-use Rattle.network.proofs.Leads.{leads-some}
+use Rattle.network.specs.Path.{follow, Path, pathLength}
 use Rattle.network.proofs.Paths.{path-step}
 use Rattle.paths.specs.Distances.{Distances}
 
 module _ {net : Network} {l d : List ℕ} {t far : ℕ} where
-  -- The way over an arc is no shorter than the distance of where it starts.
-  pub way-lower : Distances net l d t far → (v e w : ℕ) → leads net v e ≡ some w → getD d v 0 ≤ getD l e 0 + getD d w 0
-  way-lower D v e w h =
-      let r = leads-some net v e w h in
-      omega (arith, D .feasible e (r .0), ap (λ u. getD d u 0) (r .1), ap (λ u. getD d u 0) (r .2))
-
-  -- No path is shorter.
   pub distance-lower : Distances net l d t far → (v : ℕ) (p : List ℕ) → Path net v t p → getD d v 0 ≤ pathLength l p
   unfolding follow pathLength
   distance-lower D v [] h = omega (arith, D .sink, ap (λ u. getD d u 0) (Option·some-injective v t h))
   distance-lower D v (e ∷ p) h =
       let s = path-step net v t e p h in
-      omega (arith, way-lower D v e (s .0) (s .1), distance-lower D (s .0) p (s .2))
+      omega (arith, D .feasible v e (s .0) (s .1), distance-lower D (s .0) p (s .2))

@@ -1,39 +1,90 @@
--- The search for a tight arc from v, along the list of the arcs out of v: none that is passed is tight.
+-- The search for a tight arc from v, along the places of v: none that is passed is tight, and one is.
 -- Assumes nothing.
-use mathlib.Core.Path.{_≡_}
+use mathlib.Core.Path.{_≡_, refl, sym, ap, _∙_}
+use mathlib.Core.Logic.{⊎-elim}
 use mathlib.Core.List.{List}
-use Prim.Native.Nat.{ℕ, suc, _+_, _≤_, _<_}
+use mathlib.Core.Option.{some}
+use Prim.Native.Nat.{ℕ, _+_, _≤_, _<_}
+use native.Mathlib.Nat.{eq-or-lt-of-le, le-refl}
 use native.Mathlib.Omega.{arith}
-use lib.ListN.{getD}
-use Rattle.arith.proofs.Order.{Compared, below, equal, above, compare}
-use Rattle.network.specs.Network.{Network, arcs, tail, head}
-use Rattle.paths.specs.Distances.{Way}
-use Rattle.paths.specs.Tight.{Tight}
-use Rattle.paths.proofs.Following.{Next}
+use lib.ListN.{length, getD}
+use Rattle.arith.proofs.Order.{Compared, below, equal, above, compare, le-or-lt}
+use Rattle.network.specs.Network.{Network}
+use Rattle.network.specs.Path.{leads}
+use Rattle.paths.specs.Calls.{Leaving}
+use Rattle.paths.specs.Distances.{over, Way}
+use Rattle.paths.specs.Index.{begins, arcAt, endAt, Place}
+use Rattle.paths.specs.Relax.{Relaxing}
+use Rattle.paths.specs.Tight.{Crossing, Tight}
+use Rattle.paths.proofs.Rooms.{relaxing}
 
--- No arc below e is tight, and e leads from v or is past the last arc.
-pub record Passed (net : Network) (l d : List ℕ) (v e : ℕ) : Type 0 where
-  pub within : e ≤ arcs net
-  pub none : (j : ℕ) → j < e → Way net l d v (getD d v 0) j → ⊥
-  pub here : e < arcs net → tail net e ≡ v
+-- The way over the arc at place p is as long as the distance of v.
+abbrev Shortest : List ℕ → List ℕ → List ℕ → ℕ → ℕ → Type 0
+Shortest out l d v p = over l d (arcAt out p) (endAt out p) ≡ getD d v 0
 
-module _ {net : Network} {l d : List ℕ} {v e : ℕ} where
-  pub passed-first : Next (net .tails) v 0 e → Passed net l d v e
-  passed-first N =
-      record { within = N .within; none = λ j b w. N .between j (omega arith) b (w .from); here = N .here }
+-- No place of v before p has such an arc.
+pub record Passing (out l d : List ℕ) (v p : ℕ) : Type 0 where
+  pub from : begins out v ≤ p
+  pub none : (q : ℕ) → begins out v ≤ q → q < p → Shortest out l d v q → ⊥
 
-  module _ (p : Passed net l d v e) where
-    pub passed-more : {i : ℕ} → (Way net l d v (getD d v 0) e → ⊥) → Next (net .tails) v (suc e) i → Passed net l d v i
-    passed-more {i} h N = record { within = N .within; none = λ j b w. by-place j b w (compare j e); here = N .here }
+pub passing-first : {out l d : List ℕ} {v : ℕ} → Passing out l d v (begins out v)
+passing-first = record { from = le-refl _; none = λ q a b. absurd (omega arith) }
+
+pub passing-more : {out l d : List ℕ} {v p : ℕ} → Passing out l d v p → (Shortest out l d v p → ⊥) → Passing out l d v (p + 1)
+passing-more {out} {l} {d} {v} {p} P slack =
+    record {
+      from = omega (arith, P .from);
+      none = λ q a b s.
+          ⊎-elim
+          (λ (r : q ≡ p). slack (rw r at s))
+          (λ (c : q < p). P .none q a c s)
+          (eq-or-lt-of-le (omega arith));
+    }
+
+module _ {net : Network} {out l d : List ℕ} {v : ℕ} (L : Leaving net out l d v) where
+  -- where an arc that keeps to a shortest path stands
+  standing : {e : ℕ} (way : Way net l d v (getD d v 0) e) → (q : ℕ) × Place out v q e (way .to) × Shortest out l d v q
+  standing {e} way =
+      let r = L .index .whole v e (way .to) (L .node) (way .leads-to) in
+      (r .0, r .1, rw (r .1 .arc, r .1 .end) (way .long))
+
+  module _ {p : ℕ} (P : Passing out l d v p) where
+    -- Such an arc is still to come,
+    pub passing-below : p < begins out (v + 1)
+    passing-below =
+        let r = standing (L .some .1) in
+        ⊎-elim
+        (λ (b : p ≤ r .0). omega (arith, r .1 .below))
+        (λ (b : r .0 < p). absurd (P .none (r .0) (r .1 .from) b (r .2)))
+        (le-or-lt p (r .0))
+
+    led : leads net v (arcAt out p) ≡ some (endAt out p)
+    led =
+        L .index .sound v p (arcAt out p) (endAt out p) (L .node)
+        (record { from = P .from; below = passing-below; arc = refl; end = refl })
+
+    place : 578 + p < length out
+    place = omega (arith, passing-below, L .index .within v (L .node), L .index .numbers)
+
+    pub passing-crossing : Crossing out l d p
+    passing-crossing =
+        let R : Relaxing l d v (arcAt out p) (endAt out p) = relaxing v (arcAt out p) (endAt out p) (L .fit) (L .capped) led in
+        record { place = place; arc = R .arc; end = R .end; fits = R .fits }
+
+    -- and the first is the lowest.
+    pub passing-found : Shortest out l d v p → Tight net out l d v p
+    passing-found s =
+        record { place = place; leads-to = led; long = s; none-lower = λ j b way. by-place j b way (compare (standing way .0) p) }
       where
-        by-place : (j : ℕ) → j < i → Way net l d v (getD d v 0) j → Compared j e → ⊥
-        by-place j b w (below c) = p .none j c w
-        by-place j b w (equal q) = h (rw q at w)
-        by-place j b w (above c) = N .between j c b (w .from)
-
-    pub passed-found : e < arcs net → getD l e 0 + getD d (head net e) 0 ≡ getD d v 0 → Tight net l d v e
-    passed-found b h =
-        record { within = p .within; none-lower = p .none; way = λ c. record { arc = b; from = p .here b; long = h } }
-
-    pub passed-all : arcs net ≤ e → Tight net l d v e
-    passed-all b = record { within = p .within; none-lower = p .none; way = λ c. absurd (omega arith) }
+        by-place : (j : ℕ) → j < arcAt out p → (way : Way net l d v (getD d v 0) j) → Compared (standing way .0) p → ⊥
+        by-place j b way (below c) = let r = standing way in P .none (r .0) (r .1 .from) c (r .2)
+        by-place j b way (equal q) = let r = standing way in omega (arith, sym (r .1 .arc) ∙ ap (arcAt out) q)
+        by-place j b way (above c) =
+            let r = standing way in
+            omega (
+              arith,
+              L .index .ascending v p (r .0) (arcAt out p) j (endAt out p) (way .to) (L .node)
+                  (record { from = P .from; below = passing-below; arc = refl; end = refl })
+                  (r .1)
+                  c,
+            )

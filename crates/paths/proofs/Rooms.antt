@@ -1,16 +1,30 @@
--- What fits by what a search asks: an arc has a head, its ends have places in the table, the way over it is a number of 64 bits, and a commodity
--- has a sink.
+-- What fits by what a search asks: an arc that leads somewhere has a length, its ends have places in the table, and the way over it is a number of
+-- 64 bits; and a commodity has a sink.
 -- Assumes nothing.
+use mathlib.Core.Path.{_≡_}
 use mathlib.Core.List.{List}
 use mathlib.Core.Logic.{⊎-elim}
-use Prim.Native.Nat.{ℕ, _^_, _≤_, _<_}
+use mathlib.Core.Option.{some}
+use Prim.Native.Nat.{ℕ, _≤_, _<_}
 use native.Mathlib.Omega.{arith}
 use lib.ListN.{length, getD, List·getD-eq-default}
 use Rattle.arith.proofs.Order.{le-or-lt}
-use Rattle.network.specs.Network.{Network, arcs, commodities, tail, head}
+use Rattle.network.specs.Network.{Network, commodities}
+use Rattle.network.specs.Path.{leads}
 use Rattle.paths.specs.Far.{far}
 use Rattle.paths.specs.Graph.{Fit, Capped}
-use Rattle.paths.specs.Relax.{over}
+use Rattle.paths.specs.Relax.{Relaxing}
+use Rattle.paths.proofs.Leading.{leads-arc, leads-from, leads-into}
+
+pub relaxing :
+    {net : Network} {l d : List ℕ} (u e w : ℕ) → Fit net l (length d) → Capped net d far → leads net u e ≡ some w → Relaxing l d u e w
+relaxing {net} u e w f c h =
+    record {
+      arc = omega (arith, leads-arc net u e w h, f .lengths);
+      start = omega (arith, leads-from net u e w h (f .ends), f .room);
+      end = omega (arith, leads-into net u e w h (f .ends), f .room);
+      fits = omega (arith, f .small e (leads-arc net u e w h), c w (leads-into net u e w h (f .ends) .1));
+    }
 
 -- What is at least 1 is read before the end of the list.
 listed : (xs : List ℕ) (i : ℕ) → 1 ≤ getD xs i 0 → i < length xs
@@ -19,19 +33,6 @@ listed xs i h =
     (λ (b : length xs ≤ i). absurd (omega (arith, List·getD-eq-default xs 0 b)))
     (λ (b : i < length xs). b)
     (le-or-lt (length xs) i)
-
-module _ {net : Network} {l : List ℕ} {size : ℕ} (f : Fit net l size) (e : ℕ) (b : e < arcs net) where
-  pub tail-room : tail net e < size
-  tail-room = omega (arith, f .room, f .ends .tails e b)
-
-  pub head-room : head net e < size
-  head-room = omega (arith, f .room, f .ends .heads e b)
-
-  pub head-listed : e < length (net .heads)
-  head-listed = listed (net .heads) e (f .ends .heads e b .0)
-
-  pub over-fits : (d : List ℕ) → Capped net d far → over net l d e < 2 ^ 64
-  over-fits d c = omega (arith, f .small e b, c (head net e) (f .ends .heads e b .1))
 
 -- A commodity has a sink.
 pub sink-listed : {net : Network} {l : List ℕ} {size : ℕ} → Fit net l size → (i : ℕ) → i < commodities net → i < length (net .sinks)

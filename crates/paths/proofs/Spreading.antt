@@ -1,45 +1,70 @@
--- An arc of a search is relaxed: either nothing changes, or its tail comes nearer and goes onto the list.
+-- An arc of a search is relaxed: either nothing changes, or its start comes nearer and goes onto the list.
 -- Assumes nothing.
-use mathlib.Core.Path.{_≡_, ap, _∙_}
-use mathlib.Core.Bool.{true, false}
+use mathlib.Core.Path.{_≡_, refl, sym, ap, _∙_}
+use mathlib.Core.Bool.{Bool, true, false}
 use mathlib.Core.Logic.{⊎-elim}
 use mathlib.Core.List.{List}
+use mathlib.Core.Option.{some}
 use Prim.Native.Nat.{ℕ, _+_, _≤_, _<_}
+use native.Mathlib.Nat.{eq-or-lt-of-le}
 use native.Mathlib.Omega.{arith}
-use lib.ListN.{getD}
-use Rattle.arith.proofs.Order.{Compared, below, equal, above, compare}
-use Rattle.network.specs.Network.{Network, arcs, tail, head}
+use lib.Dec.{eqb}
+use lib.ListN.{length, getD}
+use borrow.Author.Tests.{eqb-true, eqb-false}
+use Rattle.network.specs.Network.{Network}
+use Rattle.network.specs.Path.{leads}
+use Rattle.paths.specs.Distances.{over}
+use Rattle.paths.specs.Index.{arcAt, endAt}
 use Rattle.paths.specs.Listing.{Enlisted}
-use Rattle.paths.specs.Relax.{over, shortens, relaxed}
-use Rattle.paths.specs.Searching.{Searching, Spread}
+use Rattle.paths.specs.Relax.{shortens, relaxed}
+use Rattle.paths.specs.Searching.{Searching, Passed, Spread}
 use Rattle.paths.proofs.Labels.{labels-relaxed}
+use Rattle.paths.proofs.Leading.{leads-from}
 use Rattle.paths.proofs.Relaxing.{Shortened, relaxed-size, relaxed-entry, relaxed-le, relaxed-same, relaxed-over, relaxed-falls}
-use Rattle.paths.proofs.Rooms.{tail-room}
 
-module _ {net : Network} {l : List ℕ} {t v e : ℕ} {d front listed : List ℕ} {size : ℕ} (S : Searching net l t v e d front listed size)
-    (b : e < arcs net) where
+module _ {net : Network} {into l : List ℕ} {t v p u e : ℕ} {d front listed : List ℕ} {size : ℕ}
+    (S : Searching net l t (Passed into v p) d front listed size) (arc : arcAt into p ≡ e) (end : endAt into p ≡ u) (h : leads net u e ≡ some v) where
+  start : u < length d
+  start = omega (arith, leads-from net u e v h (S .fit .ends), S .fit .room)
+
   -- An arc is relaxed: no arc can shorten that could not before, but one into a node whose entry has changed; and that node is on the list.
   feasible-relaxed :
-      (flags : List ℕ) → ((u : ℕ) → getD flags u 0 ≡ 0 → getD listed u 0 ≡ 0) →
-      ((u : ℕ) → getD flags u 0 ≡ 0 → getD (relaxed net l d e) u 0 ≡ getD d u 0) →
-      (j : ℕ) → j < arcs net → getD flags (head net j) 0 ≡ 0 → (head net j ≡ v → j < e + 1) →
-      getD (relaxed net l d e) (tail net j) 0 ≤ over net l (relaxed net l d e) j
-  feasible-relaxed flags still same j c off at = by-arc (compare j e)
+      (flags : List ℕ) → ((x : ℕ) → getD flags x 0 ≡ 0 → getD listed x 0 ≡ 0) →
+      ((x : ℕ) → getD flags x 0 ≡ 0 → getD (relaxed l d u e v) x 0 ≡ getD d x 0) →
+      (x j y : ℕ) → leads net x j ≡ some y → Passed into v (p + 1) x j y → getD flags y 0 ≡ 0 →
+      getD (relaxed l d u e v) x 0 ≤ over l (relaxed l d u e v) j y
+  feasible-relaxed flags still same x j y led passed off = by-test (eqb y v) refl
     where
-      before : (head net j ≡ v → j < e) → getD (relaxed net l d e) (tail net j) 0 ≤ over net l (relaxed net l d e) j
-      before passed =
-          omega (arith, relaxed-le net l d e (tail net j), same (head net j) off, S .feasible j c (still (head net j) off) passed)
+      before : Passed into v p x j y → getD (relaxed l d u e v) x 0 ≤ over l (relaxed l d u e v) j y
+      before was =
+          omega (arith, relaxed-le l d u e v x, same y off, S .feasible x j y led was (still y off))
 
-      by-arc : Compared j e → getD (relaxed net l d e) (tail net j) 0 ≤ over net l (relaxed net l d e) j
-      by-arc (below h) = before (λ q. h)
-      by-arc (above h) = before (λ q. absurd (omega (arith, at q)))
-      by-arc (equal q) =
-          rw q (omega (arith, rw q at (same (head net j) off), relaxed-over net l d e (tail-room (S .fit) e b)))
+      -- at the arc itself
+      at-arc : y ≡ v → j ≡ e → x ≡ u → getD (relaxed l d u e v) x 0 ≤ over l (relaxed l d u e v) j y
+      at-arc a b c =
+          omega (
+            arith,
+            relaxed-over l d u e v start,
+            same y off,
+            ap (λ i. getD (relaxed l d u e v) i 0) c,
+            ap (λ i. getD l i 0) b,
+            ap (λ i. getD d i 0) a,
+          )
+
+      by-test : (b : Bool) → eqb y v ≡ b → getD (relaxed l d u e v) x 0 ≤ over l (relaxed l d u e v) j y
+      by-test false q = before (λ r. absurd (eqb-false y v q r))
+      by-test true q =
+          let r = passed (eqb-true y v q) in
+          ⊎-elim
+          (λ (s : r .0 ≡ p). at-arc (eqb-true y v q) (sym (r .2 .arc) ∙ (ap (arcAt into) s ∙ arc)) (sym (r .2 .end) ∙ (ap (endAt into) s ∙ end)))
+          (λ (b : r .0 < p). before (λ i. (r .0, b, r .2)))
+          (eq-or-lt-of-le (omega (arith, r .1)))
 
   -- It does not shorten: all is as before.
-  pub searching-still : {x : List ℕ} → shortens net l d e ≡ false → x ≡ relaxed net l d e → Spread net l t v (e + 1) d size x front listed size
-  searching-still h q =
-      rw (q ∙ relaxed-same net l d e h)
+  pub searching-still :
+      {x : List ℕ} → shortens l d u e v ≡ false → x ≡ relaxed l d u e v → Spread net l t (Passed into v (p + 1)) d size x front listed size
+  searching-still same q =
+      rw (q ∙ relaxed-same l d u e v same)
       (record {
         searching =
             record {
@@ -47,37 +72,32 @@ module _ {net : Network} {l : List ℕ} {t v e : ℕ} {d front listed : List ℕ
               labels = S .labels;
               listing = S .listing;
               feasible =
-                  rw (relaxed-same net l d e h) at
-                  (feasible-relaxed listed (λ u q. q) (λ u q. ap (λ y. getD y u 0) (relaxed-same net l d e h)));
+                  rw (relaxed-same l d u e v same) at
+                  (feasible-relaxed listed (λ x q. q) (λ x q. ap (λ y. getD y x 0) (relaxed-same l d u e v same)));
             };
         weight = omega arith;
       })
 
-  -- It does: its tail is on the list.
+  -- It does: its start is on the list.
   pub searching-spread :
-      {x front′ listed′ : List ℕ} {r : ℕ} → shortens net l d e ≡ true → x ≡ relaxed net l d e →
-      Enlisted (net .nodes) listed size (tail net e) front′ listed′ r → Spread net l t v (e + 1) d size x front′ listed′ r
-  searching-spread {listed′ = listed′} h q E =
+      {x front′ listed′ : List ℕ} {r : ℕ} → shortens l d u e v ≡ true → x ≡ relaxed l d u e v → Enlisted (net .nodes) listed size u front′ listed′ r →
+      Spread net l t (Passed into v (p + 1)) d size x front′ listed′ r
+  searching-spread {listed′ = listed′} shorter q E =
       rw q
       (record {
         searching =
             record {
-              fit = rw (relaxed-size net l d e) (S .fit);
-              labels = labels-relaxed net l d e b (S .labels);
+              fit = rw (relaxed-size l d u e v) (S .fit);
+              labels = labels-relaxed net l d u e v h (S .labels);
               listing = E .listing;
-              feasible = feasible-relaxed listed′ (E .still) same;
+              feasible = feasible-relaxed listed′ (E .still) as-before;
             };
-        weight =
-            omega (
-              arith,
-              E .grown,
-              relaxed-falls net l d e (S .fit .ends .tails e b .1) (tail-room (S .fit) e b) h,
-            );
+        weight = omega (arith, E .grown, relaxed-falls l d u e v net (leads-from net u e v h (S .fit .ends) .1) start shorter);
       })
     where
-      same : (u : ℕ) → getD listed′ u 0 ≡ 0 → getD (relaxed net l d e) u 0 ≡ getD d u 0
-      same u off =
+      as-before : (x : ℕ) → getD listed′ x 0 ≡ 0 → getD (relaxed l d u e v) x 0 ≡ getD d x 0
+      as-before x off =
           ⊎-elim
-          (λ (w : getD (relaxed net l d e) u 0 ≡ getD d u 0). w)
-          (λ (w : Shortened net l d e (relaxed net l d e) u). absurd (omega (arith, E .has, ap (λ k. getD listed′ k 0) (w .at))))
-          (relaxed-entry net l d e u)
+          (λ (w : getD (relaxed l d u e v) x 0 ≡ getD d x 0). w)
+          (λ (w : Shortened l d u e v (relaxed l d u e v) x). absurd (omega (arith, E .has, ap (λ k. getD listed′ k 0) (w .at))))
+          (relaxed-entry l d u e v x)

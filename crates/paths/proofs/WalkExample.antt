@@ -1,15 +1,18 @@
 -- Two tables of distances, and a walk in which the rule for ties decides: so these exist.
 -- The arcs and lengths are those of the tied choice in the crate method.
 -- Assumes nothing.
-use mathlib.Core.Path.{_≡_, refl}
+use mathlib.Core.Path.{_≡_, refl, ap}
 use mathlib.Core.List.{List, [], _∷_}
+use mathlib.Core.Option.{some}
 use Prim.Native.Nat.{ℕ, zero, suc, _+_, _^_, _≤_, _<_}
 use native.Mathlib.Omega.{arith}
 use lib.ListN.{getD}
 use borrow.Author.Count.{below-none, below-more}
 use Rattle.network.specs.Ends.{Node}
 use Rattle.network.specs.Network.{Network, tail, head}
-use Rattle.paths.specs.Distances.{Way, Distances}
+use Rattle.network.specs.Path.{leads}
+use Rattle.network.proofs.Leads.{leads-some}
+use Rattle.paths.specs.Distances.{over, Way, Distances}
 use Rattle.paths.specs.Far.{far, Bounded}
 use Rattle.paths.specs.Walk.{Walk, stop, step}
 
@@ -46,22 +49,31 @@ module _ (ss ts : List ℕ) where
   table :
       (d : List ℕ) (t : ℕ) → getD d t 0 ≡ 0 → getD d 1 0 ≤ 1 + getD d 2 0 → getD d 2 0 ≤ 1 + getD d 3 0 → getD d 1 0 ≤ 2 + getD d 3 0 →
       Tight d t 1 → Tight d t 2 → Tight d t 3 → Distances (floor ss ts) lengths d t far
-  table d t z a b c at-1 at-2 at-3 =
-      record {
-        sink = z;
-        feasible = three (λ e. getD d (tail (floor ss ts) e) 0 ≤ getD lengths e 0 + getD d (head (floor ss ts) e) 0) a b c;
-        tight = tight;
-      }
+  table d t z a b c at-1 at-2 at-3 = record { sink = z; feasible = feasible; tight = tight }
     where
+      feasible : (u e w : ℕ) → leads (floor ss ts) u e ≡ some w → getD d u 0 ≤ over lengths d e w
+      feasible u e w h =
+          let r = leads-some (floor ss ts) u e w h in
+          let at = three (λ e. getD d (tail (floor ss ts) e) 0 ≤ over lengths d e (head (floor ss ts) e)) a b c e (r .0) in
+          omega (arith, at, ap (λ v. getD d v 0) (r .1), ap (λ v. getD d v 0) (r .2))
+
       tight : (v : ℕ) → Node (floor ss ts) v → Tight d t v
       tight zero n = absurd (omega arith)
       tight (suc v) n = three (λ v. Tight d t (suc v)) at-1 at-2 at-3 v (omega arith)
 
-  way-1 : Way (floor ss ts) lengths near 1 2 0
-  way-1 = record { arc = omega arith; from = refl; long = refl }
+  leads-1 : leads (floor ss ts) 1 0 ≡ some 2
+  unfolding leads
+  leads-1 = refl
 
-  way-2 : Way (floor ss ts) lengths near 2 1 1
-  way-2 = record { arc = omega arith; from = refl; long = refl }
+  leads-2 : leads (floor ss ts) 2 1 ≡ some 3
+  unfolding leads
+  leads-2 = refl
+
+  abbrev way-1 : Way (floor ss ts) lengths near 1 2 0
+  way-1 = record { to = 2; leads-to = leads-1; long = refl }
+
+  abbrev way-2 : Way (floor ss ts) lengths near 2 1 1
+  way-2 = record { to = 3; leads-to = leads-2; long = refl }
 
   pub to-3 : Distances (floor ss ts) lengths near 3 far
   to-3 =
@@ -79,4 +91,6 @@ module _ (ss ts : List ℕ) where
   walk = step {v = 1} {e = 0} (λ q. omega arith) way-1 (λ j b w. omega arith) (step {v = 2} {e = 1} (λ q. omega arith) way-2 arc-0-elsewhere stop)
     where
       arc-0-elsewhere : (j : ℕ) → j < 1 → Way (floor ss ts) lengths near 2 1 j → ⊥
-      arc-0-elsewhere = below-more (λ j. Way (floor ss ts) lengths near 2 1 j → ⊥) 0 (λ j b w. omega arith) (λ w. omega (arith, w .from))
+      arc-0-elsewhere =
+          below-more (λ j. Way (floor ss ts) lengths near 2 1 j → ⊥) 0 (λ j b w. omega arith)
+          (λ w. omega (arith, leads-some (floor ss ts) 2 0 (w .to) (w .leads-to) .1))

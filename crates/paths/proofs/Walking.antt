@@ -2,20 +2,22 @@
 -- Assumes nothing.
 use mathlib.Core.Path.{_≡_, sym, subst, _∙_}
 use mathlib.Core.List.{List, [], _∷_, _++_, append-assoc, append-nil}
-use mathlib.Core.Logic.{⊎-elim}
 use Prim.Native.Nat.{ℕ, _+_, _≤_, _<_}
 use native.Mathlib.Numerals.{add-one}
 use native.Mathlib.Omega.{arith}
 use lib.ListN.{length, getD, take, set, length-append, length-set}
 use lib.Seq.{length-take-le, take-suc-set}
-use Rattle.arith.proofs.Order.{le-or-lt}
 use Rattle.network.specs.Ends.{Node}
-use Rattle.network.specs.Network.{Network, arcs, head}
+use Rattle.network.specs.Network.{Network}
+use Rattle.paths.specs.Calls.{Leaving}
+use Rattle.paths.specs.Distances.{Way}
 use Rattle.paths.specs.Far.{far}
+use Rattle.paths.specs.Index.{arcAt, endAt}
 use Rattle.paths.specs.Tight.{Tight}
 use Rattle.paths.specs.Walk.{Walk, stop, step}
 use Rattle.paths.specs.Walked.{Walkable, Walked}
 use Rattle.paths.proofs.Descent.{distance-path}
+use Rattle.paths.proofs.Leading.{leads-arc, leads-into}
 use Rattle.paths.proofs.Simple.{walk-few}
 
 -- The walk from s is at v, at a node below the cap, with its k arcs in the table.
@@ -26,7 +28,7 @@ pub record Walking (net : Network) (l d : List ℕ) (s t size : ℕ) (path : Lis
   pub near : getD d v 0 < far
   pub completes : (p : List ℕ) → Walk net l d t v p → Walk net l d t s (take k path ++ p)
 
-module _ {net : Network} {l d : List ℕ} {s t size : ℕ} (W : Walkable net l d s t size) where
+module _ {net : Network} {out l d : List ℕ} {s t size : ℕ} (W : Walkable net out l d s t size) where
   -- Before the first arc.
   pub walking-start : (path : List ℕ) → length path ≡ size → Walking net l d s t size path s 0
   walking-start path q =
@@ -53,33 +55,39 @@ module _ {net : Network} {l d : List ℕ} {s t size : ℕ} (W : Walkable net l d
           few = walking-few;
         }
 
-    module _ (apart : v ≡ t → ⊥) {e : ℕ} (T : Tight net l d v e) where
-      -- Some arc from v is tight, so the lowest is one.
-      pub next-arc : e < arcs net
-      next-arc =
-          let (j, way) = W .table .distances .tight v (S .node) apart (S .near) in
-          ⊎-elim
-          (λ (b : arcs net ≤ e). absurd (T .none-lower j (omega (arith, way .arc)) way))
-          (λ (b : e < arcs net). b)
-          (le-or-lt (arcs net) e)
-
-      -- It leads to a nearer node, so the walk ends.
-      pub next-nearer : getD d (head net e) 0 < getD d v 0
-      next-nearer = omega (arith, T .way next-arc .long, W .positive e next-arc)
-
-      room : k < length path
-      room = omega (arith, walking-few, S .whole, W .places)
-
-      written : (p : List ℕ) → take (k + 1) (set path k e) ++ p ≡ take k path ++ (e ∷ p)
-      written p = rw (add-one, take-suc-set path k e room, append-assoc)
-
-      -- One arc more.
-      pub walking-step : Walking net l d s t size (set path k e) (head net e) (k + 1)
-      walking-step =
+    module _ (apart : v ≡ t → ⊥) where
+      -- Some arc from v is tight,
+      pub walking-on : Leaving net out l d v
+      walking-on =
           record {
-            whole = length-set path k e ∙ S .whole;
-            within = omega (arith, room, S .whole);
-            node = W .fit .ends .heads e next-arc;
-            near = omega (arith, next-nearer, S .near);
-            completes = λ p w. rw (written p) (S .completes (e ∷ p) (step apart (T .way next-arc) (T .none-lower) w));
+            fit = W .fit;
+            index = W .index;
+            capped = W .table .capped;
+            node = S .node .1;
+            some = W .table .distances .tight v (S .node) apart (S .near);
           }
+
+      module _ {r : ℕ} (T : Tight net out l d v r) where
+        abbrev way : Way net l d v (getD d v 0) (arcAt out r)
+        way = record { to = endAt out r; leads-to = T .leads-to; long = T .long }
+
+        -- and it leads to a nearer node, so the walk ends.
+        pub next-nearer : getD d (endAt out r) 0 < getD d v 0
+        next-nearer = omega (arith, T .long, W .positive (arcAt out r) (leads-arc net v (arcAt out r) (endAt out r) (T .leads-to)))
+
+        room : k < length path
+        room = omega (arith, walking-few, S .whole, W .places)
+
+        written : (p : List ℕ) → take (k + 1) (set path k (arcAt out r)) ++ p ≡ take k path ++ (arcAt out r ∷ p)
+        written p = rw (add-one, take-suc-set path k (arcAt out r) room, append-assoc)
+
+        -- One arc more.
+        pub walking-step : Walking net l d s t size (set path k (arcAt out r)) (endAt out r) (k + 1)
+        walking-step =
+            record {
+              whole = length-set path k (arcAt out r) ∙ S .whole;
+              within = omega (arith, room, S .whole);
+              node = leads-into net v (arcAt out r) (endAt out r) (T .leads-to) (W .fit .ends);
+              near = omega (arith, next-nearer, S .near);
+              completes = λ p w. rw (written p) (S .completes (arcAt out r ∷ p) (step apart way (T .none-lower) w));
+            }

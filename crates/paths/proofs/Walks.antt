@@ -4,26 +4,24 @@ use mathlib.Core.Path.{_≡_, refl, sym, ap, subst, _∙_}
 use mathlib.Core.Logic.{⊎-elim}
 use mathlib.Core.Option.{some, Option·some-injective}
 use mathlib.Core.List.{List}
-use Prim.Native.Nat.{ℕ, _+_, _<_}
+use Prim.Native.Nat.{ℕ, _<_}
 use native.Mathlib.Nat.{eq-or-lt-of-le}
 use native.Mathlib.Omega.{arith}
 use lib.ListN.{getD}
-use Rattle.network.specs.Network.{Network, head}
+use Rattle.network.specs.Network.{Network}
 use Rattle.network.specs.Path.{leads, follow, Path, pathLength}
-use Rattle.network.proofs.Leads.{leads-some, some-leads}
 use Rattle.network.proofs.Paths.{path-step, path-cons}
 use Rattle.method.specs.Order.{Before, ends, smaller, agrees}
-use Rattle.paths.specs.Distances.{Way, Distances}
+use Rattle.paths.specs.Distances.{over, Way, Distances}
 use Rattle.paths.specs.Walk.{Walk, stop, step}
-use Rattle.paths.proofs.Lower.{way-lower, distance-lower}
+use Rattle.paths.proofs.Lower.{distance-lower}
 
 module _ {net : Network} {l d : List ℕ} {t : ℕ} where
   -- It is a path,
   pub walk-path : {v : ℕ} {p : List ℕ} → Walk net l d t v p → Path net v t p
   unfolding follow
   walk-path stop = refl
-  walk-path (step {v = v} {e = e} {p = p} apart way low w) =
-      path-cons net v (head net e) t e p (some-leads net v e (way .arc) (way .from)) (walk-path w)
+  walk-path (step {v = v} {e = e} {p = p} apart way low w) = path-cons net v (way .to) t e p (way .leads-to) (walk-path w)
 
   -- as long as the distance of its start.
   pub walk-length : {v : ℕ} {p : List ℕ} → getD d t 0 ≡ 0 → Walk net l d t v p → pathLength l p ≡ getD d v 0
@@ -33,18 +31,12 @@ module _ {net : Network} {l d : List ℕ} {t : ℕ} where
 
   -- The way over an arc that is not tight is longer than the distance of where it starts,
   slack-longer :
-      {far : ℕ} → Distances net l d t far → (v j w : ℕ) → (Way net l d v (getD d v 0) j → ⊥) → leads net v j ≡ some w →
-      getD d v 0 < getD l j 0 + getD d w 0
+      {far : ℕ} → Distances net l d t far → (v j w : ℕ) → (Way net l d v (getD d v 0) j → ⊥) → leads net v j ≡ some w → getD d v 0 < over l d j w
   slack-longer D v j w slack h =
-      let r = leads-some net v j w h in
       ⊎-elim
-      (λ (q : getD d v 0 ≡ getD l j 0 + getD d w 0). absurd (slack (record {
-        arc = r .0;
-        from = r .1;
-        long = omega (arith, ap (λ u. getD d u 0) (r .2));
-      })))
-      (λ (b : getD d v 0 < getD l j 0 + getD d w 0). b)
-      (eq-or-lt-of-le (way-lower D v j w h))
+      (λ (q : getD d v 0 ≡ over l d j w). absurd (slack (record { to = w; leads-to = h; long = sym q })))
+      (λ (b : getD d v 0 < over l d j w). b)
+      (eq-or-lt-of-le (D .feasible v j w h))
 
   -- so paths that are before a walk in dictionary order are longer.
   pub walk-first :
@@ -55,12 +47,12 @@ module _ {net : Network} {l d : List ℕ} {t : ℕ} where
   walk-first D (step {v = v} apart way low w) q h (smaller {d = j} {p = r} b) =
       let s = path-step net v t j r h in
       omega (arith, slack-longer D v j (s .0) (low j b) (s .1), distance-lower D (s .0) r (s .2))
-  walk-first D (step {v = v} apart way low w) q h (agrees {d = j} {p = r} same b) =
+  walk-first D (step {v = v} {e = e} apart way low w) q h (agrees {d = j} {p = r} same b) =
       let s = path-step net v t j r h in
-      let k = leads-some net v j (s .0) (s .1) in
+      let to : s .0 ≡ way .to = Option·some-injective (s .0) (way .to) (sym (s .1) ∙ (ap (leads net v) same ∙ way .leads-to)) in
       omega (
         arith,
         way .long,
         ap (λ i. getD l i 0) same,
-        walk-first D w r (subst (λ (u : ℕ). Path net u t r) (sym (k .2) ∙ ap (head net) same) (s .2)) b,
+        walk-first D w r (subst (λ (u : ℕ). Path net u t r) to (s .2)) b,
       )

@@ -1,19 +1,25 @@
 -- Distances to a node t, below a cap: what a search must leave in its table.
 use mathlib.Core.Path.{_≡_}
 use mathlib.Core.List.{List}
+use mathlib.Core.Option.{some}
 use Prim.Native.Nat.{ℕ, _+_, _≤_, _<_}
 use lib.ListN.{getD}
 use Rattle.network.specs.Ends.{Node}
-use Rattle.network.specs.Network.{Network, arcs, tail, head}
+use Rattle.network.specs.Network.{Network}
+use Rattle.network.specs.Path.{leads}
 
--- Arc e leads from v, and the way over it is x long: its length and the distance d of its head.
+-- How long the way over arc e to node w is: its length and the distance of w.
+abbrev pub over : List ℕ → List ℕ → ℕ → ℕ → ℕ
+over l d e w = getD l e 0 + getD d w 0
+
+-- Arc e leads from v to some node, and the way over it is x long.
 pub record Way (net : Network) (l d : List ℕ) (v x e : ℕ) : Type 0 where
-  pub arc : e < arcs net
-  pub from : tail net e ≡ v
-  pub long : getD l e 0 + getD d (head net e) 0 ≡ x
+  pub to : ℕ
+  pub leads-to : leads net v e ≡ some to
+  pub long : over l d e to ≡ x
 
 -- d has the distances to t by the lengths l: no arc could shorten one, and each below the cap is that of the way over some arc.
 pub record Distances (net : Network) (l d : List ℕ) (t far : ℕ) : Type 0 where
   pub sink : getD d t 0 ≡ 0
-  pub feasible : (e : ℕ) → e < arcs net → getD d (tail net e) 0 ≤ getD l e 0 + getD d (head net e) 0
+  pub feasible : (u e w : ℕ) → leads net u e ≡ some w → getD d u 0 ≤ over l d e w
   pub tight : (v : ℕ) → Node net v → (v ≡ t → ⊥) → getD d v 0 < far → (e : ℕ) × Way net l d v (getD d v 0) e

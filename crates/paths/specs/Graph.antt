@@ -1,15 +1,10 @@
 -- What a search asks of the tables that it is lent, and what it leaves in one.
-use mathlib.Core.List.{List, []}
+use mathlib.Core.List.{List}
 use Prim.Native.Nat.{ℕ, _^_, _≤_, _<_}
 use lib.ListN.{length, getD}
 use Rattle.network.specs.Ends.{Ends}
 use Rattle.network.specs.Network.{Network, arcs}
-use Rattle.network.specs.Parts.{ofArcs}
 use Rattle.paths.specs.Distances.{Distances}
-
--- n nodes and these arcs: all that distances depend on.
-abbrev pub graph : ℕ → List ℕ → List ℕ → Network
-graph n tails heads = ofArcs n tails heads []
 
 -- The ends are nodes, each arc has a length, a small one, and a table of the given size has room for each node.
 pub record Fit (net : Network) (l : List ℕ) (size : ℕ) : Type 0 where

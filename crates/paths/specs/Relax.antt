@@ -2,24 +2,27 @@
 use mathlib.Core.Bool.{Bool, cond}
 use mathlib.Core.List.{List}
 use mathlib.Core.Path.{_≡_}
-use Prim.Native.Nat.{ℕ, _+_}
+use Prim.Native.Nat.{ℕ, _^_, _<_}
 use lib.Dec.{ltb}
-use lib.ListN.{getD, set}
-use Rattle.network.specs.Network.{Network, tail, head}
+use lib.ListN.{length, getD, set}
+use Rattle.paths.specs.Distances.{over}
 
--- How long the way over arc e is: its length and the distance of its head.
-abbrev pub over : Network → List ℕ → List ℕ → ℕ → ℕ
-over net l d e = getD l e 0 + getD d (head net e) 0
+-- The way over arc e from u to w is shorter than the distance of u.
+unfoldable pub shortens : List ℕ → List ℕ → ℕ → ℕ → ℕ → Bool
+shortens l d u e w = ltb (over l d e w) (getD d u 0)
 
--- The way over arc e is shorter than the distance of its tail.
-unfoldable pub shortens : Network → List ℕ → List ℕ → ℕ → Bool
-shortens net l d e = ltb (over net l d e) (getD d (tail net e) 0)
+-- The distances after the arc: u has that of the way over it, where that is shorter.
+unfoldable pub relaxed : List ℕ → List ℕ → ℕ → ℕ → ℕ → List ℕ
+relaxed l d u e w = cond (shortens l d u e w) (set d u (over l d e w)) d
 
--- The distances after arc e: its tail has that of the way over it, where that is shorter.
-unfoldable pub relaxed : Network → List ℕ → List ℕ → ℕ → List ℕ
-relaxed net l d e = cond (shortens net l d e) (set d (tail net e) (over net l d e)) d
+-- The arc has a length, its two ends have entries, and the way over it is a number of 64 bits.
+pub record Relaxing (l d : List ℕ) (u e w : ℕ) : Type 0 where
+  pub arc : e < length l
+  pub start : u < length d
+  pub end : w < length d
+  pub fits : over l d e w < 2 ^ 64
 
--- Arc e is relaxed: r tells whether it led to a shorter way, and new has the distances after it.
-pub record Relaxed (net : Network) (l : List ℕ) (e : ℕ) (old : List ℕ) (r : Bool) (new : List ℕ) : Type 0 where
-  pub told : r ≡ shortens net l old e
-  pub entries : new ≡ relaxed net l old e
+-- The arc is relaxed: r tells whether it led to a shorter way, and new has the distances after it.
+pub record Relaxed (l : List ℕ) (u e w : ℕ) (old : List ℕ) (r : Bool) (new : List ℕ) : Type 0 where
+  pub told : r ≡ shortens l old u e w
+  pub entries : new ≡ relaxed l old u e w

@@ -1,12 +1,24 @@
 -- The search for the next arc of a walk.
+use mathlib.Core.Path.{_≡_}
 use mathlib.Core.List.{List}
-use Prim.Native.Nat.{ℕ, _≤_, _<_}
-use lib.ListN.{getD}
-use Rattle.network.specs.Network.{Network, arcs}
-use Rattle.paths.specs.Distances.{Way}
+use mathlib.Core.Option.{some}
+use Prim.Native.Nat.{ℕ, _^_, _+_, _<_}
+use lib.ListN.{length, getD}
+use Rattle.network.specs.Network.{Network}
+use Rattle.network.specs.Path.{leads}
+use Rattle.paths.specs.Distances.{over, Way}
+use Rattle.paths.specs.Index.{arcAt, endAt}
 
--- r is the lowest-numbered arc from v whose way is as long as v's distance, or past the last arc where there is none.
-pub record Tight (net : Network) (l d : List ℕ) (v r : ℕ) : Type 0 where
-  pub within : r ≤ arcs net
-  pub none-lower : (j : ℕ) → j < r → Way net l d v (getD d v 0) j → ⊥
-  pub way : r < arcs net → Way net l d v (getD d v 0) r
+-- The arc at place p has a length, its end an entry of d, and the way over it is a number of 64 bits.
+pub record Crossing (out l d : List ℕ) (p : ℕ) : Type 0 where
+  pub place : 578 + p < length out
+  pub arc : arcAt out p < length l
+  pub end : endAt out p < length d
+  pub fits : over l d (arcAt out p) (endAt out p) < 2 ^ 64
+
+-- Place r has the lowest-numbered arc from v whose way is as long as v's distance.
+pub record Tight (net : Network) (out l d : List ℕ) (v r : ℕ) : Type 0 where
+  pub place : 578 + r < length out
+  pub leads-to : leads net v (arcAt out r) ≡ some (endAt out r)
+  pub long : over l d (arcAt out r) (endAt out r) ≡ getD d v 0
+  pub none-lower : (j : ℕ) → j < arcAt out r → Way net l d v (getD d v 0) j → ⊥

@@ -6,13 +6,16 @@ use Rattle.network.specs.Ends.{Node, Positive}
 use Rattle.network.specs.Network.{Network}
 use Rattle.paths.specs.Far.{far}
 use Rattle.paths.specs.Graph.{Fit, Table}
+use Rattle.paths.specs.Index.{Out}
 use Rattle.paths.specs.Walk.{Walk}
 
--- d has the distances to t, by lengths of at least 1; s is a node with a path to t; and the table of arcs has a place for each node.
-pub record Walkable (net : Network) (l d : List ℕ) (s t size : ℕ) : Type 0 where
+-- d has the distances to t, by lengths of at least 1; s is a node with a path to t; out has the arcs from each node; and the table of arcs has a place
+-- for each node.
+pub record Walkable (net : Network) (out l d : List ℕ) (s t size : ℕ) : Type 0 where
   pub fit : Fit net l (length d)
   pub positive : Positive net l
   pub table : Table net l d t far
+  pub index : Out net out
   pub source : Node net s
   pub near : getD d s 0 < far
   pub places : net .nodes ≤ size

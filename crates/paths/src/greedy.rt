@@ -1,62 +1,61 @@
 // The greedy walk: from a node over the lowest-numbered arc that keeps to a shortest path, until the sink.
-// n, the number of nodes, is taken for the contracts, which speak of the network. first_out and next_out are the lists of arcs out of each node.
+// The network is taken for the contracts, which speak of it; the arcs are read from the index of those out of each node.
+use crate::index::ARCS;
+use crate::index::ENDS;
+use packed::Shape;
+ghost use mathlib.Core.Path.{_≡_};
 ghost use lib.ListN.{length};
+ghost use Rattle.packed.specs.Packed.{netIn};
 ghost use Rattle.paths.specs.Calls.{Leaving};
-ghost use Rattle.paths.specs.Graph.{graph};
-ghost use Rattle.paths.specs.Links.{Linked};
-ghost use Rattle.paths.specs.Tight.{Tight};
+ghost use Rattle.paths.specs.Distances.{over};
+ghost use Rattle.paths.specs.Index.{arcAt, endAt};
+ghost use Rattle.paths.specs.Tight.{Crossing, Tight};
 ghost use Rattle.paths.specs.Walked.{Walkable, Walked};
 
-// The lowest-numbered arc from v that lies on a shortest path; past the last arc where there is none.
-fn tight(
-    n: u64,
-    tails: &[u64],
-    heads: &[u64],
-    lengths: &[u64],
-    first_out: &[u64],
-    next_out: &[u64],
-    dist: &[u64],
-    v: u64,
-) -> usize
-    requires { ⌜ Leaving (graph n (now tails) (now heads)) (now lengths) (now «first_out») (now «next_out») (now dist) v ⌝ }
-    ensures { λ r. ⌜ Tight (graph n (now (tails .entry)) (now (heads .entry))) (now (lengths .entry)) (now (dist .entry)) v r ⌝ }
+// How long the way over the arc at place p is.
+fn over(out: &[u64], lengths: &[u64], dist: &[u64], p: usize) -> u64
+    requires { ⌜ Crossing (now out) (now lengths) (now dist) p ⌝ }
+    ensures { λ r. ⌜ r ≡ over (now (lengths .entry)) (now (dist .entry)) (arcAt (now (out .entry)) p) (endAt (now (out .entry)) p) ⌝ }
+{
+    let e = out[ARCS + p] as usize;
+    let w = out[ENDS + p] as usize;
+    lengths[e] + dist[w]
+}
+
+// The place of the lowest-numbered arc from v that lies on a shortest path. There is one.
+fn tight(s: Shape, net: &[u64], out: &[u64], lengths: &[u64], dist: &[u64], v: u64) -> usize
+    requires { ⌜ Leaving (netIn s (now net)) (now out) (now lengths) (now dist) v ⌝ }
+    ensures { λ r. ⌜ Tight (netIn s (now (net .entry))) (now (out .entry)) (now (lengths .entry)) (now (dist .entry)) v r ⌝ }
 {
     let d = dist[v as usize];
-    let mut e = first_out[v as usize] as usize;
-    while e < tails.len() {
-        let w = heads[e] as usize;
-        if lengths[e] + dist[w] == d {
-            return e;
-        }
-        e = next_out[e] as usize;
+    let mut p = out[v as usize] as usize;
+    while over(out, lengths, dist, p) != d {
+        p += 1;
     }
-    e
+    p
 }
 
 // The first of the shortest paths from the source to the sink is written into path; how many arcs it has.
 pub fn walk(
-    n: u64,
-    tails: &[u64],
-    heads: &[u64],
+    s: Shape,
+    net: &[u64],
+    out: &[u64],
     lengths: &[u64],
-    first_out: &[u64],
-    next_out: &[u64],
     dist: &[u64],
     source: u64,
     sink: u64,
     path: &mut [u64],
 ) -> usize
-    requires walkable { ⌜ Walkable (graph n (now tails) (now heads)) (now lengths) (now dist) source sink (length (now path)) ⌝ }
-    requires links { ⌜ Linked (now tails) n (now «first_out») (now «next_out») ⌝ }
-    ensures { λ r. ⌜ Walked (graph n (now (tails .entry)) (now (heads .entry))) (now (lengths .entry)) (now (dist .entry)) source sink r (now (path .exit)) ⌝ }
+    requires { ⌜ Walkable (netIn s (now net)) (now out) (now lengths) (now dist) source sink (length (now path)) ⌝ }
+    ensures { λ r. ⌜ Walked (netIn s (now (net .entry))) (now (lengths .entry)) (now (dist .entry)) source sink r (now (path .exit)) ⌝ }
 {
     let mut v = source;
     let mut k = 0;
     while v != sink {
-        let e = tight(n, tails, heads, lengths, first_out, next_out, dist, v);
-        path[k] = e as u64;
+        let p = tight(s, net, out, lengths, dist, v);
+        path[k] = out[ARCS + p];
         k += 1;
-        v = heads[e];
+        v = out[ENDS + p];
     }
     k
 }

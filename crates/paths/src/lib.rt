@@ -2,6 +2,6 @@
 mod fill;
 mod frontier;
 pub mod greedy;
-pub mod links;
+pub mod index;
 mod relax;
 pub mod search;

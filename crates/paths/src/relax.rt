@@ -1,60 +1,60 @@
 // Relaxation: of one arc, and of all arcs into a node.
-// n, the number of nodes, and the sink are taken for the contracts, which speak of the network and of the search.
+// The network and the sink are taken for the contracts, which speak of them and of the search; the arcs are read from the index of those into each node.
 use crate::frontier::enlist;
-ghost use Prim.Native.Nat.{_+_, _<_};
-ghost use lib.ListN.{length};
-ghost use Rattle.paths.specs.Calls.{Relaxing, Entering};
-ghost use Rattle.paths.specs.Graph.{graph};
-ghost use Rattle.paths.specs.Relax.{Relaxed};
-ghost use Rattle.paths.specs.Searching.{Searching, Spread};
+use crate::index::ARCS;
+use crate::index::ENDS;
+use packed::Shape;
+ghost use Prim.Native.Nat.{_+_};
+ghost use Rattle.packed.specs.Packed.{netIn};
+ghost use Rattle.paths.specs.Calls.{Reaching, Entering};
+ghost use Rattle.paths.specs.Relax.{Relaxing, Relaxed};
+ghost use Rattle.paths.specs.Searching.{Any, Passed, Spread};
 
-// The way over arc e is taken where it is shorter; whether it is.
-fn relax(n: u64, tails: &[u64], heads: &[u64], lengths: &[u64], e: usize, dist: &mut [u64]) -> bool
-    requires { ⌜ Relaxing (graph n (now tails) (now heads)) (now lengths) e (now dist) ⌝ }
-    ensures { λ r. ⌜ Relaxed (graph n (now (tails .entry)) (now (heads .entry))) (now (lengths .entry)) e (now (dist .entry)) r (now (dist .exit)) ⌝ }
+// The way over arc e from u to w is taken where it is shorter; whether it is.
+fn relax(lengths: &[u64], u: usize, e: usize, w: usize, dist: &mut [u64]) -> bool
+    requires { ⌜ Relaxing (now lengths) (now dist) u e w ⌝ }
+    ensures { λ r. ⌜ Relaxed (now (lengths .entry)) u e w (now (dist .entry)) r (now (dist .exit)) ⌝ }
 {
-    let v = tails[e] as usize;
-    let w = heads[e] as usize;
     let way = lengths[e] + dist[w];
-    if way < dist[v] {
-        dist[v] = way;
+    if way < dist[u] {
+        dist[u] = way;
         return true;
     }
     false
 }
 
-// Arc e, one of those into v, is relaxed, and its tail goes onto the list if that brings it nearer. How many are on the list now.
+// The arc at place p, one of those into v, is relaxed, and the node that it comes from goes onto the list if that brings it nearer. How many are on the
+// list now.
 fn reach(
-    n: u64,
-    tails: &[u64],
-    heads: &[u64],
+    s: Shape,
+    net: &[u64],
+    into: &[u64],
     lengths: &[u64],
     sink: u64,
     v: u64,
-    e: usize,
+    p: usize,
     dist: &mut [u64],
     front: &mut [u64],
     listed: &mut [u64],
     size: usize,
 ) -> usize
-    requires searching { ⌜ Searching (graph n (now tails) (now heads)) (now lengths) sink v e (now dist) (now front) (now listed) size ⌝ }
-    requires arc { ⌜ e < length (now tails) ⌝ }
-    ensures { λ r. ⌜ Spread (graph n (now (tails .entry)) (now (heads .entry))) (now (lengths .entry)) sink v (e + 1) (now (dist .entry)) size (now (dist .exit)) (now (front .exit)) (now (listed .exit)) r ⌝ }
+    requires { ⌜ Reaching (netIn s (now net)) (now into) (now lengths) sink v p (now dist) (now front) (now listed) size ⌝ }
+    ensures { λ r. ⌜ Spread (netIn s (now (net .entry))) (now (lengths .entry)) sink (Passed (now (into .entry)) v (p + 1)) (now (dist .entry)) size (now (dist .exit)) (now (front .exit)) (now (listed .exit)) r ⌝ }
 {
-    if relax(n, tails, heads, lengths, e, dist) {
-        return enlist(n, tails[e], front, listed, size);
+    let e = into[ARCS + p] as usize;
+    let u = into[ENDS + p];
+    if relax(lengths, u as usize, e, v as usize, dist) {
+        return enlist(s.nodes, u, front, listed, size);
     }
     size
 }
 
-// Every arc into v is relaxed, one after the other along their list. How many are on the search's list now.
+// Every arc into v is relaxed, one after the other. How many are on the search's list now.
 pub fn relax_into(
-    n: u64,
-    tails: &[u64],
-    heads: &[u64],
+    s: Shape,
+    net: &[u64],
+    into: &[u64],
     lengths: &[u64],
-    first_in: &[u64],
-    next_in: &[u64],
     sink: u64,
     v: u64,
     dist: &mut [u64],
@@ -62,26 +62,27 @@ pub fn relax_into(
     listed: &mut [u64],
     size: usize,
 ) -> usize
-    requires { ⌜ Entering (graph n (now tails) (now heads)) (now lengths) (now «first_in») (now «next_in») sink v (now dist) (now front) (now listed) size ⌝ }
-    ensures { λ r. ⌜ Spread (graph n (now (tails .entry)) (now (heads .entry))) (now (lengths .entry)) sink v (length (now (tails .entry))) (now (dist .entry)) size (now (dist .exit)) (now (front .exit)) (now (listed .exit)) r ⌝ }
+    requires { ⌜ Entering (netIn s (now net)) (now into) (now lengths) sink v (now dist) (now front) (now listed) size ⌝ }
+    ensures { λ r. ⌜ Spread (netIn s (now (net .entry))) (now (lengths .entry)) sink Any (now (dist .entry)) size (now (dist .exit)) (now (front .exit)) (now (listed .exit)) r ⌝ }
 {
     let mut count = size;
-    let mut e = first_in[v as usize] as usize;
-    while e < tails.len() {
+    let mut p = into[v as usize] as usize;
+    let end = into[v as usize + 1] as usize;
+    while p < end {
         count = reach(
-            n,
-            tails,
-            heads,
+            s,
+            net,
+            into,
             lengths,
             sink,
             v,
-            e,
+            p,
             dist,
             front,
             listed,
             count,
         );
-        e = next_in[e] as usize;
+        p += 1;
     }
     count
 }

@@ -5,13 +5,16 @@ use crate::frontier::enlist;
 use crate::frontier::nearest;
 use crate::frontier::take_out;
 use crate::relax::relax_into;
+use packed::Shape;
 ghost use mathlib.Core.Path.{_≡_};
 ghost use mathlib.Core.List.{_++_};
 ghost use Prim.Native.Nat.{_+_, _≤_, _<_};
 ghost use lib.ListN.{length, set, drop, replicate};
+ghost use Rattle.packed.specs.Packed.{netIn};
 ghost use Rattle.paths.specs.Calls.{Seeking};
 ghost use Rattle.paths.specs.Far.{far};
-ghost use Rattle.paths.specs.Graph.{graph, Table};
+ghost use Rattle.paths.specs.Graph.{Table};
+ghost use Rattle.paths.specs.Listing.{Listing};
 
 // No path without a loop is as long: at most 63 arcs of lengths below 2^40.
 pub const FAR: u64 = 0x4000_0000_0000;
@@ -25,36 +28,32 @@ fn reset(n: u64, sink: u64, dist: &mut [u64])
     dist[sink as usize] = 0;
 }
 
-// The distance of every node to the sink, FAR where it is not reached. first_in and next_in are the lists of the arcs into each node; front and
-// listed are scratch.
-pub fn distances(
-    n: u64,
-    tails: &[u64],
-    heads: &[u64],
+// The distances, with an empty list lent.
+fn distances_in(
+    s: Shape,
+    net: &[u64],
+    into: &[u64],
     lengths: &[u64],
-    first_in: &[u64],
-    next_in: &[u64],
     sink: u64,
     dist: &mut [u64],
     front: &mut [u64],
     listed: &mut [u64],
 )
-    requires { ⌜ Seeking (graph n (now tails) (now heads)) (now lengths) (now «first_in») (now «next_in») sink (length (now dist)) (length (now front)) (length (now listed)) ⌝ }
-    ensures { λ r. ⌜ Table (graph n (now (tails .entry)) (now (heads .entry))) (now (lengths .entry)) (now (dist .exit)) sink far ⌝ }
+    requires seeking { ⌜ Seeking (netIn s (now net)) (now into) (now lengths) sink (length (now dist)) ⌝ }
+    requires empty { ⌜ Listing (netIn s (now net) .nodes) (now front) (now listed) 0 ⌝ }
+    ensures { λ r. ⌜ Table (netIn s (now (net .entry))) (now (lengths .entry)) (now (dist .exit)) sink far ⌝ }
 {
+    let n = s.nodes;
     reset(n, sink, dist);
-    fill(n, 0, listed);
     let mut size = enlist(n, sink, front, listed, 0);
     while size > 0 {
         let at = nearest(front, size, dist);
         let v = take_out(n, at, front, listed, size);
         size = relax_into(
-            n,
-            tails,
-            heads,
+            s,
+            net,
+            into,
             lengths,
-            first_in,
-            next_in,
             sink,
             v,
             dist,
@@ -63,4 +62,15 @@ pub fn distances(
             size - 1,
         );
     }
+}
+
+// The distance of every node to the sink, FAR where it is not reached. The network is taken for the contract, which speaks of it; the arcs are read from
+// into, the index of those into each node.
+pub fn distances(s: Shape, net: &[u64], into: &[u64], lengths: &[u64], sink: u64, dist: &mut [u64])
+    requires { ⌜ Seeking (netIn s (now net)) (now into) (now lengths) sink (length (now dist)) ⌝ }
+    ensures { λ r. ⌜ Table (netIn s (now (net .entry))) (now (lengths .entry)) (now (dist .exit)) sink far ⌝ }
+{
+    let mut front = [0u64; 64];
+    let mut listed = [0u64; 65];
+    distances_in(s, net, into, lengths, sink, dist, &mut front, &mut listed);
 }
