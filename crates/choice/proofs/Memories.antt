@@ -1,5 +1,5 @@
 -- A bound stored in a memory: the bounds with it, and the distances as they were. Assumes nothing.
-use mathlib.Core.Path.{_≡_, refl, ap, _∙_}
+use mathlib.Core.Path.{_≡_, refl, ap, subst, _∙_}
 use mathlib.Core.List.{List}
 use Prim.Native.Nat.{ℕ, _+_, _-_, _≤_, _<_}
 use native.Mathlib.Omega.{arith}
@@ -9,7 +9,7 @@ use Rattle.bounds.specs.Bounds.{mostCommodities}
 use Rattle.network.specs.Network.{Network, commodities}
 use Rattle.packed.specs.Packed.{column, put}
 use Rattle.packed.specs.declared.Shape.{Shape}
-use Rattle.packed.proofs.Columns.{column-at, column-length, column-put, put-length}
+use Rattle.packed.proofs.Columns.{column-at, column-length, column-put, column-before, put-length}
 use Rattle.choice.specs.Memory.{distancesIn, Memory}
 use Rattle.choice.specs.Raised.{Raised, RaisedIn, Raising}
 use Rattle.choice.proofs.Bounds.{below-zero}
@@ -47,6 +47,23 @@ module _ {sources sinks : List ℕ} {t : ℕ} {old : List ℕ} where
           distances = distances-set (length sources) i x new b (A .few) ∙ R .distances;
           numbers = length-set new i x ∙ R .numbers;
         })
+
+-- A search has left the distances d in the memory M, and the bounds have been raised to them.
+module _ {sources sinks : List ℕ} {t : ℕ} (M d : List ℕ) {new : List ℕ} {k : ℕ} (few : k ≤ mostCommodities) (places : 97 ≤ length M) (size : length sources ≡ k)
+    (table : length d ≡ 65) (R : RaisedIn sources sinks t (put 32 65 M d) new (length sources)) where
+  distances-put : distancesIn (put 32 65 M d) ≡ d
+  distances-put = column-put 32 65 M d (omega arith) table
+
+  pub looked-raised : Raised sources sinks t d (column 0 k M) (column 0 k new) (length sources)
+  looked-raised =
+      subst (λ (n : ℕ). Raised sources sinks t d (column 0 n M) (column 0 n new) (length sources)) size
+      (rw (distances-put, column-before 32 65 M 0 (length sources) d (omega arith) (omega (arith, size))) at (R .bounds))
+
+  pub looked-distances : distancesIn new ≡ d
+  looked-distances = R .distances ∙ distances-put
+
+  pub looked-numbers : length new ≡ length M
+  looked-numbers = R .numbers ∙ put-length 32 65 M d (omega arith) table
 
 -- Bounds of 0 are below whatever the lengths.
 pub memory-zero :

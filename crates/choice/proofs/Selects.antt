@@ -1,6 +1,6 @@
 -- The choice from what the search found: nothing where no commodity is near, else the walk of the nearest.
 -- Assumes nothing.
-use mathlib.Core.Path.{_≡_}
+use mathlib.Core.Path.{_≡_, sym, _∙_}
 use mathlib.Core.List.{List}
 use Prim.Native.Nat.{ℕ, _≤_, _<_}
 use native.Mathlib.Omega.{arith}
@@ -22,46 +22,46 @@ use Rattle.paths.proofs.Walks.{walk-path}
 abbrev pub selected : ℕ → ℕ → ℕ → Selected
 selected i r x = record { commodity = i; arcs = r; distance = x }
 
-module _ {net : Network} {l bounds d : List ℕ} {i : ℕ} (H : Survey net l) (C : Closest net l bounds d i) where
+-- x is the least bound.
+module _ {net : Network} {l bounds d : List ℕ} {i x : ℕ} (H : Survey net l) (C : Closest net l bounds d i) (own : x ≡ getD bounds i 0) where
   -- Where the nearest is far, nothing is chosen.
-  pub selects-nothing : (r : ℕ) (path : List ℕ) → far ≤ getD bounds i 0 → Chose net l (selected i r (getD bounds i 0)) path
+  pub selects-nothing : (r : ℕ) (path : List ℕ) → far ≤ x → Chose net l (selected i r x) path
   selects-nothing r path b =
       record {
-        capped = C .below .capped i (C .least .among);
-        nothing = λ q.
-            closest-none C (H .fit .ends) (λ e c. (H .positive e c, H .fit .small e c)) (H .few) b;
+        capped = rw own (C .below .capped i (C .least .among));
+        nothing = λ q. closest-none C (H .fit .ends) (λ e c. (H .positive e c, H .fit .small e c)) (H .few) (rw own at b);
         something = λ c. absurd (omega arith);
       }
 
-  module _ (b : getD bounds i 0 < far) where
-    -- Else the walk of the nearest can be taken,
-    pub selects-walkable : {out : List ℕ} {room : ℕ} → length d ≡ 65 → Out net out → mostNodes ≤ room → Walkable net out l d (source net i) (sink net i) room
+  module _ (b : x < far) {u w : ℕ} (from : u ≡ source net i) (to : w ≡ sink net i) where
+    -- Else the walk of the nearest can be taken, from its source u to its sink w,
+    pub selects-walkable : {out : List ℕ} {room : ℕ} → length d ≡ 65 → Out net out → mostNodes ≤ room → Walkable net out l d u w room
     selects-walkable q index room =
-        record {
+        rw (from, to)
+        (record {
           fit = rw q (H .fit);
           positive = H .positive;
           table = C .table;
           index = index;
           source = H .fit .ends .sources i (C .least .among);
-          near = omega (arith, C .own);
+          near = omega (arith, C .own, own);
           places = omega (arith, room, H .few);
-        }
+        })
 
     -- and it is the choice.
-    pub selects-walk :
-        (r : ℕ) (path : List ℕ) → Walked net l d (source net i) (sink net i) r path → Chose net l (selected i r (getD bounds i 0)) path
-    selects-walk r path w =
+    pub selects-walk : (r : ℕ) (path : List ℕ) → Walked net l d u w r path → Chose net l (selected i r x) path
+    selects-walk r path walked =
         let ends = H .fit .ends in
-        let walk = w .walk in
+        let walk = rw (from, to) at (walked .walk) in
         let found = closest-choice C ends (H .positive) walk in
         let arc = path-some net (source net i) (sink net i) (take r path) (ends .apart i (C .least .among)) (walk-path walk) in
         record {
-          capped = C .below .capped i (C .least .among);
+          capped = rw own (C .below .capped i (C .least .among));
           nothing = λ q. absurd (omega arith);
           something = λ c. record {
             chosen = found .0;
-            alpha = found .1;
+            alpha = found .1 ∙ sym own;
             some-arc = omega (arith, arc, length-take r path);
-            few-arcs = omega (arith, w .few, H .few);
+            few-arcs = omega (arith, walked .few, H .few);
           };
         }

@@ -1,68 +1,117 @@
 -- `choice::choose` meets its contract: the nearest commodity is found, and its walk is the choice.
 -- Assumes nothing.
-use Prim.Native.Nat.{_<_}
-use native.Mathlib.Omega.{arith}
-use lib.ListN.{length}
 use borrow.Author.Needs.{needs}
-use Rattle.paths.proofs.Rooms.{sink-listed}
+use denote.Ref.{now}
+use mathlib.Core.Path.{_≡_, sym}
+use Prim.Native.Nat.{_+_, _<_, _≤_}
+use native.Mathlib.Omega.{arith}
+use lib.ListN.{length, getD}
+use Rattle.network.specs.Network.{Network, source, sink}
+use Rattle.packed.specs.Packed.{netIn}
+use Rattle.packed.proofs.Columns.{column-at, column-length, commodities-is}
+use Rattle.choice.specs.Memory.{boundsIn}
 use Rattle.choice.proofs.Selects.{selects-nothing, selects-walkable, selects-walk}
 use Rattle.choice.proofs.choose.Statement.{statement}
 use Rattle.choice.proofs.choose.Tie as tie
 
 -- behind the test: the search for the nearest commodity, and the function's entry
 abbrev search-at : tie.Else1 → tie.After-nearest
-search-at c = c .before .before .before .before .before .before .before .before .before .before
+search-at c = c .before .before .before .before
 
 abbrev entry : tie.After-nearest → tie.Start
-entry c = c .before .before .before .before .before .before .before .before .before .before .before .before .before .before .before .before .before .before .before
+entry c = c .before .before .before .before .before .before .before .before
 
-among : (c : tie.After-nearest) → c .nearest .result < length (entry c .args .sources .now)
-among c = c .nearest .ensures .least .among
+abbrev net : tie.Start → Network
+net s = netIn (s .args .s) (now (s .args .net))
+
+-- the nearest is one of the commodities, and has a bound in the memory
+among : (c : tie.After-nearest) → c .nearest .result < entry c .args .s .commodities
+among c = omega (arith, c .nearest .ensures .least .among, commodities-is (entry c .pre .packed))
+
+places : (c : tie.After-nearest) → 97 ≤ length (c .nearest .last .1 .1 .1 .1 .0)
+places c = omega (arith, c .nearest .kept .1 .1 .1 .1 .0, entry c .pre .memory-of .places)
+
+own : (c : tie.After-nearest) → let M = c .nearest .last .1 .1 .1 .1 .0 in let i = c .nearest .result in
+    getD M (0 + i) 0 ≡ getD (boundsIn (entry c .args .s) M) i 0
+own c = sym (column-at 0 (entry c .args .s .commodities) (c .nearest .last .1 .1 .1 .1 .0) (c .nearest .result) (among c))
+
+-- its two ends, as they are read
+from : (c : tie.After-nearest) → getD (now (entry c .args .net)) (768 + c .nearest .result) 0 ≡ source (net (entry c)) (c .nearest .result)
+unfolding netIn
+from c = sym (column-at 768 (entry c .args .s .commodities) (now (entry c .args .net)) (c .nearest .result) (among c))
+
+to : (c : tie.After-nearest) → getD (now (entry c .args .net)) (800 + c .nearest .result) 0 ≡ sink (net (entry c)) (c .nearest .result)
+unfolding netIn
+to c = sym (column-at 800 (entry c .args .s .commodities) (now (entry c .args .net)) (c .nearest .result) (among c))
 
 nearest-requires : tie.Need-nearest-requires
 nearest-requires c κs =
-    let p = c .before .before .before .before .before .before .before .before .before .before .before .before .before .before .before .before .before .before .pre in
-    record { survey = p .search .survey; some = p .some; links = p .into; room = p .room; below = p .below }
-
-mul-distance : tie.Need-mul-distance
-mul-distance c = let s = c .before .before .before .before .before .before .before .before in omega (arith, entry s .good, among s)
+    let p = c .before .before .before .before .before .before .before .pre in
+    record { packed = p .packed; survey = p .survey; index = p .indexed .into; memory-of = p .memory-of }
 
 returns : tie.Need-returns
 returns c =
-    let s = c .before .before .before .before .before .before .before .before .before .before in
-    record { chose = selects-nothing (entry s .pre .search) (s .nearest .ensures) _ _ (c .if1 .taken); below = s .nearest .ensures .below }
+    let s = c .before .before .before .before in
+    record {
+      chose = selects-nothing (entry s .pre .survey) (s .nearest .ensures) (own s) _ _ (c .if1 .taken);
+      memory-of = record { places = places s; below = s .nearest .ensures .below };
+    }
+
+-- places that are read are within the slices
+few : (c : tie.After-nearest) → c .nearest .result < 32
+few c = omega (arith, among c, entry c .pre .packed .few-commodities)
+
+mul-distance : tie.Need-mul-distance
+mul-distance c = omega (arith, few (c .before .before))
+
+slice-read-distance : tie.Need-slice-read-distance
+slice-read-distance c = omega (arith, few (c .before .before .before), places (c .before .before .before))
 
 mul-source : tie.Need-mul-source
-mul-source c = let s = search-at c in omega (arith, entry s .good, among s)
+mul-source c = omega (arith, few (search-at c))
+
+shared-slice-read-source : tie.Need-shared-slice-read-source
+shared-slice-read-source c = omega (arith, few (search-at (c .before)), entry (search-at (c .before)) .pre .packed .places)
 
 mul-sink : tie.Need-mul-sink
-mul-sink c = let s = search-at (c .before) in omega (arith, entry s .good, among s)
+mul-sink c = omega (arith, few (search-at (c .before)))
 
 shared-slice-read-sink : tie.Need-shared-slice-read-sink
-shared-slice-read-sink c =
-    let s = search-at (c .before .before) in
-    sink-listed (entry s .pre .search .survey .fit) (s .nearest .result) (among s)
+shared-slice-read-sink c = omega (arith, few (search-at (c .before .before)), entry (search-at (c .before .before)) .pre .packed .places)
+
+add-distance : tie.Need-add-distance
+add-distance c = omega (arith, few (c .before .before))
+
+add-source : tie.Need-add-source
+add-source c = omega (arith, few (search-at c))
+
+add-sink : tie.Need-add-sink
+add-sink c = omega (arith, few (search-at (c .before)))
+
+part-walk-end-2 : tie.Need-part-walk-end-2
+part-walk-end-2 c = omega (arith, places (search-at (c .before .before .before .before)))
 
 walk-requires : tie.Need-walk-requires
 walk-requires c κs =
-    let t = c .before .before .before .before in
-    let s = search-at t in (
-      selects-walkable (entry s .pre .search) (s .nearest .ensures) (t .if1 .left) (s .nearest .kept .1 .1 .1 .1 .1 .1 .1 .1 .1 .0),
-      entry s .pre .out,
-    )
+    let t = c .before .before .before .before .before .before in
+    let s = search-at t in
+    selects-walkable (entry s .pre .survey) (s .nearest .ensures) (own s) (t .if1 .left) (from s) (to s)
+    (column-length 32 65 (s .nearest .last .1 .1 .1 .1 .0) (places s)) (entry s .pre .indexed .out) (entry s .pre .room)
 
 returns-2 : tie.Need-returns-2
 returns-2 c =
-    let t = c .before .before .before .before .before .before .before in
+    let w = c .before .before in
+    let t = w .before .before .before .before .before .before .before in
     let s = search-at t in
     record {
-      chose = selects-walk (entry s .pre .search) (s .nearest .ensures) (t .if1 .left) _ _ (c .before .before .walk .ensures);
-      below = s .nearest .ensures .below;
+      chose = selects-walk (entry s .pre .survey) (s .nearest .ensures) (own s) (t .if1 .left) (from s) (to s) _ _ (w .walk .ensures);
+      memory-of = record { places = places s; below = s .nearest .ensures .below };
     }
 
 pub choose-spec : {M : Type 1} → statement M
 choose-spec =
-    tie.close (tie.spec nearest-requires mul-distance (λ c. search needs) (λ c. search needs) (λ c. search needs)
-    (λ c. search needs) (λ c. search needs) returns mul-source (λ c. search needs) mul-sink shared-slice-read-sink
-    walk-requires (λ c. search needs) (λ c. search needs) (λ c. search needs) (λ c. search needs) (λ c. search needs)
-    returns-2)
+    tie.close (tie.spec (λ c. search needs) (λ c. search needs) (λ c. search needs) (λ c. search needs)
+    nearest-requires add-distance mul-distance slice-read-distance (λ c. search needs) returns add-source mul-source
+    shared-slice-read-source add-sink mul-sink shared-slice-read-sink (λ c. search needs) (λ c. search needs)
+    (λ c. search needs) (λ c. search needs) (λ c. search needs) (λ c. search needs) (λ c. search needs)
+    part-walk-end-2 walk-requires (λ c. search needs) (λ c. search needs) returns-2)
