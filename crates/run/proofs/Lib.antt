@@ -6,4 +6,5 @@ pub mod Noted
 pub mod Onward
 pub mod Ready
 pub mod Running
+pub mod Same
 pub mod Whole
