@@ -44,6 +44,7 @@ module _ {here there : List ℕ} {v : ℕ} {e : ℕ} {ix : List ℕ} (B : Buildi
         (λ (l : u < v + 1). omega (arith, next, put-begins building-room e w u (omega arith), B .order u c))
         (eq-or-lt-of-le c)
 
+    -- the arcs that it has now
     new : Upto here there v (e + 1) v e w
     new = record { joins = record { arc = b; at = q; other = refl }; first = λ s. omega arith }
 

@@ -1,4 +1,4 @@
--- An index on its way: empty at first, then one arc more, one passed by, and one node more.
+-- An index on its way: empty at first, arcs at other nodes passed by, and the whole of it.
 -- Assumes nothing.
 use mathlib.Core.Path.{_≡_, sym, ap, _∙_}
 use mathlib.Core.Logic.{⊎-elim}
@@ -8,7 +8,7 @@ use native.Mathlib.Nat.{eq-or-lt-of-le}
 use native.Mathlib.Omega.{arith}
 use lib.ListN.{length, getD, set, length-set}
 use lib.Seq.{getD-set-same, getD-set-other}
-use Rattle.paths.specs.Index.{begins, Place, Index}
+use Rattle.paths.specs.Index.{indexNumbers, begins, Place, Index}
 use Rattle.paths.specs.Indexing.{Joins, Building}
 use Rattle.paths.proofs.Counts.{taken-on}
 
@@ -27,7 +27,7 @@ index-same to from I =
     }
 
 -- Node 0 has no arc.
-module _ (here there ix : List ℕ) (ends : (e : ℕ) → e < length here → 1 ≤ getD here e 0) (h : 1090 ≤ length ix) where
+module _ (here there ix : List ℕ) (ends : (e : ℕ) → e < length here → 1 ≤ getD here e 0) (h : indexNumbers ≤ length ix) where
   abbrev none : List ℕ
   none = set (set ix 0 0) 1 0
 

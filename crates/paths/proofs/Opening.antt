@@ -9,11 +9,12 @@ use native.Mathlib.Omega.{arith}
 use lib.ListN.{length, getD, set, length-set}
 use lib.Seq.{getD-set-same, getD-set-other}
 use Rattle.bounds.specs.Bounds.{mostNodes}
-use Rattle.paths.specs.Index.{begins, Place}
+use Rattle.paths.specs.Index.{arcsFrom, endsFrom, begins, Place}
 use Rattle.paths.specs.Indexing.{Building}
 use Rattle.paths.proofs.Counts.{taken-next}
 
 module _ {here there : List ℕ} {v : ℕ} {ix : List ℕ} (B : Building here there v (length here) ix) (b : v < mostNodes) where
+  -- the index with the node after v
   abbrev on : List ℕ
   on = set ix (v + 1 + 1) (begins ix (v + 1))
 
@@ -23,6 +24,7 @@ module _ {here there : List ℕ} {v : ℕ} {ix : List ℕ} (B : Building here th
   last : begins on (v + 1 + 1) ≡ begins ix (v + 1)
   last = getD-set-same ix (v + 1 + 1) (begins ix (v + 1)) 0 (omega (arith, B .index .numbers))
 
+  -- that node has no place
   here-empty : {u p e w : ℕ} → u ≡ v + 1 → Place on u p e w → ⊥
   here-empty {u} q P =
       omega (
@@ -35,14 +37,15 @@ module _ {here there : List ℕ} {v : ℕ} {ix : List ℕ} (B : Building here th
         ap (λ i. begins on (i + 1)) q,
       )
 
+  -- the places of the others are the same
   module _ {u p e w : ℕ} (c : u < v + 1) where
     was : Place on u p e w → Place ix u p e w
     was P =
         record {
           from = omega (arith, P .from, elsewhere u (λ r. omega arith));
           below = omega (arith, P .below, elsewhere (u + 1) (λ r. omega arith));
-          arc = sym (elsewhere (66 + p) (λ r. omega arith)) ∙ P .arc;
-          end = sym (elsewhere (578 + p) (λ r. omega arith)) ∙ P .end;
+          arc = sym (elsewhere (arcsFrom + p) (λ r. omega arith)) ∙ P .arc;
+          end = sym (elsewhere (endsFrom + p) (λ r. omega arith)) ∙ P .end;
         }
 
     stays : Place ix u p e w → Place on u p e w
@@ -50,10 +53,11 @@ module _ {here there : List ℕ} {v : ℕ} {ix : List ℕ} (B : Building here th
         record {
           from = omega (arith, P .from, elsewhere u (λ r. omega arith));
           below = omega (arith, P .below, elsewhere (u + 1) (λ r. omega arith));
-          arc = elsewhere (66 + p) (λ r. omega arith) ∙ P .arc;
-          end = elsewhere (578 + p) (λ r. omega arith) ∙ P .end;
+          arc = elsewhere (arcsFrom + p) (λ r. omega arith) ∙ P .arc;
+          end = elsewhere (endsFrom + p) (λ r. omega arith) ∙ P .end;
         }
 
+  -- All arcs of v are put; the node after it has none yet.
   pub building-next : Building here there (v + 1) 0 on
   building-next =
       record {

@@ -13,7 +13,7 @@ use Rattle.network.specs.Network.{Network}
 use Rattle.network.specs.Path.{leads}
 use Rattle.paths.specs.Calls.{Leaving}
 use Rattle.paths.specs.Distances.{over, Way}
-use Rattle.paths.specs.Index.{begins, arcAt, endAt, Place}
+use Rattle.paths.specs.Index.{endsFrom, begins, arcAt, endAt, Place}
 use Rattle.paths.specs.Relax.{Relaxing}
 use Rattle.paths.specs.Tight.{Crossing, Tight}
 use Rattle.paths.proofs.Rooms.{relaxing}
@@ -63,7 +63,7 @@ module _ {net : Network} {out l d : List ℕ} {v : ℕ} (L : Leaving net out l d
         L .index .sound v p (arcAt out p) (endAt out p) (L .node)
         (record { from = P .from; below = passing-below; arc = refl; end = refl })
 
-    place : 578 + p < length out
+    place : endsFrom + p < length out
     place = omega (arith, passing-below, L .index .within v (L .node), L .index .numbers)
 
     pub passing-crossing : Crossing out l d p

@@ -8,7 +8,7 @@ use native.Mathlib.Nat.{eq-or-lt-of-le}
 use native.Mathlib.Omega.{arith}
 use lib.ListN.{length, getD, set, length-set}
 use lib.Seq.{getD-set-same, getD-set-other}
-use Rattle.paths.specs.Index.{begins, arcAt, endAt, Place}
+use Rattle.paths.specs.Index.{arcsFrom, endsFrom, begins, arcAt, endAt, Place}
 use Rattle.paths.specs.Indexing.{Putting, put}
 
 module _ {v : ℕ} {ix : List ℕ} (P : Putting v ix) (e w : ℕ) where
@@ -17,11 +17,11 @@ module _ {v : ℕ} {ix : List ℕ} (P : Putting v ix) (e w : ℕ) where
 
   -- the number at a place that is none of the three is as before
   elsewhere :
-      (i : ℕ) → (i ≡ v + 1 → ⊥) → (i ≡ 66 + p → ⊥) → (i ≡ 578 + p → ⊥) → getD (put v e w ix) i 0 ≡ getD ix i 0
+      (i : ℕ) → (i ≡ v + 1 → ⊥) → (i ≡ arcsFrom + p → ⊥) → (i ≡ endsFrom + p → ⊥) → getD (put v e w ix) i 0 ≡ getD ix i 0
   unfolding put
   elsewhere i a b c =
-      getD-set-other (set (set ix (66 + p) e) (578 + p) w) (v + 1) i (p + 1) 0 a ∙
-      (getD-set-other (set ix (66 + p) e) (578 + p) i w 0 c ∙ getD-set-other ix (66 + p) i e 0 b)
+      getD-set-other (set (set ix (arcsFrom + p) e) (endsFrom + p) w) (v + 1) i (p + 1) 0 a ∙
+      (getD-set-other (set ix (arcsFrom + p) e) (endsFrom + p) i w 0 c ∙ getD-set-other ix (arcsFrom + p) i e 0 b)
 
   pub put-length : length (put v e w ix) ≡ length ix
   unfolding put
@@ -31,7 +31,7 @@ module _ {v : ℕ} {ix : List ℕ} (P : Putting v ix) (e w : ℕ) where
   pub put-next : begins (put v e w ix) (v + 1) ≡ p + 1
   unfolding put
   put-next =
-      getD-set-same (set (set ix (66 + p) e) (578 + p) w) (v + 1) (p + 1) 0
+      getD-set-same (set (set ix (arcsFrom + p) e) (endsFrom + p) w) (v + 1) (p + 1) 0
       (simp length-set (omega (arith, P .node, P .numbers)))
 
   -- the others as before.
@@ -41,23 +41,23 @@ module _ {v : ℕ} {ix : List ℕ} (P : Putting v ix) (e w : ℕ) where
   put-arc : arcAt (put v e w ix) p ≡ e
   unfolding put
   put-arc =
-      getD-set-other (set (set ix (66 + p) e) (578 + p) w) (v + 1) (66 + p) (p + 1) 0 (λ q. omega (arith, P .node)) ∙
-      (getD-set-other (set ix (66 + p) e) (578 + p) (66 + p) w 0 (λ q. omega arith) ∙
-      getD-set-same ix (66 + p) e 0 (omega (arith, P .place, P .numbers)))
+      getD-set-other (set (set ix (arcsFrom + p) e) (endsFrom + p) w) (v + 1) (arcsFrom + p) (p + 1) 0 (λ q. omega (arith, P .node)) ∙
+      (getD-set-other (set ix (arcsFrom + p) e) (endsFrom + p) (arcsFrom + p) w 0 (λ q. omega arith) ∙
+      getD-set-same ix (arcsFrom + p) e 0 (omega (arith, P .place, P .numbers)))
 
   put-end : endAt (put v e w ix) p ≡ w
   unfolding put
   put-end =
-      getD-set-other (set (set ix (66 + p) e) (578 + p) w) (v + 1) (578 + p) (p + 1) 0 (λ q. omega (arith, P .node)) ∙
-      getD-set-same (set ix (66 + p) e) (578 + p) w 0 (simp length-set (omega (arith, P .place, P .numbers)))
+      getD-set-other (set (set ix (arcsFrom + p) e) (endsFrom + p) w) (v + 1) (endsFrom + p) (p + 1) 0 (λ q. omega (arith, P .node)) ∙
+      getD-set-same (set ix (arcsFrom + p) e) (endsFrom + p) w 0 (simp length-set (omega (arith, P .place, P .numbers)))
 
   earlier-arc : (q : ℕ) → q < p → arcAt (put v e w ix) q ≡ arcAt ix q
   earlier-arc q h =
-      elsewhere (66 + q) (λ r. omega (arith, P .node)) (λ r. omega arith) (λ r. omega (arith, P .place))
+      elsewhere (arcsFrom + q) (λ r. omega (arith, P .node)) (λ r. omega arith) (λ r. omega (arith, P .place))
 
   earlier-end : (q : ℕ) → q < p → endAt (put v e w ix) q ≡ endAt ix q
   earlier-end q h =
-      elsewhere (578 + q) (λ r. omega (arith, P .node)) (λ r. omega (arith, P .place)) (λ r. omega arith)
+      elsewhere (endsFrom + q) (λ r. omega (arith, P .node)) (λ r. omega (arith, P .place)) (λ r. omega arith)
 
   -- The new place is v's.
   pub put-place : begins ix v ≤ p → Place (put v e w ix) v p e w

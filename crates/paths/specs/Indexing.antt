@@ -10,14 +10,14 @@ use Rattle.bounds.specs.Bounds.{mostNodes, mostArcs}
 use Rattle.network.specs.Ends.{Ends}
 use Rattle.packed.specs.Packed.{netIn, Packed}
 use Rattle.packed.specs.declared.Shape.{Shape}
-use Rattle.paths.specs.Index.{begins, Index}
+use Rattle.paths.specs.Index.{arcsFrom, endsFrom, mostPlaces, indexNumbers, begins, Index}
 
 -- A packed network within the bounds, whose ends are nodes, and a slice with room for an index.
 pub record Indexable (s : Shape) (xs : List ℕ) (size : ℕ) : Type 0 where
   pub packed : Packed s xs
   pub ends : Ends (netIn s xs)
   pub nodes : netIn s xs .nodes ≤ mostNodes
-  pub numbers : 1090 ≤ size
+  pub numbers : indexNumbers ≤ size
 
 -- The same of the two columns, here and there.
 pub record Indexing (n : ℕ) (here there : List ℕ) (size : ℕ) : Type 0 where
@@ -25,7 +25,7 @@ pub record Indexing (n : ℕ) (here there : List ℕ) (size : ℕ) : Type 0 wher
   pub few : length here ≤ mostArcs
   pub ends : (e : ℕ) → e < length here → 1 ≤ getD here e 0
   pub others : length here ≤ length there
-  pub numbers : 1090 ≤ size
+  pub numbers : indexNumbers ≤ size
 
 -- Arc e is at node v, and its other end is w.
 pub record Joins (here there : List ℕ) (v e w : ℕ) : Type 0 where
@@ -55,13 +55,13 @@ pub record Building (here there : List ℕ) (last arcs : ℕ) (ix : List ℕ) : 
 -- Node v is one of those of an index, and there is a place for one more arc.
 pub record Putting (v : ℕ) (ix : List ℕ) : Type 0 where
   pub node : v ≤ mostNodes
-  pub place : begins ix (v + 1) < 512
-  pub numbers : 1090 ≤ length ix
+  pub place : begins ix (v + 1) < mostPlaces
+  pub numbers : indexNumbers ≤ length ix
 
 -- Arc e with the other end w, put behind the last place of node v.
 unfoldable pub put : ℕ → ℕ → ℕ → List ℕ → List ℕ
 put v e w ix =
-    set (set (set ix (66 + begins ix (v + 1)) e) (578 + begins ix (v + 1)) w) (v + 1) (begins ix (v + 1) + 1)
+    set (set (set ix (arcsFrom + begins ix (v + 1)) e) (endsFrom + begins ix (v + 1)) w) (v + 1) (begins ix (v + 1) + 1)
 
 -- Arc e is next; there are no more than 256, and each has another end.
 pub record Adding (here there : List ℕ) (v e : ℕ) (ix : List ℕ) : Type 0 where

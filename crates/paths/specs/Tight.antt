@@ -7,18 +7,18 @@ use lib.ListN.{length, getD}
 use Rattle.network.specs.Network.{Network}
 use Rattle.network.specs.Path.{leads}
 use Rattle.paths.specs.Distances.{over, Way}
-use Rattle.paths.specs.Index.{arcAt, endAt}
+use Rattle.paths.specs.Index.{endsFrom, arcAt, endAt}
 
 -- The arc at place p has a length, its end an entry of d, and the way over it is a number of 64 bits.
 pub record Crossing (out l d : List ℕ) (p : ℕ) : Type 0 where
-  pub place : 578 + p < length out
+  pub place : endsFrom + p < length out
   pub arc : arcAt out p < length l
   pub end : endAt out p < length d
   pub fits : over l d (arcAt out p) (endAt out p) < 2 ^ 64
 
 -- Place r has the lowest-numbered arc from v whose way is as long as v's distance.
 pub record Tight (net : Network) (out l d : List ℕ) (v r : ℕ) : Type 0 where
-  pub place : 578 + r < length out
+  pub place : endsFrom + r < length out
   pub leads-to : leads net v (arcAt out r) ≡ some (endAt out r)
   pub long : over l d (arcAt out r) (endAt out r) ≡ getD d v 0
   pub none-lower : (j : ℕ) → j < arcAt out r → Way net l d v (getD d v 0) j → ⊥

@@ -1,18 +1,19 @@
 // The index of the arcs at each node, the arcs of one node side by side in ascending order: a search goes through those into a node, a walk through those
 // out of it.
 use bounds::MOST_ARCS;
+use bounds::MOST_NODES;
 use packed::HEADS;
 use packed::Shape;
 use packed::TAILS;
 ghost use mathlib.Core.Path.{_≡_};
-ghost use Prim.Native.Nat.{_+_, _<_};
+ghost use Prim.Native.Nat.{_+_};
 ghost use lib.ListN.{length};
 ghost use Rattle.packed.specs.Packed.{netIn};
 ghost use Rattle.paths.specs.Index.{Index, Into, Out};
 ghost use Rattle.paths.specs.Indexing.{Indexable, Indexing, Joins, Building, Putting, put, Adding, Opening};
 
 // First stands for each node, and one past the last, the place where its arcs begin; the arcs of the places stand from here on,
-pub const ARCS: usize = 66;
+pub const ARCS: usize = MOST_NODES as usize + 2;
 
 // and their other ends from here on. There are places for twice the most arcs.
 pub const ENDS: usize = ARCS + 2 * MOST_ARCS;

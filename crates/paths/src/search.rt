@@ -5,6 +5,7 @@ use crate::frontier::enlist;
 use crate::frontier::nearest;
 use crate::frontier::take_out;
 use crate::relax::relax_into;
+use bounds::MOST_NODES;
 use packed::Shape;
 ghost use mathlib.Core.Path.{_≡_};
 ghost use mathlib.Core.List.{_++_};
@@ -70,7 +71,7 @@ pub fn distances(s: Shape, net: &[u64], into: &[u64], lengths: &[u64], sink: u64
     requires { ⌜ Seeking (netIn s (now net)) (now into) (now lengths) sink (length (now dist)) ⌝ }
     ensures { λ r. ⌜ Table (netIn s (now (net .entry))) (now (lengths .entry)) (now (dist .exit)) sink far ⌝ }
 {
-    let mut front = [0u64; 64];
-    let mut listed = [0u64; 65];
+    let mut front = [0u64; MOST_NODES as usize];
+    let mut listed = [0u64; MOST_NODES as usize + 1];
     distances_in(s, net, into, lengths, sink, dist, &mut front, &mut listed);
 }

@@ -3,6 +3,7 @@
 use mathlib.Core.Path.{sym, _∙_}
 use Prim.Native.Nat.{_-_, _<_}
 use native.Mathlib.Omega.{arith}
+use Rattle.paths.specs.Index.{mostPlaces}
 use Rattle.paths.proofs.Passing.{Passing, passing-first, passing-below, passing-crossing, passing-more, passing-found}
 use Rattle.paths.proofs.greedy.tight.Statement.{statement}
 use Rattle.paths.proofs.greedy.tight.Tie as tie
@@ -11,14 +12,14 @@ abbrev Inv-loop : tie.InvT-loop
 Inv-loop net out lengths dist v d p₀ p = Passing out lengths dist v p
 
 abbrev μ-loop : tie.MeasureT-loop
-μ-loop net out lengths dist v d p₀ p = 512 - p
+μ-loop net out lengths dist v d p₀ p = mostPlaces - p
 
 -- the function's entry, seen from a turn
 abbrev entry : tie.At-loop Inv-loop μ-loop → tie.Start Inv-loop μ-loop
 entry c = c .before .before .before .before .before .before .before
 
--- a place that is passed is one of 512
-below : (c : tie.At-loop Inv-loop μ-loop) → c .loop .p < 512
+-- the present place is in the index
+below : (c : tie.At-loop Inv-loop μ-loop) → c .loop .p < mostPlaces
 below c =
     let s = entry c in
     omega (arith, passing-below (s .pre) (c .loop .inv), s .pre .index .within (s .args .v) (s .pre .node))

@@ -8,7 +8,7 @@ use lib.ListN.{length}
 use borrow.Author.Needs.{needs}
 use Rattle.network.specs.Path.{leads}
 use Rattle.packed.specs.Packed.{netIn}
-use Rattle.paths.specs.Index.{arcAt, endAt}
+use Rattle.paths.specs.Index.{endsFrom, arcAt, endAt}
 use Rattle.paths.proofs.Leading.{leads-from}
 use Rattle.paths.proofs.Rooms.{relaxing}
 use Rattle.paths.proofs.Spreading.{searching-still, searching-spread}
@@ -20,7 +20,7 @@ abbrev entry : tie.After-relax → tie.Start
 entry c = c .before .before .before .before .before .before .before .before .before .before
 
 -- the place is in the index, and its arc leads to v
-place : (s : tie.Start) → 578 + s .args .p < length (s .args .into .now)
+place : (s : tie.Start) → endsFrom + s .args .p < length (s .args .into .now)
 place s = let P = s .pre in omega (arith, P .below, P .index .within (s .args .v) (P .node), P .index .numbers)
 
 arc :
