@@ -2,8 +2,8 @@
 // found earlier is one. Only where the bound is the least is the distance searched for, and one search serves every commodity with that sink.
 // Bounds and distances stand in one slice, which is remembered from choice to choice.
 use crate::BOUNDS;
-use crate::DISTANCES;
 use crate::DISTANCE_NUMBERS;
+use crate::DISTANCES;
 use packed::SINKS;
 use packed::SOURCES;
 use packed::Shape;
@@ -50,13 +50,7 @@ fn raise(sources: &[u64], sinks: &[u64], sink: u64, memory: &mut [u64])
 
 // The lowest-numbered commodity whose sink is nearest to its source; the distances to that sink are left in memory.
 // A commodity of least bound is searched. If one with the same sink is of least bound afterwards, its bound is its distance; else the search goes on.
-pub fn nearest(
-    s: Shape,
-    net: &[u64],
-    into: &[u64],
-    lengths: &[u64],
-    memory: &mut [u64],
-) -> usize
+pub fn nearest(s: Shape, net: &[u64], into: &[u64], lengths: &[u64], memory: &mut [u64]) -> usize
     requires { ⌜ Surveying s (now net) (now into) (now lengths) (now memory) ⌝ }
     ensures { λ r. ⌜ Closest (netIn s (now (net .entry))) (now (lengths .entry)) (boundsIn s (now (memory .exit))) (distancesIn (now (memory .exit))) r ⌝ }
 {

@@ -42,14 +42,7 @@ pub fn iterate(
     ensures { λ r. ⌜ Onward s (netIn s (now (net .entry))) q (stateIn s (now (flow .entry)) (now (tables .entry)) p) (stateIn s (now (flow .exit)) (now (tables .exit)) r) (now (memory .exit)) r ⌝ }
 {
     let m = s.arcs;
-    let c = choice::choose(
-        s,
-        net,
-        indexes,
-        &tables[LENGTHS..LENGTHS + m],
-        memory,
-        path,
-    );
+    let c = choice::choose(s, net, indexes, &tables[LENGTHS..LENGTHS + m], memory, path);
     let arcs = c.arcs;
     let r = step::step(
         s,

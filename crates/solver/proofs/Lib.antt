@@ -1,1 +1,2 @@
+pub mod Indexes
 pub mod Solving

@@ -57,14 +57,13 @@ solved-none net q lent flow kept h f k =
 -- The run's tables are the outcome's.
 pub solved-some :
     (net : Network) (q : ℕ) → Whole net q → (c : Choice) → choice net (initial net .lengths) ≡ some c → (flow kept loads lengths : List ℕ) (p : Progress) →
-    stateOf lengths flow loads kept p ≡ run net q → length loads ≡ arcs net →
-    Solved net q (answerOf (net .capacities) loads (fullest (net .capacities) loads (length loads - 1)) p) flow kept
+    stateOf lengths flow loads kept p ≡ run net q →
+    Solved net q (answerOf (arcs net) (net .capacities) loads p) flow kept
 unfolding outcomeOf
-solved-some net q lent c h flow kept loads lengths p r size =
+solved-some net q lent c h flow kept loads lengths p r =
     let e : outcome net q ≡ outcomeOf net (stateOf lengths flow loads kept p) = outcome-some net q c h ∙ ap (outcomeOf net) (sym r) in
     record {
-      answers =
-          ap (λ n. answerOf (net .capacities) loads (fullest (net .capacities) loads (n - 1)) p) size ∙ sym (ap (λ o. o .answer) e);
+      answers = sym (ap (λ o. o .answer) e);
       flows = sym (ap (λ o. o .flow) e);
       lengths = sym (ap (λ o. o .lengths) e);
       guarantee = guarantee net q (lent .sound);

@@ -1,14 +1,15 @@
 -- What the solver asks, and what it leaves: the outcome of the method, with all that holds of it.
 use mathlib.Core.Path.{_≡_}
 use mathlib.Core.List.{List}
-use Prim.Native.Nat.{ℕ, _*_, _≤_}
+use Prim.Native.Nat.{ℕ, _*_, _-_, _≤_}
 use lib.ListN.{length, getD}
 use Rattle.network.specs.Network.{Network, arcs, commodities}
-use Rattle.method.specs.Answer.{outcome}
+use Rattle.method.specs.Answer.{fullest, outcome}
 use Rattle.method.specs.Guarantee.{Guarantee}
 use Rattle.method.specs.declared.Answer.{Answer}
+use Rattle.tables.specs.Calls.{Ranking}
 use Rattle.step.specs.declared.Progress.{Progress}
-use Rattle.packed.specs.Packed.{netIn, Lent}
+use Rattle.packed.specs.Packed.{netIn, Packed, Lent, loadsIn}
 use Rattle.packed.specs.declared.Shape.{Shape}
 
 -- An accepted network, a flow table of just the size that its outcome has, and room for the tables of the arcs.
@@ -17,13 +18,19 @@ pub record Solving (s : Shape) (q : ℕ) (net flow tables : List ℕ) : Type 0 w
   pub flows : length flow ≡ commodities (netIn s net) * arcs (netIn s net)
   pub places : 768 ≤ length tables
 
--- The answer of a run that left these loads and numbers.
-abbrev pub answerOf : List ℕ → List ℕ → ℕ → Progress → Answer
-answerOf capacities loads b p =
+-- What the answer asks: loads and capacities that can be compared.
+pub record Answering (s : Shape) (net tables : List ℕ) : Type 0 where
+  pub packed : Packed s net
+  pub places : 768 ≤ length tables
+  pub ranking : Ranking (loadsIn s tables) (netIn s net .capacities)
+
+-- The answer of a run that left these loads of m arcs, and these numbers.
+abbrev pub answerOf : ℕ → List ℕ → List ℕ → Progress → Answer
+answerOf m capacities loads p =
     record {
       total = p .total;
-      capacity = getD capacities b 0;
-      load = getD loads b 0;
+      capacity = getD capacities (fullest capacities loads (m - 1)) 0;
+      load = getD loads (fullest capacities loads (m - 1)) 0;
       bound = p .bound;
       alpha = p .alpha;
       count = p .count;

@@ -2,10 +2,10 @@
 mod outcomes;
 mod solves;
 
+use crate::solves::solve_in;
 use choice::INDEXES_NUMBERS;
 use choice::MEMORY_NUMBERS;
 use choice::PATH_NUMBERS;
-use crate::solves::solve_in;
 use method::Answer;
 use packed::Shape;
 ghost use Rattle.packed.specs.Packed.{netIn, keptIn};

@@ -9,20 +9,21 @@ use run::runs;
 use step::Progress;
 use tables::loads;
 ghost use mathlib.Core.Path.{_≡_};
-ghost use Prim.Native.Nat.{_-_};
 ghost use lib.ListN.{length};
-ghost use Rattle.method.specs.Answer.{fullest};
-ghost use Rattle.packed.specs.Packed.{netIn, keptIn};
-ghost use Rattle.tables.specs.Calls.{Ranking};
+ghost use Rattle.network.specs.Network.{arcs};
+ghost use Rattle.packed.specs.Packed.{netIn, loadsIn, keptIn};
 ghost use Rattle.run.specs.Runs.{Room};
 ghost use Rattle.solver.specs.Prepared.{Cleared};
-ghost use Rattle.solver.specs.Solved.{Solved, answerOf, noAnswer};
+ghost use Rattle.solver.specs.Solved.{Answering, Solved, answerOf, noAnswer};
 
 // The answer: the fullest arc gives the scale.
-fn answer(capacities: &[u64], loads: &[u64], p: Progress) -> Answer
-    requires { ⌜ Ranking (now loads) (now capacities) ⌝ }
-    ensures { λ r. ⌜ r ≡ answerOf (now (capacities .entry)) (now (loads .entry)) (fullest (now (capacities .entry)) (now (loads .entry)) (length (now (loads .entry)) - 1)) p ⌝ }
+fn answer(s: Shape, net: &[u64], tables: &[u64], p: Progress) -> Answer
+    requires { ⌜ Answering s (now net) (now tables) ⌝ }
+    ensures { λ r. ⌜ r ≡ answerOf (arcs (netIn s (now (net .entry)))) (netIn s (now (net .entry)) .capacities) (loadsIn s (now (tables .entry))) p ⌝ }
 {
+    let m = s.arcs;
+    let capacities = &net[CAPACITIES..CAPACITIES + m];
+    let loads = &tables[LOADS..LOADS + m];
     let b = loads::fullest(loads, capacities);
     Answer {
         total: p.total,
@@ -66,21 +67,10 @@ pub fn outcome(
     ensures { λ r. ⌜ Solved (netIn s (now (net .entry))) q r (now (flow .exit)) (keptIn s (now (tables .exit))) ⌝ }
 {
     let m = s.arcs;
-    let first = choice::choose(
-        s,
-        net,
-        indexes,
-        &tables[LENGTHS..LENGTHS + m],
-        memory,
-        path,
-    );
+    let first = choice::choose(s, net, indexes, &tables[LENGTHS..LENGTHS + m], memory, path);
     if first.distance >= FAR {
         return unjoined();
     }
     let p = runs::run(s, q, net, indexes, flow, tables, memory, path);
-    answer(
-        &net[CAPACITIES..CAPACITIES + m],
-        &tables[LOADS..LOADS + m],
-        p,
-    )
+    answer(s, net, tables, p)
 }

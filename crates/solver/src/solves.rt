@@ -1,8 +1,8 @@
 // The indexes of the arcs made, the tables cleared, and the outcome.
+use crate::outcomes::outcome;
 use choice::BOUNDS;
 use choice::INTO;
 use choice::OUT;
-use crate::outcomes::outcome;
 use method::Answer;
 use packed::CAPACITIES;
 use packed::KEPT;
@@ -13,14 +13,17 @@ use paths::index;
 use paths::index::INDEX_NUMBERS;
 use tables::lengths;
 use tables::loads;
+ghost use Prim.Native.Nat.{_≤_};
+ghost use lib.ListN.{length};
 ghost use Rattle.packed.specs.Packed.{netIn, keptIn};
+ghost use Rattle.paths.specs.Indexing.{Indexable};
 ghost use Rattle.choice.specs.Calls.{Indexed};
-ghost use Rattle.solver.specs.Prepared.{Indexing, Preparing, Cleared, Working};
+ghost use Rattle.solver.specs.Prepared.{Preparing, Cleared, Working};
 ghost use Rattle.solver.specs.Solved.{Solved};
 
 // Both indexes.
 fn index_both(s: Shape, net: &[u64], indexes: &mut [u64])
-    requires { ⌜ Indexing s (now net) (now indexes) ⌝ }
+    requires { ⌜ Indexable s (now net) 1090 × (2180 ≤ length (now indexes)) ⌝ }
     ensures { λ _. ⌜ Indexed (netIn s (now (net .entry))) (now (indexes .exit)) ⌝ }
 {
     index::index_into(s, net, &mut indexes[INTO..INTO + INDEX_NUMBERS]);
@@ -28,20 +31,16 @@ fn index_both(s: Shape, net: &[u64], indexes: &mut [u64])
 }
 
 // The tables before the first choice: lengths at their start, zeros in the others. q is taken for the contract.
-fn prepare(
-    s: Shape,
-    q: u64,
-    net: &[u64],
-    flow: &mut [u64],
-    tables: &mut [u64],
-    memory: &mut [u64],
-)
+fn prepare(s: Shape, q: u64, net: &[u64], flow: &mut [u64], tables: &mut [u64], memory: &mut [u64])
     requires { ⌜ Preparing s q (now net) (now flow) (now tables) (now memory) ⌝ }
     ensures { λ _. ⌜ Cleared s (netIn s (now (net .entry))) (now (flow .exit)) (now (tables .exit)) (now (memory .exit)) ⌝ }
 {
     let m = s.arcs;
     let k = s.commodities;
-    lengths::start(&net[CAPACITIES..CAPACITIES + m], &mut tables[LENGTHS..LENGTHS + m]);
+    lengths::start(
+        &net[CAPACITIES..CAPACITIES + m],
+        &mut tables[LENGTHS..LENGTHS + m],
+    );
     loads::clear(&mut tables[LOADS..LOADS + m]);
     loads::clear(&mut tables[KEPT..KEPT + m]);
     loads::clear(flow);

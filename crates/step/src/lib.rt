@@ -41,14 +41,7 @@ fn keep(better: bool, m: usize, tables: &mut [u64])
 }
 
 // One more iteration, with draw g and fraction D / alpha, that left lengths grown so.
-fn count(
-    p: Progress,
-    g: u64,
-    better: bool,
-    alpha: u64,
-    grown: Grown,
-    ended: bool,
-) -> Progress
+fn count(p: Progress, g: u64, better: bool, alpha: u64, grown: Grown, ended: bool) -> Progress
     requires { ⌜ (p .total + g < 2 ^ 64) × (p .count + 1 < 2 ^ 64) ⌝ }
     ensures { λ r. ⌜ r ≡ counted p g better alpha (grown .weight) (grown .marked) ended ⌝ }
 {

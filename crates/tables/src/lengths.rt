@@ -30,14 +30,7 @@ pub struct Grown {
 
 // The lengths of the path's arcs grown by the draw g. Only they change: their growth carries D over from the weight before, and only they can
 // have reached the mark.
-fn grow(
-    lengths: &mut [u64],
-    capacities: &[u64],
-    q: u64,
-    g: u64,
-    path: &[u64],
-    weight: u64,
-) -> Grown
+fn grow(lengths: &mut [u64], capacities: &[u64], q: u64, g: u64, path: &[u64], weight: u64) -> Grown
     requires growing { ⌜ Growing (now lengths) (now capacities) q g (now path) ⌝ }
     requires weight { ⌜ weight ≡ weightOf (now capacities) (now lengths) ⌝ }
     ensures { λ r. ⌜ Grew (now (lengths .entry)) (now (capacities .entry)) q g (now (path .entry)) (now (lengths .exit)) r ⌝ }

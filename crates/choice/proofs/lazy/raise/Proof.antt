@@ -43,12 +43,12 @@ loop-again : tie.Need-loop-again Inv-loop μ-loop
 loop-again c =
     let turn = c .before .before .before .loop in
     let s = c .before .before .before .before in
-    let on = c .before .before .loop-test .taken in
-    (omega arith,
+    let on = c .before .before .loop-test .taken in (
+      omega arith,
       ⊎-elim
-      (λ w. rw (w .3) (raised-in-shared (turn .inv .1) on (s .pre) (w .0 .taken)))
-      (λ w. rw (w .1) (raised-in-other (turn .inv .1) on (w .0 .left)))
-      (c .if1 .came),
+          (λ w. rw (w .3) (raised-in-shared (turn .inv .1) on (s .pre) (w .0 .taken)))
+          (λ w. rw (w .1) (raised-in-other (turn .inv .1) on (w .0 .left)))
+          (c .if1 .came),
     )
 
 returns : tie.Need-returns Inv-loop μ-loop
