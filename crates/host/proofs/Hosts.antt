@@ -1,7 +1,7 @@
 -- The verdict on a call, by its sizes first, then by its tables. Assumes nothing.
 use mathlib.Core.Path.{_≡_, refl, sym, ap, _∙_}
 use mathlib.Core.Bool.{false, _||_}
-use mathlib.Core.List.{List, _++_}
+use mathlib.Core.List.{List, _++_, append-assoc}
 use Prim.Native.Nat.{ℕ, _*_, _≤_, _<_, _^_}
 use native.Mathlib.Omega.{arith}
 use lib.Dec.{ltb}
@@ -13,8 +13,8 @@ use Rattle.network.specs.Sound.{Counts}
 use Rattle.network.specs.Verdict.{Condition, verdict, sizeConditions, itemConditions, verdictOn}
 use Rattle.network.specs.declared.Refusal.{Refusal}
 use Rattle.network.specs.declared.Verdict.the-variants.{Accepted, Refused}
-use Rattle.network.proofs.Decided.{Quiet, accepted-quiet, refusal-has}
-use Rattle.network.proofs.Each.{none, more}
+use Rattle.network.proofs.Decided.{Quiet, accepted-quiet, quiet-accepted, refusal-has}
+use Rattle.network.proofs.Each.{none, more, each-left, each-right}
 use Rattle.network.proofs.First.{first-refuses, first-accepts}
 use Rattle.network.proofs.HostNumber.{verdict-fits}
 use Rattle.network.proofs.Or.{or-false-left, or-false-right}
@@ -23,7 +23,7 @@ use Rattle.numbers.specs.Numbers.{count, items, numberAt}
 use Rattle.numbers.proofs.Columns.{length-column}
 use Rattle.host.specs.Deliver.{Open}
 use Rattle.decode.specs.Decode.{networkIn}
-use Rattle.host.specs.Host.{Slices, runningIn, short, hostConditions, verdictIn}
+use Rattle.host.specs.Host.{Slices, runningIn, short, hostConditions, callConditions, verdictIn}
 
 -- Nothing is short: each table has its room.
 room : (k m : ℕ) (s : Slices) → short k m s ≡ false → (k * m ≤ count (s .flow)) × (m ≤ count (s .lengths)) × (answerNumbers ≤ count (s .answer)) × (1 ≤ count (s .running))
@@ -51,35 +51,41 @@ open-for k m s h = by (accepted-quiet _ h)
     by : Quiet (hostConditions k m s) → Open k m s
     by (more a (more b none)) =
         let r = room k m s a in
-        record { for-flow = r .0; for-lengths = r .1; for-answer = r .2; for-running = r .3; full = ltb-false _ _ b }
+        record { for-tables = record { for-flow = r .0; for-lengths = r .1 }; for-answer = r .2; for-running = r .3; full = ltb-false _ _ b }
 
--- Its refusals have no place.
-pub own-fits : (k m : ℕ) (s : Slices) → hostNumber (verdict (hostConditions k m s)) < 2 ^ 64
-unfolding hostConditions
-own-fits k m s =
-    verdict-fits (verdict (hostConditions k m s))
-    (λ w h. refusal-has (λ w. refusalCode w .place ≤ 65536) w (more (λ t. omega arith) (more (λ t. omega arith) none)) h)
+-- The refusals before an item is read have no place.
+pub call-fits : (n m k q : ℕ) (s : Slices) → hostNumber (verdict (callConditions n m k q s)) < 2 ^ 64
+unfolding sizeConditions hostConditions
+call-fits n m k q s =
+    verdict-fits (verdict (callConditions n m k q s))
+    (λ w h.
+      refusal-has (λ w. refusalCode w .place ≤ 65536) w
+      (more (λ t. omega arith)
+      (more (λ t. omega arith) (more (λ t. omega arith) (more (λ t. omega arith) (more (λ t. omega arith) (more (λ t. omega arith) none))))))
+      h)
+
+-- None of them: counts are within their bounds, and the tables have room.
+module _ (n m k q : ℕ) (s : Slices) (h : verdict (callConditions n m k q s) ≡ Accepted) where
+  quiet : Quiet (callConditions n m k q s)
+  quiet = accepted-quiet (callConditions n m k q s) h
+
+  pub call-counts : Counts n m k q
+  call-counts = sizes-kept n m k q (each-left (sizeConditions n m k q) (hostConditions k m s) quiet)
+
+  pub call-open : Open k m s
+  call-open = open-for k m s (quiet-accepted (each-right (sizeConditions n m k q) quiet))
 
 -- By the counts m and k of complete items.
 module _ (n q : ℕ) (belts pairs : List ℕ) (s : Slices) {m k : ℕ} (e : m ≡ items 3 belts) (f : k ≡ items 2 pairs) where
   abbrev net : Network
   net = networkIn n belts pairs
 
-  abbrev sizes : List Condition
-  sizes = sizeConditions n m k q
-
-  by-items : verdictIn net q s ≡ verdict (sizes ++ (hostConditions k m s ++ itemConditions net))
+  by-items : verdictIn net q s ≡ verdict (callConditions n m k q s ++ itemConditions net)
   unfolding verdictOn networkIn
-  by-items = rw (e, f, length-column belts 3 0 (items 3 belts), length-column pairs 2 0 (items 2 pairs)) refl
+  by-items = rw (e, f, length-column belts 3 0 (items 3 belts), length-column pairs 2 0 (items 2 pairs), append-assoc) refl
 
-  pub size-refused-in : {w : Refusal} → verdict sizes ≡ Refused w → verdictIn net q s ≡ Refused w
-  size-refused-in {w} h = by-items ∙ first-refuses sizes _ w h
+  pub refused-in : (w : Refusal) → verdict (callConditions n m k q s) ≡ Refused w → verdictIn net q s ≡ Refused w
+  refused-in w h = by-items ∙ first-refuses (callConditions n m k q s) _ w h
 
-  pub own-refused-in : {w : Refusal} → verdict sizes ≡ Accepted → verdict (hostConditions k m s) ≡ Refused w → verdictIn net q s ≡ Refused w
-  own-refused-in {w} h o = by-items ∙ (first-accepts sizes _ h ∙ first-refuses (hostConditions k m s) _ w o)
-
-  pub accepted-in : verdict sizes ≡ Accepted → verdict (hostConditions k m s) ≡ Accepted → verdictIn net q s ≡ verdict (itemConditions net)
-  accepted-in h o = by-items ∙ (first-accepts sizes _ h ∙ first-accepts (hostConditions k m s) _ o)
-
-pub counts-in : (n m k q : ℕ) → verdict (sizeConditions n m k q) ≡ Accepted → Counts n m k q
-counts-in n m k q h = sizes-kept n m k q (accepted-quiet (sizeConditions n m k q) h)
+  pub accepted-in : verdict (callConditions n m k q s) ≡ Accepted → verdictIn net q s ≡ verdict (itemConditions net)
+  accepted-in h = by-items ∙ first-accepts (callConditions n m k q s) _ h

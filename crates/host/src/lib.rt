@@ -4,7 +4,6 @@ mod room;
 mod serve;
 
 use checks::numbers::host_number;
-use checks::sizes::check_sizes;
 use network::Verdict;
 use packed::Shape;
 ghost use Rattle.host.specs.Deliver.{slices};
@@ -23,20 +22,14 @@ pub fn solve(
 ) -> u64
     ensures { λ r. ⌜ Hosted n q (now (belts .entry)) (now (pairs .entry)) (slices (now (flow .entry)) (now (lengths .entry)) (now (answer .entry)) (now (running .entry))) (slices (now (flow .exit)) (now (lengths .exit)) (now (answer .exit)) (now (running .exit))) r ⌝ }
 {
-    let m = numbers::items(belts, 3);
-    let k = numbers::items(pairs, 2);
-    let sizes = check_sizes(n, m, k, q);
-    if let Verdict::Refused(_) = sizes {
-        return host_number(sizes);
-    }
-    let lent = room::check_tables(k, m, flow, lengths, answer, running);
-    if let Verdict::Refused(_) = lent {
-        return host_number(lent);
-    }
     let s = Shape {
         nodes: n,
-        arcs: m,
-        commodities: k,
+        arcs: numbers::items(belts, 3),
+        commodities: numbers::items(pairs, 2),
     };
+    let v = room::check_call(s, q, flow, lengths, answer, running);
+    if let Verdict::Refused(_) = v {
+        return host_number(v);
+    }
     serve::serve(s, q, belts, pairs, flow, lengths, answer, running)
 }

@@ -1,14 +1,16 @@
-// The lent tables of a call whose counts have passed: have they room, and is the running count full?
+// What is checked before an item is read: are the sizes within their bounds, have the lent tables room, and is the running count full?
 use bounds::ANSWER_NUMBERS;
 use bounds::MOST_RUNNING;
+use checks::sizes::check_sizes;
 use network::Refusal;
 use network::Verdict;
+use packed::Shape;
 ghost use mathlib.Core.Path.{_≡_};
 ghost use Prim.Native.Nat.{_≤_};
 ghost use Rattle.bounds.specs.Bounds.{mostArcs, mostCommodities};
 ghost use Rattle.network.specs.Verdict.{verdict};
 ghost use Rattle.host.specs.Deliver.{slices};
-ghost use Rattle.host.specs.Host.{short, hostConditions};
+ghost use Rattle.host.specs.Host.{short, hostConditions, callConditions};
 
 // A table is too small for what the call may write.
 fn short(k: usize, m: usize, flow: &[u8], lengths: &[u8], answer: &[u8], running: &[u8]) -> bool
@@ -27,8 +29,8 @@ fn short(k: usize, m: usize, flow: &[u8], lengths: &[u8], answer: &[u8], running
     numbers::count(running) < 1
 }
 
-// 5 and 11. The running count is read only where its slice holds one.
-pub fn check_tables(
+// 5 and 11, where the sizes have passed. The running count is read only where its slice holds one.
+fn check_tables(
     k: usize,
     m: usize,
     flow: &[u8],
@@ -46,4 +48,22 @@ pub fn check_tables(
         return Verdict::Refused(Refusal::FullCount);
     }
     Verdict::Accepted
+}
+
+// 1 to 5, and 11.
+pub fn check_call(
+    s: Shape,
+    q: u64,
+    flow: &[u8],
+    lengths: &[u8],
+    answer: &[u8],
+    running: &[u8],
+) -> Verdict
+    ensures { λ r. ⌜ r ≡ verdict (callConditions (s .nodes) (s .arcs) (s .commodities) q (slices (now (flow .entry)) (now (lengths .entry)) (now (answer .entry)) (now (running .entry)))) ⌝ }
+{
+    let sizes = check_sizes(s.nodes, s.arcs, s.commodities, q);
+    if let Verdict::Refused(_) = sizes {
+        return sizes;
+    }
+    check_tables(s.commodities, s.arcs, flow, lengths, answer, running)
 }

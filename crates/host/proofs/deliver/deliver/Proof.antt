@@ -1,39 +1,64 @@
--- `host::deliver::deliver` meets its contract: the work space is large enough for every accepted network. Assumes nothing.
+-- `host::deliver::deliver` meets its contract: tables, answer and running count take their parts of the outcome. Assumes nothing.
 use borrow.Author.Needs.{needs}
-use mathlib.Core.Path.{sym, ap₂, _∙_}
-use Prim.Native.Nat.{ℕ, _*_, _≤_}
-use native.Mathlib.Nat.{mul-le-mul}
-use lib.ListN.{replicate, length-replicate}
-use lib.Seq.{length-take-le}
-use Rattle.packed.proofs.Columns.{arcs-is, commodities-is}
+use denote.Ref.{now}
+use mathlib.Core.Path.{ap, _∙_}
+use mathlib.Core.List.{[], _∷_}
+use native.Mathlib.Omega.{arith}
+use Rattle.numbers.specs.Numbers.{written}
+use Rattle.method.specs.Answer.{numbersOf}
+use Rattle.host.specs.Deliver.{slices}
+use Rattle.host.specs.Host.{Slices}
+use Rattle.host.proofs.Counting.{count-small}
+use Rattle.host.proofs.Hosts.{running-is}
 use Rattle.host.proofs.deliver.deliver.Statement.{statement}
 use Rattle.host.proofs.deliver.deliver.Tie as tie
 
--- 32 commodities on 256 arcs
-few : (s : tie.Start) → s .args .s .commodities * s .args .s .arcs ≤ 8192
-few s = mul-le-mul (s .pre .0 .packed .few-commodities) (s .pre .0 .packed .few-arcs)
+-- from each call back to the one before it, and from the first to the function's entry
+abbrev entry : tie.After-write-tables → tie.Start
+entry c = c .before .before .before .before .before .before .before .before
 
-array-borrow-prefix-flows : tie.Need-array-borrow-prefix-flows
-array-borrow-prefix-flows c = few (c .before .before .before .before .before .before)
+abbrev tables-at : tie.After-put-answer → tie.After-write-tables
+tables-at c = c .before .before .before .before .before .before
 
-slice-aggregate-deliver-in : tie.Need-slice-aggregate-deliver-in
-slice-aggregate-deliver-in c =
-    sym (length-take-le _ (replicate {A = ℕ} 8192 0) (rw (length-replicate {A = ℕ} 8192 0) (few (c .before .before .before .before .before .before .before))))
+abbrev answer-at : tie.After-raise-count → tie.After-put-answer
+answer-at c = c .before .before .before .before
 
-deliver-in-requires : tie.Need-deliver-in-requires
-deliver-in-requires c κs =
-    let s = c .before .before .before .before .before .before .before .before .before .before .before .before in
-    let p = s .pre .0 .packed in (
-      record {
-        lent = s .pre .0;
-        flows = length-take-le _ (replicate {A = ℕ} 8192 0) (few s) ∙ sym (ap₂ _*_ (commodities-is p) (arcs-is p));
-        places = search needs;
-      },
-      s .pre .1,
+-- the slices at entry
+abbrev lent : tie.Start → Slices
+lent s = slices (now (s .args .flow)) (now (s .args .lengths)) (now (s .args .answer)) (now (s .args .running))
+
+raise-count-requires : tie.Need-raise-count-requires
+raise-count-requires c κs =
+    let t = tables-at (c .before .before .before) in
+    let s = entry t in (
+      s .pre .1 .for-running,
+      omega (
+        arith,
+        running-is (lent s) (s .pre .1 .for-running),
+        s .pre .1 .full,
+        count-small _ (s .args .q) (s .pre .0 .sound) _ (t .write-tables .ensures .guarantee),
+        ap (λ a. a .count) (t .write-tables .ensures .answers),
+      ),
     )
+
+returns : tie.Need-returns
+returns c =
+    let k = c .before .before in
+    let a = answer-at k in
+    let t = tables-at a in
+    let s = entry t in
+    let r = t .write-tables .ensures in
+    record {
+      flow = r .flows;
+      lengths = r .bests;
+      answer = a .put-answer .ensures ∙ ap (λ a. written (now (s .args .answer)) (numbersOf a)) (r .answers);
+      running =
+          k .raise-count .ensures ∙
+          ap (λ x. written (now (s .args .running)) (x ∷ [])) (omega (arith, running-is (lent s) (s .pre .1 .for-running), ap (λ a. a .count) (r .answers)));
+      guarantee = r .guarantee;
+    }
 
 pub deliver-spec : {M : Type 1} → statement M
 deliver-spec =
-    tie.close (tie.spec (λ c. search needs) array-borrow-prefix-flows slice-aggregate-deliver-in (λ c. search needs)
-    deliver-in-requires (λ c. search needs) (λ c. search needs) (λ c. search needs) (λ c. search needs)
-    (λ c. search needs))
+    tie.close (tie.spec (λ c κs. search needs) (λ c κs. search needs) raise-count-requires (λ c. search needs)
+    (λ c. search needs) (λ c. search needs) (λ c. search needs) returns)
