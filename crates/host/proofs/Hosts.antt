@@ -1,6 +1,6 @@
--- The verdict on a call, by its sizes first, then by its tables. Assumes nothing.
+-- The verdict on a call, by its sizes and tables first, then by its items. Assumes nothing.
 use mathlib.Core.Path.{_≡_, refl, sym, ap, _∙_}
-use mathlib.Core.Bool.{false, _||_}
+use mathlib.Core.Bool.{true, false, _||_}
 use mathlib.Core.List.{List, _++_, append-assoc}
 use Prim.Native.Nat.{ℕ, _*_, _≤_, _<_, _^_}
 use native.Mathlib.Omega.{arith}
@@ -14,7 +14,7 @@ use Rattle.network.specs.Verdict.{Condition, verdict, sizeConditions, itemCondi
 use Rattle.network.specs.declared.Refusal.{Refusal}
 use Rattle.network.specs.declared.Verdict.the-variants.{Accepted, Refused}
 use Rattle.network.proofs.Decided.{Quiet, accepted-quiet, quiet-accepted, refusal-has}
-use Rattle.network.proofs.Each.{none, more, each-left, each-right}
+use Rattle.network.proofs.Each.{Each, none, more, each-append, each-left, each-right}
 use Rattle.network.proofs.First.{first-refuses, first-accepts}
 use Rattle.network.proofs.HostNumber.{verdict-fits}
 use Rattle.network.proofs.Or.{or-false-left, or-false-right}
@@ -23,7 +23,8 @@ use Rattle.numbers.specs.Numbers.{count, items, numberAt}
 use Rattle.numbers.proofs.Columns.{length-column}
 use Rattle.host.specs.Deliver.{Open}
 use Rattle.decode.specs.Decode.{networkIn}
-use Rattle.host.specs.Host.{Slices, runningIn, short, hostConditions, callConditions, verdictIn}
+use Rattle.host.specs.Host.{Slices, runningIn, short, hostConditions, verdictIn}
+use Rattle.host.specs.Serve.{callConditions}
 
 -- Nothing is short: each table has its room.
 room : (k m : ℕ) (s : Slices) → short k m s ≡ false → (k * m ≤ count (s .flow)) × (m ≤ count (s .lengths)) × (answerNumbers ≤ count (s .answer)) × (1 ≤ count (s .running))
@@ -54,15 +55,16 @@ open-for k m s h = by (accepted-quiet _ h)
         record { for-tables = record { for-flow = r .0; for-lengths = r .1 }; for-answer = r .2; for-running = r .3; full = ltb-false _ _ b }
 
 -- The refusals before an item is read have no place.
-pub call-fits : (n m k q : ℕ) (s : Slices) → hostNumber (verdict (callConditions n m k q s)) < 2 ^ 64
+placeless : (n m k q : ℕ) (s : Slices) → Each (λ r. r .holds ≡ true → refusalCode (r .refusal) .place ≤ 65536) (callConditions n m k q s)
 unfolding sizeConditions hostConditions
+placeless n m k q s =
+    each-append {xs = sizeConditions n m k q} {ys = hostConditions k m s}
+    (more (λ t. omega arith) (more (λ t. omega arith) (more (λ t. omega arith) (more (λ t. omega arith) none))))
+    (more (λ t. omega arith) (more (λ t. omega arith) none))
+
+pub call-fits : (n m k q : ℕ) (s : Slices) → hostNumber (verdict (callConditions n m k q s)) < 2 ^ 64
 call-fits n m k q s =
-    verdict-fits (verdict (callConditions n m k q s))
-    (λ w h.
-      refusal-has (λ w. refusalCode w .place ≤ 65536) w
-      (more (λ t. omega arith)
-      (more (λ t. omega arith) (more (λ t. omega arith) (more (λ t. omega arith) (more (λ t. omega arith) (more (λ t. omega arith) none))))))
-      h)
+    verdict-fits (verdict (callConditions n m k q s)) (λ w h. refusal-has (λ w. refusalCode w .place ≤ 65536) w (placeless n m k q s) h)
 
 -- None of them: counts are within their bounds, and the tables have room.
 module _ (n m k q : ℕ) (s : Slices) (h : verdict (callConditions n m k q s) ≡ Accepted) where

@@ -1,13 +1,13 @@
 -- The call for a host in C: what every one of its byte slices holds afterwards. Document 01, "The floor and its flow".
 use mathlib.Core.Path.{_≡_}
 use mathlib.Core.Bool.{Bool, cond, _||_}
-use mathlib.Core.List.{List, [], _∷_, _++_}
+use mathlib.Core.List.{List, [], _∷_}
 use Prim.Native.Nat.{ℕ, _+_, _*_}
 use lib.Dec.{ltb}
 use Rattle.bounds.specs.Bounds.{mostRunning, answerNumbers}
 use Rattle.network.specs.Network.{Network, arcs, commodities}
 use Rattle.network.specs.Refusal.{hostNumber}
-use Rattle.network.specs.Verdict.{Condition, when, sizeConditions, verdictOn}
+use Rattle.network.specs.Verdict.{Condition, when, verdictOn}
 use Rattle.network.specs.declared.Refusal.the-variants.{ShortTable, FullCount}
 use Rattle.network.specs.declared.Verdict.{Verdict}
 use Rattle.network.specs.declared.Verdict.the-variants.{Accepted, Refused}
@@ -35,10 +35,6 @@ short k m s =
 -- 5 and 11 concern this call.
 unfoldable pub hostConditions : ℕ → ℕ → Slices → List Condition
 hostConditions k m s = when (short k m s) ShortTable ∷ when (ltb mostRunning (runningIn s)) FullCount ∷ []
-
--- The conditions that are looked at before an item is read, n nodes, m arcs, k commodities and precision q.
-abbrev pub callConditions : ℕ → ℕ → ℕ → ℕ → Slices → List Condition
-callConditions n m k q s = sizeConditions n m k q ++ hostConditions k m s
 
 -- The verdict on the call.
 abbrev pub verdictIn : Network → ℕ → Slices → Verdict

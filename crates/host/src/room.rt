@@ -10,7 +10,8 @@ ghost use Prim.Native.Nat.{_≤_};
 ghost use Rattle.bounds.specs.Bounds.{mostArcs, mostCommodities};
 ghost use Rattle.network.specs.Verdict.{verdict};
 ghost use Rattle.host.specs.Deliver.{slices};
-ghost use Rattle.host.specs.Host.{short, hostConditions, callConditions};
+ghost use Rattle.host.specs.Host.{short, hostConditions};
+ghost use Rattle.host.specs.Serve.{callConditions};
 
 // A table is too small for what the call may write.
 fn short(k: usize, m: usize, flow: &[u8], lengths: &[u8], answer: &[u8], running: &[u8]) -> bool

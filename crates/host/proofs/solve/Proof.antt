@@ -9,7 +9,8 @@ use Rattle.network.specs.Verdict.{Condition, verdict}
 use Rattle.network.specs.declared.Verdict.the-variants.{Accepted}
 use Rattle.decode.specs.Decode.{networkIn}
 use Rattle.host.specs.Deliver.{slices}
-use Rattle.host.specs.Host.{Slices, callConditions, verdictIn}
+use Rattle.host.specs.Host.{Slices, verdictIn}
+use Rattle.host.specs.Serve.{callConditions}
 use Rattle.host.proofs.Hosts.{call-fits, call-counts, call-open, refused-in, accepted-in}
 use Rattle.host.proofs.Judged.{served-refused}
 use Rattle.host.proofs.solve.Statement.{statement}
