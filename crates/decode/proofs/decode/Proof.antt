@@ -1,6 +1,6 @@
 -- `decode::decode` meets its contract: each column is read to its place, and later ones leave it there. Assumes nothing.
 use borrow.Author.Needs.{needs}
-use Rattle.decode.proofs.Decoded.{placed, decoded-size, decoded}
+use Rattle.decode.proofs.Decoded.{fills, decoded-size, decoded}
 use Rattle.decode.proofs.decode.Statement.{statement}
 use Rattle.decode.proofs.decode.Tie as tie
 
@@ -27,11 +27,11 @@ same-length c =
     let capacities = capacities-at sources in
     let heads = heads-at capacities in
     let tails = tails-at heads in
-    decoded-size (entry tails .pre) (placed _ _ _ _ _ _ _ (tails .read-column .kept .1 .1 .1 .1 .0) (tails .read-column .ensures))
-    (placed _ _ _ _ _ _ _ (heads .read-column2 .kept .1 .1 .1 .1 .0) (heads .read-column2 .ensures))
-    (placed _ _ _ _ _ _ _ (capacities .read-column3 .kept .1 .1 .1 .1 .0) (capacities .read-column3 .ensures))
-    (placed _ _ _ _ _ _ _ (sources .read-column4 .kept .1 .1 .1 .1 .0) (sources .read-column4 .ensures))
-    (placed _ _ _ _ _ _ _ (sinks .read-column5 .kept .1 .1 .1 .1 .0) (sinks .read-column5 .ensures))
+    decoded-size (entry tails .pre) (fills _ _ _ _ _ _ _ (tails .read-column .kept .1 .1 .1 .1 .0) (tails .read-column .ensures))
+    (fills _ _ _ _ _ _ _ (heads .read-column2 .kept .1 .1 .1 .1 .0) (heads .read-column2 .ensures))
+    (fills _ _ _ _ _ _ _ (capacities .read-column3 .kept .1 .1 .1 .1 .0) (capacities .read-column3 .ensures))
+    (fills _ _ _ _ _ _ _ (sources .read-column4 .kept .1 .1 .1 .1 .0) (sources .read-column4 .ensures))
+    (fills _ _ _ _ _ _ _ (sinks .read-column5 .kept .1 .1 .1 .1 .0) (sinks .read-column5 .ensures))
 
 returns : tie.Need-returns
 returns c =
@@ -40,11 +40,11 @@ returns c =
     let capacities = capacities-at sources in
     let heads = heads-at capacities in
     let tails = tails-at heads in
-    decoded (entry tails .pre) (placed _ _ _ _ _ _ _ (tails .read-column .kept .1 .1 .1 .1 .0) (tails .read-column .ensures))
-    (placed _ _ _ _ _ _ _ (heads .read-column2 .kept .1 .1 .1 .1 .0) (heads .read-column2 .ensures))
-    (placed _ _ _ _ _ _ _ (capacities .read-column3 .kept .1 .1 .1 .1 .0) (capacities .read-column3 .ensures))
-    (placed _ _ _ _ _ _ _ (sources .read-column4 .kept .1 .1 .1 .1 .0) (sources .read-column4 .ensures))
-    (placed _ _ _ _ _ _ _ (sinks .read-column5 .kept .1 .1 .1 .1 .0) (sinks .read-column5 .ensures))
+    decoded (entry tails .pre) (fills _ _ _ _ _ _ _ (tails .read-column .kept .1 .1 .1 .1 .0) (tails .read-column .ensures))
+    (fills _ _ _ _ _ _ _ (heads .read-column2 .kept .1 .1 .1 .1 .0) (heads .read-column2 .ensures))
+    (fills _ _ _ _ _ _ _ (capacities .read-column3 .kept .1 .1 .1 .1 .0) (capacities .read-column3 .ensures))
+    (fills _ _ _ _ _ _ _ (sources .read-column4 .kept .1 .1 .1 .1 .0) (sources .read-column4 .ensures))
+    (fills _ _ _ _ _ _ _ (sinks .read-column5 .kept .1 .1 .1 .1 .0) (sinks .read-column5 .ensures))
 
 pub decode-spec : {M : Type 1} → statement M
 decode-spec =
