@@ -1,13 +1,5 @@
 // Calls for a host written in C, on numbers and byte slices. Document 01, "The floor and its flow"; the C side is include/vithmork.h.
-mod decode;
-mod deliver;
-mod judge;
-mod room;
-
-use checks::numbers::host_number;
-use checks::sizes::check_sizes;
-use network::Verdict;
-ghost use Rattle.vithmork.specs.Host.{Hosted};
+ghost use Rattle.host.specs.Host.{Hosted};
 
 // Solves the floor in the byte slices: 0 and the tables written, or a refusal's number * 1,000 + its place and no byte changed.
 #[no_mangle]
@@ -23,15 +15,5 @@ pub extern "C" fn vithmork_solve(
 ) -> u64
     ensures { λ r. ⌜ Hosted n q (now (belts .entry)) (now (pairs .entry)) (record { flow = now (flow .entry); lengths = now (lengths .entry); answer = now (answer .entry); running = now (running .entry) }) (record { flow = now (flow .exit); lengths = now (lengths .exit); answer = now (answer .exit); running = now (running .exit) }) r ⌝ }
 {
-    let m = numbers::items(belts, 3);
-    let k = numbers::items(pairs, 2);
-    let sizes = check_sizes(n, m, k, q);
-    if let Verdict::Refused(_) = sizes {
-        return host_number(sizes);
-    }
-    let lent = room::check_tables(k, m, flow, lengths, answer, running);
-    if let Verdict::Refused(_) = lent {
-        return host_number(lent);
-    }
-    decode::decode(n, q, belts, pairs, flow, lengths, answer, running)
+    host::solve(n, q, belts, pairs, flow, lengths, answer, running)
 }

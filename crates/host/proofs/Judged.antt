@@ -1,0 +1,63 @@
+-- The verdict of a call whose sizes have passed is that on its arcs and commodities, and what each verdict leaves.
+-- Assumes nothing.
+use mathlib.Core.Path.{_≡_, refl, sym, _∙_}
+use mathlib.Core.List.{List}
+use Prim.Native.Nat.{ℕ, _^_, _<_}
+use Rattle.network.specs.Network.{Network, arcs, commodities}
+use Rattle.network.specs.Refusal.{hostNumber}
+use Rattle.network.specs.Sound.{Counts}
+use Rattle.network.specs.Verdict.{verdict, itemConditions}
+use Rattle.network.specs.declared.Refusal.{Refusal}
+use Rattle.network.specs.declared.Verdict.{Verdict}
+use Rattle.network.specs.declared.Verdict.the-variants.{Accepted, Refused}
+use Rattle.network.proofs.Accepted.{items-accepted}
+use Rattle.network.proofs.Decided.{no-refusal}
+use Rattle.network.proofs.HostNumber.{items-fit}
+use Rattle.packed.specs.Packed.{netIn, Packed, Lent}
+use Rattle.packed.specs.declared.Shape.{Shape}
+use Rattle.packed.proofs.Columns.{arcs-is, commodities-is}
+use Rattle.host.specs.Deliver.{Delivered}
+use Rattle.host.specs.Host.{Slices, afterwards, Served}
+use Rattle.host.specs.Serve.{Judged}
+
+module _ {s : Shape} {xs : List ℕ} (p : Packed s xs) (q : ℕ) (k : Counts (s .nodes) (s .arcs) (s .commodities) q) where
+  counts : Counts (netIn s xs .nodes) (arcs (netIn s xs)) (commodities (netIn s xs)) q
+  unfolding netIn
+  counts = rw (arcs-is p, commodities-is p) k
+
+  pub fits : hostNumber (verdict (itemConditions (netIn s xs))) < 2 ^ 64
+  fits = items-fit (netIn s xs) q counts
+
+  -- Accepted: the network is sound.
+  pub lends : verdict (itemConditions (netIn s xs)) ≡ Accepted → Lent s q xs
+  lends h = record { sound = items-accepted (netIn s xs) q counts h; packed = p }
+
+-- The network as it was read is that in the bytes.
+pub judged-of : {net net' : Network} {q : ℕ} {old new : Slices} {r : ℕ} → net ≡ net' → Judged net q old new r → Judged net' q old new r
+judged-of e h = rw e at h
+
+module _ (net : Network) (q : ℕ) (v : Verdict) (old : Slices) (r : ℕ) where
+  -- A refusal leaves everything as it was.
+  pub served-refused : (w : Refusal) → v ≡ Refused w → r ≡ hostNumber v → Served net q v old old r
+  unfolding afterwards
+  served-refused w e h =
+      record {
+        returned = h;
+        flow = rw e refl;
+        lengths = rw e refl;
+        answer = rw e refl;
+        running = rw e refl;
+        guarantee = λ a. absurd (no-refusal (sym a ∙ e));
+      }
+
+  pub served-accepted : (new : Slices) → v ≡ Accepted → r ≡ 0 → Delivered net q old new → Served net q v old new r
+  unfolding afterwards
+  served-accepted new e h d =
+      record {
+        returned = rw e h;
+        flow = rw e (d .flow);
+        lengths = rw e (d .lengths);
+        answer = rw e (d .answer);
+        running = rw e (d .running);
+        guarantee = λ a. d .guarantee;
+      }

@@ -1,0 +1,5 @@
+pub mod Counting
+pub mod First
+pub mod Hosts
+pub mod Judged
+pub mod ReadBack

@@ -1,0 +1,13 @@
+-- `host::deliver::put_answer` meets its contract. Assumes nothing.
+use borrow.Author.Needs.{needs}
+use Rattle.method.specs.Answer.{numbersOf}
+use Rattle.host.proofs.deliver.put_answer.Statement.{statement}
+use Rattle.host.proofs.deliver.put_answer.Tie as tie
+
+returns : tie.Need-returns
+unfolding numbersOf
+returns c = c .before .before .write-all .ensures
+
+pub put-answer-spec : {M : Type 1} → statement M
+put-answer-spec =
+    tie.close (tie.spec (λ c. search needs) (λ c κs. search needs) (λ c. search needs) returns)

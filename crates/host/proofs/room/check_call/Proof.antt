@@ -1,0 +1,26 @@
+-- `host::room::check_call` meets its contract: 1 to 4 before 5 and 11. Assumes nothing.
+use borrow.Author.Needs.{needs}
+use mathlib.Core.Path.{sym, _∙_}
+use Rattle.network.proofs.Decided.{accepted-quiet}
+use Rattle.network.proofs.First.{refused-first, accepted-first}
+use Rattle.network.proofs.Sizes.{sizes-kept}
+use Rattle.host.proofs.room.check_call.Statement.{statement}
+use Rattle.host.proofs.room.check_call.Tie as tie
+
+returns : tie.Need-returns
+returns c = refused-first _ _ (c .before .before .check-sizes .ensures) (c .enum-told .given .1)
+
+check-tables-requires : tie.Need-check-tables-requires
+check-tables-requires c κs =
+    let k = sizes-kept _ _ _ _ (accepted-quiet _ (sym (c .before .before .check-sizes .ensures) ∙ c .enum-told2 .given .1)) in
+    (k .of-commodities .most, k .of-arcs .most)
+
+returns-2 : tie.Need-returns-2
+returns-2 c =
+    let t = c .before in
+    accepted-first _ _ (t .before .before .check-sizes .ensures) (t .enum-told2 .given .1) (c .check-tables .ensures)
+
+pub check-call-spec : {M : Type 1} → statement M
+check-call-spec =
+    tie.close (tie.spec (λ c κs. search needs) (λ c. search needs) returns (λ c. search needs) check-tables-requires
+    returns-2)

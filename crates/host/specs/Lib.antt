@@ -1,0 +1,3 @@
+pub mod Deliver
+pub mod Host
+pub mod Serve

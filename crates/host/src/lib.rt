@@ -1,0 +1,35 @@
+// What the exported call does, on byte slices: sizes and tables checked, then the call served. Document 01, "The floor and its flow".
+mod deliver;
+mod room;
+mod serve;
+
+use checks::numbers::host_number;
+use network::Verdict;
+use packed::Shape;
+ghost use Rattle.host.specs.Deliver.{slices};
+ghost use Rattle.host.specs.Host.{Hosted};
+
+// Solves the floor in the byte slices: 0 and the tables written, or a refusal's number * 1,000 + its place and no byte changed.
+pub fn solve(
+    n: u64,
+    q: u64,
+    belts: &[u8],
+    pairs: &[u8],
+    flow: &mut [u8],
+    lengths: &mut [u8],
+    answer: &mut [u8],
+    running: &mut [u8],
+) -> u64
+    ensures { λ r. ⌜ Hosted n q (now (belts .entry)) (now (pairs .entry)) (slices (now (flow .entry)) (now (lengths .entry)) (now (answer .entry)) (now (running .entry))) (slices (now (flow .exit)) (now (lengths .exit)) (now (answer .exit)) (now (running .exit))) r ⌝ }
+{
+    let s = Shape {
+        nodes: n,
+        arcs: numbers::items(belts, 3),
+        commodities: numbers::items(pairs, 2),
+    };
+    let v = room::check_call(s, q, flow, lengths, answer, running);
+    if let Verdict::Refused(_) = v {
+        return host_number(v);
+    }
+    serve::serve(s, q, belts, pairs, flow, lengths, answer, running)
+}

@@ -1,6 +1,0 @@
-pub mod Counting
-pub mod Decoded
-pub mod First
-pub mod Hosts
-pub mod Judged
-pub mod ReadBack

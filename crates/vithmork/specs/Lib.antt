@@ -1,4 +1,0 @@
-pub mod Decode
-pub mod Deliver
-pub mod Host
-pub mod Judge
