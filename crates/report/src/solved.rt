@@ -50,15 +50,9 @@ fn show_in(
     let a = solver::solve(s, LEAST_PRECISION, net, flow, tables);
     let next = put_answer(out, at, a);
     let m = s.arcs;
-    put_belts(
-        out,
-        next,
-        &net[TAILS..TAILS + m],
-        &net[HEADS..HEADS + m],
-        flow,
-        a.capacity,
-        a.load,
-    )
+    let tails = &net[TAILS..TAILS + m];
+    let heads = &net[HEADS..HEADS + m];
+    put_belts(out, next, tails, heads, flow, a.capacity, a.load)
 }
 
 // The outcome solved and written.
