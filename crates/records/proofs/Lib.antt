@@ -1,7 +1,7 @@
 pub mod Copying
 pub mod Judged
 pub mod Locals
+pub mod Paired
 pub mod Pairs
-pub mod Parting
 pub mod Served
 pub mod Slots
