@@ -24,14 +24,7 @@ fn check_tables(k: usize, m: usize, flow: usize, lengths: usize) -> Verdict
 }
 
 // A call of m records and of this many numbers in `pairs`, `flow` and `lengths`.
-pub fn check_call(
-    n: u64,
-    q: u64,
-    m: usize,
-    pairs: usize,
-    flow: usize,
-    lengths: usize,
-) -> Verdict
+pub fn check_call(n: u64, q: u64, m: usize, pairs: usize, flow: usize, lengths: usize) -> Verdict
     ensures { λ r. ⌜ r ≡ verdict (sizeConditions n m (pairs / 2) q ++ recordConditions (pairs / 2) m flow lengths) ⌝ }
 {
     let k = pairs / 2;

@@ -75,8 +75,9 @@ use Rattle.records.specs.declared.Reply.{Reply}
 use Rattle.records.specs.declared.Reply.the-variants.{TurnedDown}
 use Rattle.records.proofs.Copying.{nil, filled, filled-none, filled-more, length-filled}
 use Rattle.records.proofs.Locals.{holds, empty, held, sets, frees-all}
+use Rattle.records.proofs.Places.{array, arrayed, array-is, apart, together, gives-up}
 use Rattle.records.proofs.Served.{served-refused, sizable, served-judged}
-use Rattle.records.proofs.Slots.{Rec, spelt, tells, array, arrayed, typed, array-is, apart, together, gives-up}
+use Rattle.records.proofs.Slots.{Rec, spelt, tells, typed}
 use Rattle.records.proofs.Arc as arc
 use Rattle.records.proofs.Arc.Laws as arc-laws
 use Rattle.records.proofs.Reply as reply

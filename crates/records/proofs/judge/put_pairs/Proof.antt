@@ -24,7 +24,8 @@ halve-requires-2 c κs =
     let f = c .before .before .before in
     let s = entry f in
     record {
-      each = sinks-column (s .pre) (f .halve .ensures); two = omega arith;
+      each = sinks-column (s .pre) (f .halve .ensures);
+      two = omega arith;
     }
 
 same-length : tie.Need-same-length
