@@ -25,7 +25,8 @@ pub enum Reply {
     Answered(Answer),
 }
 
-// Solves the network of n nodes with these arcs, and with a commodity for every two numbers of `pairs`, source and sink.
+// Solves the network of n nodes with these arcs, and with a commodity for every two numbers of `pairs`, source and sink: sizes and tables are
+// checked, the records copied into the columns of one array, and what they say is checked there before it is solved.
 pub fn solve(
     n: u64,
     q: u64,

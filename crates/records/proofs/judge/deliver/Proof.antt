@@ -53,7 +53,7 @@ copy-requires : tie.Need-copy-requires
 copy-requires c κs =
     let f = c .before .before .before .before .before .before in
     let s = entry f in
-    bests s ∙ sym (column-length 512 (m s) (f .solve .last .1 .1 .1 .1 .0) (kept-many f))
+    bests s ∙ sym (column-length _ (m s) (f .solve .last .1 .1 .1 .1 .0) (omega (arith, kept-many f)))
 
 returns : tie.Need-returns
 returns c =

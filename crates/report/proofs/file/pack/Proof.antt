@@ -100,7 +100,7 @@ same-length c =
     let t = tails-at h in
     let s = entry t in
     packed-length (shapeOf (s .args .file)) (s .pre .few) (now (s .args .net)) (s .pre .places) (t .copy .ensures) (h .copy2 .ensures)
-    (f .copy3 .ensures) (s .args .file .source) (s .args .file .sink) (tails-many s) (heads-many s) (capacities-many s)
+    (f .copy3 .ensures) _ _ (tails-many s) (heads-many s) (capacities-many s)
 
 returns : tie.Need-returns
 returns c =
