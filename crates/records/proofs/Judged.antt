@@ -4,6 +4,7 @@ use mathlib.Core.List.{List, _++_}
 use Prim.Native.Nat.{ℕ}
 use lib.ListN.{length, drop}
 use Rattle.network.specs.Network.{Network}
+use Rattle.network.specs.Sound.{Counts}
 use Rattle.network.specs.Verdict.{verdict, itemConditions}
 use Rattle.network.specs.declared.Refusal.{Refusal}
 use Rattle.network.specs.declared.Verdict.{Verdict}
@@ -13,17 +14,19 @@ use Rattle.network.proofs.Decided.{no-refusal}
 use Rattle.method.specs.Answer.{outcome, overlaid}
 use Rattle.method.specs.Guarantee.{Guarantee}
 use Rattle.method.specs.declared.Answer.{Answer}
-use Rattle.run.specs.Runs.{Lent}
-use Rattle.vithmork.specs.Host.{afterwards}
-use Rattle.records.specs.Parts.{Judging}
+use Rattle.packed.specs.Packed.{netIn, Packed, Lent}
+use Rattle.packed.specs.declared.Shape.{Shape}
+use Rattle.packed.proofs.Columns.{arcs-is, commodities-is}
+use Rattle.host.specs.Host.{afterwards}
 use Rattle.records.specs.Records.{Replied}
 use Rattle.records.specs.Reply.{replyOf, numberIn, valuesIn}
+use Rattle.records.specs.declared.Reply.{Reply}
 use Rattle.records.specs.declared.Reply.the-variants.{TurnedDown, Answered}
 
 -- Accepted: the network is sound.
-pub lends : (net : Network) (q : ℕ) (flow lengths : List ℕ) → Judging net q flow lengths → verdict (itemConditions net) ≡ Accepted → Lent net q
-lends net q flow lengths j h =
-    record { sound = items-accepted net q (j .counts) h; heads = j .heads; capacities = j .capacities; sinks = j .sinks }
+pub lends : {s : Shape} {xs : List ℕ} (q : ℕ) → Packed s xs → Counts (s .nodes) (s .arcs) (s .commodities) q → verdict (itemConditions (netIn s xs)) ≡ Accepted → Lent s q xs
+unfolding netIn
+lends {s} {xs} q p c h = record { sound = items-accepted (netIn s xs) q (rw (arcs-is p, commodities-is p) c) h; packed = p }
 
 -- The first k places of a table took these numbers.
 pub placed : (xs ys table : List ℕ) (k : ℕ) → xs ≡ ys → length xs ≡ k → xs ++ drop k table ≡ overlaid ys table
@@ -58,3 +61,9 @@ module _ (net : Network) (q : ℕ) (flow lengths : List ℕ) where
         lengths-after = l;
         guarantee = λ _. g;
       }
+
+-- What is said of a network that passes is said of the same network by another name.
+pub replied-same :
+    {net net' : Network} {q : ℕ} {flow lengths flow' lengths' : List ℕ} {r : Reply} → net ≡ net' → verdict (itemConditions net) ≡ Accepted →
+    Replied net q Accepted flow lengths flow' lengths' r → Replied net' q (verdict (itemConditions net')) flow lengths flow' lengths' r
+replied-same e h p = rw (← e) (rw h p)

@@ -1,7 +1,9 @@
+pub mod Arrays
 pub mod Copying
 pub mod Judged
 pub mod Locals
+pub mod Paired
 pub mod Pairs
-pub mod Parting
+pub mod Places
 pub mod Served
 pub mod Slots

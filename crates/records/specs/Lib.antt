@@ -1,4 +1,3 @@
-pub mod Copied
 pub mod Parts
 pub mod Records
 pub mod Reply

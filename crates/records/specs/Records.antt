@@ -13,7 +13,7 @@ use Rattle.network.specs.declared.Verdict.{Verdict}
 use Rattle.network.specs.declared.Verdict.the-variants.{Accepted}
 use Rattle.method.specs.Answer.{outcome, numbersOf, overlaid}
 use Rattle.method.specs.Guarantee.{Guarantee}
-use Rattle.vithmork.specs.Host.{afterwards}
+use Rattle.host.specs.Host.{afterwards}
 use Rattle.records.specs.Reply.{replyOf, numberIn, valuesIn}
 use Rattle.records.specs.declared.Arc.{Arc}
 use Rattle.records.specs.declared.Reply.{Reply}
@@ -42,14 +42,14 @@ networkLent n arcs pairs =
       sinks = sinksIn pairs;
     }
 
--- Of the conditions that concern some calls only, 5 concerns this one, as far as it speaks of flow and lengths: there is no answer table and no
--- running count.
-unfoldable pub recordConditions : ℕ → ℕ → List ℕ → List ℕ → List Condition
-recordConditions k m flow lengths = when (ltb (length flow) (k * m) || ltb (length lengths) m) ShortTable ∷ []
+-- Of the conditions that concern some calls only, 5 concerns this one, as far as it speaks of flow and lengths, by their places: there is no
+-- answer table and no running count.
+unfoldable pub recordConditions : ℕ → ℕ → ℕ → ℕ → List Condition
+recordConditions k m flow lengths = when (ltb flow (k * m) || ltb lengths m) ShortTable ∷ []
 
 -- The verdict on the call.
 abbrev pub verdictLent : Network → ℕ → List ℕ → List ℕ → Verdict
-verdictLent net q flow lengths = verdictOn net q (recordConditions (commodities net) (arcs net) flow lengths)
+verdictLent net q flow lengths = verdictOn net q (recordConditions (commodities net) (arcs net) (length flow) (length lengths))
 
 -- What a call with the verdict v returns and leaves: the reply, with its numbers; in both tables the outcome's numbers first, later places as they
 -- were, all of them where it is turned down; and where it is accepted, all that holds of the outcome.

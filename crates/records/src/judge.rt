@@ -1,78 +1,80 @@
-// A call whose sizes have passed: its arcs and commodities checked, then its network solved into the lent tables.
+// A call whose sizes have passed and whose records have been copied: its pairs put beside them, arcs and commodities checked, and the network
+// solved into the lent tables.
 use crate::Reply;
-use checks::items::check_arcs;
-use checks::items::check_commodities;
+use checks::items::check_items;
 use network::Verdict;
-ghost use lib.ListN.{length};
+use packed::KEPT;
+use packed::NET_NUMBERS;
+use packed::SINKS;
+use packed::SOURCES;
+use packed::Shape;
+use packed::TABLE_NUMBERS;
+use tables::loads::copy;
+ghost use mathlib.Core.Path.{_≡_};
 ghost use Rattle.network.specs.Verdict.{verdict, itemConditions};
-ghost use Rattle.run.specs.Runs.{networkOf, Lent};
 ghost use Rattle.network.specs.declared.Verdict.the-variants.{Accepted};
-ghost use Rattle.records.specs.Parts.{Judging, Roomy};
+ghost use Rattle.packed.specs.Packed.{netIn};
+ghost use Rattle.records.specs.Parts.{Sizable, halfOf, Halving, Pairing, Delivering, networkIn};
 ghost use Rattle.records.specs.Records.{Replied};
 
-// An accepted network: the outcome takes the first places of both tables.
-fn deliver(
-    n: u64,
-    q: u64,
-    tails: &[u64],
-    heads: &[u64],
-    capacities: &[u64],
-    sources: &[u64],
-    sinks: &[u64],
-    flow: &mut [u64],
-    lengths: &mut [u64],
-) -> Reply
-    requires lent { ⌜ Lent (networkOf n (now tails) (now heads) (now capacities) (now sources) (now sinks)) q ⌝ }
-    requires room { ⌜ Roomy (length (now sources)) (length (now tails)) (now flow) (now lengths) ⌝ }
-    ensures { λ r. ⌜ Replied (networkOf n (now (tails .entry)) (now (heads .entry)) (now (capacities .entry)) (now (sources .entry)) (now (sinks .entry))) q Accepted (now (flow .entry)) (now (lengths .entry)) (now (flow .exit)) (now (lengths .exit)) r ⌝ }
+// One number of each pair: the first of the two, or the second.
+fn halve(pairs: &[u64], which: usize, to: &mut [u64])
+    requires { ⌜ Halving (now pairs) which (now to) ⌝ }
+    ensures { λ _. ⌜ now (to .exit) ≡ halfOf which (now (pairs .entry)) ⌝ }
 {
-    let m = tails.len();
-    let size = sources.len() * m;
-    let answer = solver::solves::solve(
-        n,
-        q,
-        tails,
-        heads,
-        capacities,
-        sources,
-        sinks,
-        &mut flow[..size],
-        &mut lengths[..m],
-    );
+    let mut i = 0;
+    while i < to.len() {
+        to[i] = pairs[2 * i + which];
+        i += 1;
+    }
+}
+
+// The sources and the sinks of the pairs, into their columns.
+fn put_pairs(s: Shape, pairs: &[u64], net: &mut [u64])
+    requires { ⌜ Pairing s (now pairs) (now net) ⌝ }
+    ensures { λ _. ⌜ netIn s (now (net .exit)) ≡ networkIn (s .nodes) (s .arcs) (now (net .entry)) (now (pairs .entry)) ⌝ }
+{
+    let k = s.commodities;
+    halve(pairs, 0, &mut net[SOURCES..SOURCES + k]);
+    halve(pairs, 1, &mut net[SINKS..SINKS + k]);
+}
+
+// An accepted network: the outcome takes the first places of both tables.
+fn deliver(s: Shape, q: u64, net: &[u64], flow: &mut [u64], lengths: &mut [u64]) -> Reply
+    requires { ⌜ Delivering s q (now net) (now flow) (now lengths) ⌝ }
+    ensures { λ r. ⌜ Replied (netIn s (now (net .entry))) q Accepted (now (flow .entry)) (now (lengths .entry)) (now (flow .exit)) (now (lengths .exit)) r ⌝ }
+{
+    let m = s.arcs;
+    let size = s.commodities * m;
+    let mut tables = [0u64; TABLE_NUMBERS];
+    let answer = solver::solve(s, q, net, &mut flow[..size], &mut tables);
+    copy(&tables[KEPT..KEPT + m], &mut lengths[..m]);
     Reply::Answered(answer)
 }
 
+// The network of n nodes whose m arcs stand in their columns, with the commodities of the pairs.
 pub fn judge(
     n: u64,
     q: u64,
-    tails: &[u64],
-    heads: &[u64],
-    capacities: &[u64],
-    sources: &[u64],
-    sinks: &[u64],
+    m: usize,
+    arcs: [u64; NET_NUMBERS],
+    pairs: &[u64],
     flow: &mut [u64],
     lengths: &mut [u64],
 ) -> Reply
-    requires { ⌜ Judging (networkOf n (now tails) (now heads) (now capacities) (now sources) (now sinks)) q (now flow) (now lengths) ⌝ }
-    ensures { λ r. ⌜ Replied (networkOf n (now (tails .entry)) (now (heads .entry)) (now (capacities .entry)) (now (sources .entry)) (now (sinks .entry))) q (verdict (itemConditions (networkOf n (now (tails .entry)) (now (heads .entry)) (now (capacities .entry)) (now (sources .entry)) (now (sinks .entry))))) (now (flow .entry)) (now (lengths .entry)) (now (flow .exit)) (now (lengths .exit)) r ⌝ }
+    requires { ⌜ Sizable n q m (now pairs) (now flow) (now lengths) ⌝ }
+    ensures { λ r. ⌜ Replied (networkIn n m arcs (now (pairs .entry))) q (verdict (itemConditions (networkIn n m arcs (now (pairs .entry))))) (now (flow .entry)) (now (lengths .entry)) (now (flow .exit)) (now (lengths .exit)) r ⌝ }
 {
-    let arcs = check_arcs(n, tails, heads, capacities);
-    if let Verdict::Refused(why) = arcs {
+    let s = Shape {
+        nodes: n,
+        arcs: m,
+        commodities: pairs.len() / 2,
+    };
+    let mut net = arcs;
+    put_pairs(s, pairs, &mut net);
+    let items = check_items(s, &net);
+    if let Verdict::Refused(why) = items {
         return Reply::TurnedDown(why);
     }
-    let commodities = check_commodities(n, sources, sinks);
-    if let Verdict::Refused(why) = commodities {
-        return Reply::TurnedDown(why);
-    }
-    deliver(
-        n,
-        q,
-        tails,
-        heads,
-        capacities,
-        sources,
-        sinks,
-        flow,
-        lengths,
-    )
+    deliver(s, q, &net, flow, lengths)
 }

@@ -1,12 +1,15 @@
 // The solver for a network lent as a slice of records. Document 01, "The floor and its flow": "The network may also be lent as a list of belt
 // records, checked and copied before any work". Only `solve` holds the slice: what it calls has arrays and slices of numbers.
 mod judge;
-mod part;
-mod serve;
+mod sizes;
 
-use bounds::MOST_ARCS;
 use method::Answer;
 use network::Refusal;
+use network::Verdict;
+use packed::CAPACITIES;
+use packed::HEADS;
+use packed::NET_NUMBERS;
+use packed::TAILS;
 ghost use Rattle.records.specs.Records.{Recorded};
 
 // Document 01's belt.
@@ -22,8 +25,8 @@ pub enum Reply {
     Answered(Answer),
 }
 
-// Solves the network of n nodes with these arcs, and with a commodity for every two numbers of `pairs`, source and sink. Of more than 256 arcs
-// the first 256 are copied, and the call is turned down by their number.
+// Solves the network of n nodes with these arcs, and with a commodity for every two numbers of `pairs`, source and sink: sizes and tables are
+// checked, the records copied into the columns of one array, and what they say is checked there before it is solved.
 pub fn solve(
     n: u64,
     q: u64,
@@ -35,16 +38,18 @@ pub fn solve(
     ensures { λ r. ⌜ Recorded n q (now (arcs .entry)) (now (pairs .entry)) (now (flow .entry)) (now (lengths .entry)) (now (flow .exit)) (now (lengths .exit)) r ⌝ }
 {
     let m = arcs.len();
-    let few = if m < MOST_ARCS { m } else { MOST_ARCS };
-    let mut copy = [Arc {
-        tail: 0,
-        head: 0,
-        capacity: 0,
-    }; MOST_ARCS];
+    let sizes = sizes::check_call(n, q, m, pairs.len(), flow.len(), lengths.len());
+    if let Verdict::Refused(why) = sizes {
+        return Reply::TurnedDown(why);
+    }
+    let mut net = [0u64; NET_NUMBERS];
     let mut e = 0;
-    while e < few {
-        copy[e] = arcs[e];
+    while e < m {
+        let a = arcs[e];
+        net[TAILS + e] = a.tail;
+        net[HEADS + e] = a.head;
+        net[CAPACITIES + e] = a.capacity;
         e += 1;
     }
-    serve::serve(n, q, copy, m, pairs, flow, lengths)
+    judge::judge(n, q, m, net, pairs, flow, lengths)
 }

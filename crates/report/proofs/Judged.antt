@@ -1,17 +1,16 @@
 -- The verdict on a network that a file holds is that on its arcs and its commodity: 1 to 4 cannot hold, since the reader has kept
 -- the counts within their bounds. Assumes nothing.
-use mathlib.Core.Path.{_≡_, sym, _∙_}
+use mathlib.Core.Path.{_≡_}
 use mathlib.Core.List.{[]}
 use lib.Dec.{lit≤}
 use Rattle.network.specs.Network.{Network, arcs, commodities}
-use Rattle.network.specs.Sound.{Counts}
+use Rattle.network.specs.Sound.{Counts, Sound}
 use Rattle.network.specs.Verdict.{verdict, sizeConditions, itemConditions, verdictOn}
 use Rattle.network.specs.declared.Verdict.the-variants.{Accepted}
-use Rattle.network.proofs.Accepted.{accepted-sound}
+use Rattle.network.proofs.Accepted.{items-accepted}
 use Rattle.network.proofs.Decided.{quiet-accepted}
 use Rattle.network.proofs.First.{first-accepts}
 use Rattle.network.proofs.Sizes.{sizes-quiet}
-use Rattle.run.specs.Runs.{Lent}
 use Rattle.dimacs.specs.OneCommodity.{OneCommodity}
 use Rattle.report.specs.Listing.{verdictHeld}
 
@@ -32,11 +31,5 @@ module _ (net : Network) (o : OneCommodity net) where
       (quiet-accepted (sizes-quiet (net .nodes) (arcs net) (commodities net) 4 counts))
 
   -- Accepted: the network is sound.
-  pub lends : verdictHeld net ≡ Accepted → Lent net 4
-  lends h =
-      record {
-        sound = accepted-sound net 4 [] h .0;
-        heads = o .of-heads;
-        capacities = o .of-capacities;
-        sinks = o .of-sinks ∙ sym (o .of-sources);
-      }
+  pub sound : verdict (itemConditions net) ≡ Accepted → Sound net 4
+  sound h = items-accepted net 4 counts h

@@ -5,6 +5,7 @@ pub mod Examples
 pub mod Judged
 pub mod Lengths
 pub mod Numbers
+pub mod Packing
 pub mod Puts
 pub mod Putting
 pub mod Rowed

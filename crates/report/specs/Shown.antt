@@ -1,15 +1,19 @@
 -- What the parts of the program that solve and judge ask and leave; cited only by their contracts.
 use mathlib.Core.Path.{_≡_}
-use mathlib.Core.List.{List}
+use mathlib.Core.List.{List, [], _∷_}
 use Prim.Native.Nat.{ℕ, _+_, _*_, _^_, _≤_, _<_}
-use lib.ListN.{length, getD}
+use lib.ListN.{length, getD, take}
 use Rattle.arith.specs.Lists.{upTo, flat}
+use Rattle.bounds.specs.Bounds.{mostArcs}
 use Rattle.network.specs.Network.{Network, commodities}
 use Rattle.network.specs.declared.Verdict.{Verdict}
 use Rattle.network.specs.declared.Verdict.the-variants.{Accepted}
 use Rattle.method.specs.Answer.{outcome}
 use Rattle.method.specs.Guarantee.{Guarantee}
-use Rattle.run.specs.Runs.{Lent}
+use Rattle.packed.specs.Packed.{netIn, Packed, Lent}
+use Rattle.packed.specs.declared.Shape.{Shape}
+use Rattle.dimacs.specs.OneCommodity.{OneCommodity}
+use Rattle.dimacs.specs.declared.Parsed.{Parsed}
 use Rattle.report.specs.Decimal.{decimal}
 use Rattle.report.specs.Listing.{verdictRows}
 use Rattle.report.specs.Put.{Put}
@@ -31,11 +35,46 @@ pub record Belted (tails heads loads : List ℕ) (a at room : ℕ) : Type 0 wher
   pub fits : (e : ℕ) → e < length tails → getD loads e 0 * a < 2 ^ 64
   pub enough : at + 90 * length tails ≤ room
 
--- An accepted network of one commodity, and room for its rows: 159 bytes for the first three, and 90 for each of 256 arcs.
-pub record Ready (net : Network) (at room : ℕ) : Type 0 where
-  pub lent : Lent net 4
-  pub one : commodities net ≡ 1
+-- The shape of a file's network, and the network: the first entries of the tables read, and one commodity.
+abbrev pub shapeOf : Parsed → Shape
+shapeOf file = record { nodes = file .nodes; arcs = file .arcs; commodities = 1 }
+
+abbrev pub networkRead : Parsed → Network
+networkRead file =
+    record {
+      nodes = file .nodes;
+      tails = take (file .arcs) (file .tails);
+      heads = take (file .arcs) (file .heads);
+      capacities = take (file .arcs) (file .capacities);
+      sources = file .source ∷ [];
+      sinks = file .sink ∷ [];
+    }
+
+-- Room in the file's tables and in the slice.
+pub record Packing (file : Parsed) (net : List ℕ) : Type 0 where
+  pub few : file .arcs ≤ mostArcs
+  pub of-tails : length (file .tails) ≡ mostArcs
+  pub of-heads : length (file .heads) ≡ mostArcs
+  pub of-capacities : length (file .capacities) ≡ mostArcs
+  pub places : 832 ≤ length net
+
+-- A file's network, and room for its rows: 159 bytes for the first three, and 90 for each of 256 arcs.
+pub record Judging (s : Shape) (net : List ℕ) (at room : ℕ) : Type 0 where
+  pub packed : Packed s net
+  pub held : OneCommodity (netIn s net)
   pub enough : at + 23199 ≤ room
+
+-- An accepted one of one commodity.
+pub record Ready (s : Shape) (net : List ℕ) (at room : ℕ) : Type 0 where
+  pub lent : Lent s 4 net
+  pub one : commodities (netIn s net) ≡ 1
+  pub enough : at + 23199 ≤ room
+
+-- And work space of its size.
+pub record Showing (s : Shape) (net flow tables : List ℕ) (at room : ℕ) : Type 0 where
+  pub ready : Ready s net at room
+  pub flows : length flow ≡ s .arcs
+  pub places : 768 ≤ length tables
 
 -- The rows that follow from the verdict v on a network stand from place `at` on; where it is accepted, all that holds of its outcome.
 pub record Shown (net : Network) (v : Verdict) (out : List ℕ) (at : ℕ) (out' : List ℕ) (end : ℕ) : Type 0 where

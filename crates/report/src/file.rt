@@ -1,45 +1,51 @@
-// A file read, judged and listed.
+// A file read, packed, judged and listed.
 use crate::put::put;
 use crate::rows::put_refusal;
 use crate::solved::show;
-use checks::items::check_arcs;
-use checks::items::check_commodities;
+use checks::items::check_items;
+use dimacs::Parsed;
 use network::Verdict;
-ghost use mathlib.Core.List.{[], _∷_};
-ghost use Prim.Native.Nat.{_+_, _≤_};
+use packed::CAPACITIES;
+use packed::HEADS;
+use packed::NET_NUMBERS;
+use packed::SINKS;
+use packed::SOURCES;
+use packed::Shape;
+use packed::TAILS;
+use tables::loads::copy;
+ghost use mathlib.Core.Path.{_≡_};
 ghost use lib.ListN.{length};
-ghost use Rattle.dimacs.specs.OneCommodity.{OneCommodity};
-ghost use Rattle.run.specs.Runs.{networkOf};
+ghost use Rattle.packed.specs.Packed.{netIn};
 ghost use Rattle.report.specs.Listed.{Listed};
 ghost use Rattle.report.specs.Listing.{verdictHeld};
-ghost use Rattle.report.specs.Shown.{Shown};
+ghost use Rattle.report.specs.Shown.{shapeOf, networkRead, Packing, Judging, Shown};
+
+// The network of a file that has been read, into one slice.
+fn pack(file: Parsed, net: &mut [u64])
+    requires { ⌜ Packing file (now net) ⌝ }
+    ensures { λ _. ⌜ netIn (shapeOf file) (now (net .exit)) ≡ networkRead file ⌝ }
+{
+    let m = file.arcs;
+    let tails = file.tails;
+    copy(&tails[..m], &mut net[TAILS..TAILS + m]);
+    let heads = file.heads;
+    copy(&heads[..m], &mut net[HEADS..HEADS + m]);
+    let capacities = file.capacities;
+    copy(&capacities[..m], &mut net[CAPACITIES..CAPACITIES + m]);
+    net[SOURCES] = file.source;
+    net[SINKS] = file.sink;
+}
 
 // The network that a file holds. Its counts are within their bounds, so only arcs and the commodity are left to check.
-fn judge(
-    n: u64,
-    tails: &[u64],
-    heads: &[u64],
-    capacities: &[u64],
-    source: u64,
-    sink: u64,
-    out: &mut [u8],
-    at: usize,
-) -> usize
-    requires network { ⌜ OneCommodity (networkOf n (now tails) (now heads) (now capacities) (source ∷ []) (sink ∷ [])) ⌝ }
-    requires room { ⌜ at + 23199 ≤ length (now out) ⌝ }
-    ensures { λ r. ⌜ Shown (networkOf n (now (tails .entry)) (now (heads .entry)) (now (capacities .entry)) (source ∷ []) (sink ∷ [])) (verdictHeld (networkOf n (now (tails .entry)) (now (heads .entry)) (now (capacities .entry)) (source ∷ []) (sink ∷ []))) (now (out .entry)) at (now (out .exit)) r ⌝ }
+fn judge(s: Shape, net: &[u64], out: &mut [u8], at: usize) -> usize
+    requires { ⌜ Judging s (now net) at (length (now out)) ⌝ }
+    ensures { λ r. ⌜ Shown (netIn s (now (net .entry))) (verdictHeld (netIn s (now (net .entry)))) (now (out .entry)) at (now (out .exit)) r ⌝ }
 {
-    let sources = [source];
-    let sinks = [sink];
-    let arcs = check_arcs(n, tails, heads, capacities);
-    if let Verdict::Refused(why) = arcs {
+    let items = check_items(s, net);
+    if let Verdict::Refused(why) = items {
         return put_refusal(out, at, why);
     }
-    let commodities = check_commodities(n, &sources, &sinks);
-    if let Verdict::Refused(why) = commodities {
-        return put_refusal(out, at, why);
-    }
-    show(n, tails, heads, capacities, &sources, &sinks, out, at)
+    show(s, net, out, at)
 }
 
 // The listing of a file of these bytes, from the first place on; returns how many bytes it has. The table holds every listing: 27 bytes for the
@@ -53,18 +59,12 @@ pub fn listing(text: &[u8], out: &mut [u8; 24576]) -> usize
     if let Verdict::Refused(why) = verdict {
         return put_refusal(out, at, why);
     }
-    let m = file.arcs;
-    let tails = file.tails;
-    let heads = file.heads;
-    let capacities = file.capacities;
-    judge(
-        file.nodes,
-        &tails[..m],
-        &heads[..m],
-        &capacities[..m],
-        file.source,
-        file.sink,
-        out,
-        at,
-    )
+    let s = Shape {
+        nodes: file.nodes,
+        arcs: file.arcs,
+        commodities: 1,
+    };
+    let mut net = [0u64; NET_NUMBERS];
+    pack(file, &mut net);
+    judge(s, &net, out, at)
 }

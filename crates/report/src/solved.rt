@@ -1,12 +1,17 @@
 // The rows of an accepted network: it is solved, and its outcome written.
 use crate::rows::put_answer;
 use crate::rows::put_belt;
-ghost use mathlib.Core.Path.{_≡_};
+use bounds::LEAST_PRECISION;
+use bounds::MOST_ARCS;
+use packed::HEADS;
+use packed::Shape;
+use packed::TABLE_NUMBERS;
+use packed::TAILS;
 ghost use lib.ListN.{length};
 ghost use Rattle.network.specs.declared.Verdict.the-variants.{Accepted};
-ghost use Rattle.run.specs.Runs.{networkOf};
+ghost use Rattle.packed.specs.Packed.{netIn};
 ghost use Rattle.report.specs.Put.{Put};
-ghost use Rattle.report.specs.Shown.{beltsOf, Belted, Ready, Shown};
+ghost use Rattle.report.specs.Shown.{beltsOf, Belted, Ready, Showing, Shown};
 
 // The rows of the arcs in order: each load times a, over y.
 fn put_belts(
@@ -30,56 +35,33 @@ fn put_belts(
     next
 }
 
-// The outcome solved in lent work space of its size, and written. With one commodity the flow table is the loads.
+// The outcome solved in lent work space, and written. With one commodity the flow table is the loads.
 fn show_in(
-    n: u64,
-    tails: &[u64],
-    heads: &[u64],
-    capacities: &[u64],
-    sources: &[u64],
-    sinks: &[u64],
+    s: Shape,
+    net: &[u64],
     flow: &mut [u64],
-    kept: &mut [u64],
+    tables: &mut [u64],
     out: &mut [u8],
     at: usize,
 ) -> usize
-    requires ready { ⌜ Ready (networkOf n (now tails) (now heads) (now capacities) (now sources) (now sinks)) at (length (now out)) ⌝ }
-    requires flows { ⌜ length (now flow) ≡ length (now tails) ⌝ }
-    requires bests { ⌜ length (now kept) ≡ length (now tails) ⌝ }
-    ensures { λ r. ⌜ Shown (networkOf n (now (tails .entry)) (now (heads .entry)) (now (capacities .entry)) (now (sources .entry)) (now (sinks .entry))) Accepted (now (out .entry)) at (now (out .exit)) r ⌝ }
+    requires { ⌜ Showing s (now net) (now flow) (now tables) at (length (now out)) ⌝ }
+    ensures { λ r. ⌜ Shown (netIn s (now (net .entry))) Accepted (now (out .entry)) at (now (out .exit)) r ⌝ }
 {
-    let a = solver::solves::solve(n, 4, tails, heads, capacities, sources, sinks, flow, kept);
+    let a = solver::solve(s, LEAST_PRECISION, net, flow, tables);
     let next = put_answer(out, at, a);
+    let m = s.arcs;
+    let tails = &net[TAILS..TAILS + m];
+    let heads = &net[HEADS..HEADS + m];
     put_belts(out, next, tails, heads, flow, a.capacity, a.load)
 }
 
 // The outcome solved and written.
-pub fn show(
-    n: u64,
-    tails: &[u64],
-    heads: &[u64],
-    capacities: &[u64],
-    sources: &[u64],
-    sinks: &[u64],
-    out: &mut [u8],
-    at: usize,
-) -> usize
-    requires { ⌜ Ready (networkOf n (now tails) (now heads) (now capacities) (now sources) (now sinks)) at (length (now out)) ⌝ }
-    ensures { λ r. ⌜ Shown (networkOf n (now (tails .entry)) (now (heads .entry)) (now (capacities .entry)) (now (sources .entry)) (now (sinks .entry))) Accepted (now (out .entry)) at (now (out .exit)) r ⌝ }
+pub fn show(s: Shape, net: &[u64], out: &mut [u8], at: usize) -> usize
+    requires { ⌜ Ready s (now net) at (length (now out)) ⌝ }
+    ensures { λ r. ⌜ Shown (netIn s (now (net .entry))) Accepted (now (out .entry)) at (now (out .exit)) r ⌝ }
 {
-    let m = tails.len();
-    let mut flow = [0u64; 256];
-    let mut kept = [0u64; 256];
-    show_in(
-        n,
-        tails,
-        heads,
-        capacities,
-        sources,
-        sinks,
-        &mut flow[..m],
-        &mut kept[..m],
-        out,
-        at,
-    )
+    let m = s.arcs;
+    let mut flow = [0u64; MOST_ARCS];
+    let mut tables = [0u64; TABLE_NUMBERS];
+    show_in(s, net, &mut flow[..m], &mut tables, out, at)
 }

@@ -1,5 +1,4 @@
 -- `report::solved::show` meets its contract: the work space is large enough for every accepted network. Assumes nothing.
-use denote.Ref.{now}
 use mathlib.Core.Path.{sym}
 use Prim.Native.Nat.{ℕ, _≤_}
 use native.Mathlib.Omega.{arith}
@@ -10,21 +9,18 @@ use Rattle.report.proofs.solved.show.Statement.{statement}
 use Rattle.report.proofs.solved.show.Tie as tie
 
 -- 256 numbers are enough for the arcs
-room : (s : tie.Start) → length (now (s .args .tails)) ≤ length (replicate {A = ℕ} 256 0)
-room s = omega (arith, s .pre .lent .sound .counts .of-arcs .most, length-replicate {A = ℕ} 256 0)
+room : (s : tie.Start) → s .args .s .arcs ≤ length (replicate {A = ℕ} 256 0)
+room s = omega (arith, s .pre .lent .packed .few-arcs, length-replicate {A = ℕ} 256 0)
 
 slice-aggregate-show-in : tie.Need-slice-aggregate-show-in
-slice-aggregate-show-in c = sym (length-take-le _ _ (room (c .before .before .before .before .before .before .before)))
-
-slice-aggregate-show-in-2 : tie.Need-slice-aggregate-show-in-2
-slice-aggregate-show-in-2 c = sym (length-take-le _ _ (room (c .before .before .before .before .before .before .before .before)))
+slice-aggregate-show-in c = sym (length-take-le _ _ (room (c .before .before .before)))
 
 show-in-requires : tie.Need-show-in-requires
 show-in-requires c κs =
-    let s = c .before .before .before .before .before .before .before .before .before in
-    (s .pre, (length-take-le _ _ (room s), length-take-le _ _ (room s)))
+    let s = c .before .before .before .before .before in
+    record { ready = s .pre; flows = length-take-le _ _ (room s); places = omega (arith, length-replicate {A = ℕ} 768 0) }
 
 pub show-spec : {M : Type 1} → statement M
 show-spec =
-    tie.close (tie.spec (λ c. search needs) slice-aggregate-show-in (λ c. search needs) slice-aggregate-show-in-2
-    show-in-requires (λ c. search needs) (λ c. search needs))
+    tie.close (tie.spec (λ c. search needs) slice-aggregate-show-in (λ c. search needs) show-in-requires
+    (λ c. search needs) (λ c. search needs))

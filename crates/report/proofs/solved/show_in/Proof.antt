@@ -1,9 +1,7 @@
 -- `report::solved::show_in` meets its contract: the outcome is solved and its rows put. Assumes nothing.
-use denote.Ref.{now}
 use mathlib.Core.Path.{_∙_}
 use native.Mathlib.Omega.{arith}
-use Rattle.network.specs.Network.{Network}
-use Rattle.run.specs.Runs.{networkOf}
+use Rattle.packed.specs.Packed.{netIn}
 use Rattle.report.proofs.Lengths.{answer-length}
 use Rattle.report.proofs.Puts.{put-within}
 use Rattle.report.proofs.Showing.{one-row, total-small, belted, shown}
@@ -11,50 +9,47 @@ use borrow.Author.Needs.{needs}
 use Rattle.report.proofs.solved.show_in.Statement.{statement}
 use Rattle.report.proofs.solved.show_in.Tie as tie
 
--- the network at entry
-abbrev net : (s : tie.Start) → Network
-net s =
-    networkOf (s .args .n) (now (s .args .tails)) (now (s .args .heads)) (now (s .args .capacities)) (now (s .args .sources))
-    (now (s .args .sinks))
-
 -- from each call back to the one before it, and from the first to the function's entry
 abbrev entry : tie.After-solve → tie.Start
-entry c = c .before .before .before .before .before .before .before .before .before .before .before
+entry c = c .before .before .before .before .before .before .before
 
 abbrev solve-at : tie.After-put-answer → tie.After-solve
 solve-at c = c .before .before .before .before .before .before
 
 abbrev answer-at : tie.After-put-belts → tie.After-put-answer
-answer-at c = c .before .before .before .before .before
+answer-at c = c .before .before .before .before .before .before .before
 
 solve-requires : tie.Need-solve-requires
 solve-requires c κs =
-    let s = c .before .before .before .before .before .before .before .before .before .before in
-    record { lent = s .pre .0 .lent; flows = one-row (net s) (now (s .args .flow)) (s .pre .0 .one) (s .pre .1 .0); bests = s .pre .1 .1 }
+    let s = c .before .before .before .before .before .before in
+    record { lent = s .pre .ready .lent; flows = one-row (s .pre .ready) _ (s .pre .flows); places = s .pre .places }
 
 put-answer-requires : tie.Need-put-answer-requires
 put-answer-requires c κs =
     let f = c .before .before .before .before .before in
     let s = entry f in
-    (total-small (net s) (s .pre .0) (f .solve .ensures), omega (arith, s .pre .0 .enough))
+    (total-small (s .pre .ready) (f .solve .ensures), omega (arith, s .pre .ready .enough))
 
 put-belts-requires : tie.Need-put-belts-requires
+unfolding netIn
 put-belts-requires c κs =
-    let f = c .before .before .before .before in
+    let f = c .before .before .before .before .before .before in
     let s = entry (solve-at f) in
     let v = solve-at f .solve in
     let p = f .put-answer in
     rw (p .kept .0)
-    (belted (net s) (s .pre .0) (v .ensures) _ (v .kept .1 .1 .1 .1 .1 .1 .1 .0 ∙ s .pre .1 .0) (put-within (p .ensures) (answer-length _)))
+    (belted (s .pre .ready) (v .ensures) _ (v .kept .1 .1 .1 .0 ∙ s .pre .flows) (put-within (p .ensures) (answer-length _)))
 
 returns : tie.Need-returns
+unfolding netIn
 returns c =
     let b = c .before .before in
     let a = answer-at b in
     let s = entry (solve-at a) in
-    shown (net s) (s .pre .0) (solve-at a .solve .ensures) (a .put-answer .ensures) (b .put-belts .ensures)
+    shown (s .pre .ready) (solve-at a .solve .ensures) (a .put-answer .ensures) (b .put-belts .ensures)
 
 pub show-in-spec : {M : Type 1} → statement M
 show-in-spec =
-    tie.close (tie.spec solve-requires put-answer-requires put-belts-requires (λ c. search needs) (λ c. search needs)
-    (λ c. search needs) returns)
+    tie.close (tie.spec solve-requires put-answer-requires (λ c. search needs) (λ c. search needs) (λ c. search needs)
+    (λ c. search needs) (λ c. search needs) (λ c. search needs) (λ c. search needs) (λ c. search needs)
+    put-belts-requires (λ c. search needs) (λ c. search needs) (λ c. search needs) returns)

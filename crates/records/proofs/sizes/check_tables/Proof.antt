@@ -1,12 +1,12 @@
--- `records::serve::check_tables` meets its contract: one condition, of two tables in turn. Assumes nothing.
+-- `records::sizes::check_tables` meets its contract: one condition, of two tables in turn. Assumes nothing.
 use borrow.Author.Tests.{lt-ltb, le-ltb}
 use mathlib.Core.Path.{refl}
 use native.Mathlib.Nat.{mul-le-mul}
 use native.Mathlib.Omega.{arith}
 use Rattle.network.proofs.First.{decides, passes, none-left}
 use Rattle.records.specs.Records.{recordConditions}
-use Rattle.records.proofs.serve.check_tables.Statement.{statement}
-use Rattle.records.proofs.serve.check_tables.Tie as tie
+use Rattle.records.proofs.sizes.check_tables.Statement.{statement}
+use Rattle.records.proofs.sizes.check_tables.Tie as tie
 
 mul-if1 : tie.Need-mul-if1
 mul-if1 c = omega (arith, mul-le-mul (c .pre .0) (c .pre .1))

@@ -1,0 +1,120 @@
+-- `report::file::pack` meets its contract: each column takes its numbers, and those behind and before it stay. Assumes nothing.
+use denote.Ref.{now}
+use mathlib.Core.Path.{_≡_, refl, sym, ap, _∙_}
+use mathlib.Core.List.{List}
+use Prim.Native.Nat.{ℕ, _+_, _-_, _≤_}
+use native.Mathlib.Omega.{arith}
+use borrow.Rule.Slice.PartMut.{putMid}
+use lib.ListN.{length, take}
+use lib.Seq.{length-take-le}
+use Rattle.packed.proofs.Columns.{column-length}
+use Rattle.report.specs.Shown.{shapeOf}
+use Rattle.report.proofs.Packing.{put-length, sink-place, packed-length, packed}
+use borrow.Author.Needs.{needs}
+use Rattle.report.proofs.file.pack.Statement.{statement}
+use Rattle.report.proofs.file.pack.Tie as tie
+
+-- the file's columns are as long as its arcs are many
+module _ (s : tie.Start) where
+  abbrev m : ℕ
+  m = s .args .file .arcs
+
+  tails-many : length (take m (s .args .file .tails)) ≡ m
+  tails-many = length-take-le _ _ (omega (arith, s .pre .few, s .pre .of-tails))
+
+  heads-many : length (take m (s .args .file .heads)) ≡ m
+  heads-many = length-take-le _ _ (omega (arith, s .pre .few, s .pre .of-heads))
+
+  capacities-many : length (take m (s .args .file .capacities)) ≡ m
+  capacities-many = length-take-le _ _ (omega (arith, s .pre .few, s .pre .of-capacities))
+
+-- from each copy back to the one before it, and from the first to the function's entry
+abbrev entry : tie.After-copy → tie.Start
+entry c = c .before .before .before .before .before
+
+abbrev tails-at : tie.After-copy2 → tie.After-copy
+tails-at c = c .before .before .before .before .before .before
+
+abbrev heads-at : tie.After-copy3 → tie.After-copy2
+heads-at c = c .before .before .before .before .before .before
+
+-- the slice after the first and the second
+abbrev tailed : tie.After-copy → List ℕ
+tailed c = putMid 0 (0 + m (entry c) - 0) (now (entry c .args .net)) (c .copy .last .1 .0)
+
+abbrev headed : tie.After-copy2 → List ℕ
+headed c = putMid 256 (256 + m (entry (tails-at c)) - 256) (tailed (tails-at c)) (c .copy2 .last .1 .0)
+
+tailed-long : (c : tie.After-copy) → 832 ≤ length (tailed c)
+tailed-long c =
+    let s = entry c in
+    let e = put-length 0 (m s) (now (s .args .net)) (c .copy .last .1 .0) (omega (arith, s .pre .few, s .pre .places)) (ap length (c .copy .ensures) ∙ tails-many s) in
+    omega (arith, e, s .pre .places)
+
+headed-long : (c : tie.After-copy2) → 832 ≤ length (headed c)
+headed-long c =
+    let t = tails-at c in
+    let s = entry t in
+    let e = put-length 256 (m s) (tailed t) (c .copy2 .last .1 .0) (omega (arith, s .pre .few, tailed-long t)) (ap length (c .copy2 .ensures) ∙ heads-many s) in
+    omega (arith, e, tailed-long t)
+
+slice-aggregate-copy : tie.Need-slice-aggregate-copy
+slice-aggregate-copy c = sym (tails-many (c .before .before .before))
+
+copy-requires : tie.Need-copy-requires
+copy-requires c κs =
+    let s = c .before .before .before .before in
+    column-length 0 (m s) (now (s .args .net)) (omega (arith, s .pre .few, s .pre .places)) ∙ sym (tails-many s)
+
+slice-aggregate-copy-2 : tie.Need-slice-aggregate-copy-2
+slice-aggregate-copy-2 c = sym (heads-many (entry (c .before .before .before .before)))
+
+copy-requires-2 : tie.Need-copy-requires-2
+copy-requires-2 c κs =
+    let t = c .before .before .before .before .before in
+    let s = entry t in
+    column-length 256 (m s) (tailed t) (omega (arith, s .pre .few, tailed-long t)) ∙ sym (heads-many s)
+
+slice-aggregate-copy-3 : tie.Need-slice-aggregate-copy-3
+slice-aggregate-copy-3 c = sym (capacities-many (entry (tails-at (c .before .before .before .before))))
+
+copy-requires-3 : tie.Need-copy-requires-3
+copy-requires-3 c κs =
+    let h = c .before .before .before .before .before in
+    let s = entry (tails-at h) in
+    column-length 512 (m s) (headed h) (omega (arith, s .pre .few, headed-long h)) ∙ sym (capacities-many s)
+
+slice-write-net-2 : tie.Need-slice-write-net-2
+slice-write-net-2 c =
+    let f = c .before .before in
+    let h = heads-at f in
+    let t = tails-at h in
+    let s = entry t in
+    sink-place (shapeOf (s .args .file)) (s .pre .few) (now (s .args .net)) (s .pre .places) (t .copy .ensures) (h .copy2 .ensures)
+    (f .copy3 .ensures) (s .args .file .source) (s .args .file .sink) (tails-many s) (heads-many s) (capacities-many s)
+
+same-length : tie.Need-same-length
+same-length c =
+    let f = c .before .before in
+    let h = heads-at f in
+    let t = tails-at h in
+    let s = entry t in
+    packed-length (shapeOf (s .args .file)) (s .pre .few) (now (s .args .net)) (s .pre .places) (t .copy .ensures) (h .copy2 .ensures)
+    (f .copy3 .ensures) _ _ (tails-many s) (heads-many s) (capacities-many s)
+
+returns : tie.Need-returns
+returns c =
+    let f = c .before .before in
+    let h = heads-at f in
+    let t = tails-at h in
+    let s = entry t in
+    packed (shapeOf (s .args .file)) (s .pre .few) (now (s .args .net)) (s .pre .places) (t .copy .ensures) (h .copy2 .ensures) (f .copy3 .ensures)
+    (s .args .file .source) (s .args .file .sink) (tails-many s) (heads-many s) (capacities-many s) refl
+
+pub pack-spec : {M : Type 1} → statement M
+pack-spec =
+    tie.close (tie.spec (λ c. search needs) slice-aggregate-copy (λ c. search needs) (λ c. search needs)
+    (λ c. search needs) (λ c. search needs) copy-requires (λ c. search needs) slice-aggregate-copy-2
+    (λ c. search needs) (λ c. search needs) (λ c. search needs) (λ c. search needs) copy-requires-2
+    (λ c. search needs) slice-aggregate-copy-3 (λ c. search needs) (λ c. search needs) (λ c. search needs)
+    (λ c. search needs) copy-requires-3 (λ c. search needs) slice-write-net-2 same-length returns)
