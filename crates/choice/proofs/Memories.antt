@@ -10,7 +10,7 @@ use Rattle.network.specs.Network.{Network, commodities}
 use Rattle.packed.specs.Packed.{column, put}
 use Rattle.packed.specs.declared.Shape.{Shape}
 use Rattle.packed.proofs.Columns.{column-at, column-length, column-put, column-before, put-length}
-use Rattle.choice.specs.Memory.{distancesIn, Memory}
+use Rattle.choice.specs.Memory.{distancesFrom, distanceNumbers, memoryNumbers, distancesIn, Memory}
 use Rattle.choice.specs.Raised.{Raised, RaisedIn, Raising}
 use Rattle.choice.proofs.Bounds.{below-zero}
 use Rattle.choice.proofs.Raises.{raised-none, raised-shared, raised-other}
@@ -20,7 +20,7 @@ module _ (k i x : ℕ) (memory : List ℕ) (b : i < k) where
   bounds-set = let whole : 0 + k - 0 ≡ k = omega arith in rw whole (take-set-lt k memory i x b)
 
   distances-set : k ≤ mostCommodities → distancesIn (set memory i x) ≡ distancesIn memory
-  distances-set few = ap (take (32 + 65 - 32)) (drop-set-lt 32 memory i x (omega arith))
+  distances-set few = ap (take (distancesFrom + distanceNumbers - distancesFrom)) (drop-set-lt distancesFrom memory i x (omega arith))
 
 module _ {sources sinks : List ℕ} {t : ℕ} {old : List ℕ} where
   pub raised-in-none : RaisedIn sources sinks t old old 0
@@ -31,14 +31,14 @@ module _ {sources sinks : List ℕ} {t : ℕ} {old : List ℕ} where
     raised-in-other n = record { bounds = raised-other (R .bounds) n; distances = R .distances; numbers = R .numbers }
 
     -- The distance that is read is the one that was there.
-    reads : (s : ℕ) → s < 65 → getD new (32 + s) 0 ≡ getD (distancesIn old) s 0
-    reads s c = rw (← (R .distances)) (rw (column-at 32 65 new s c) refl)
+    reads : (s : ℕ) → s < distanceNumbers → getD new (distancesFrom + s) 0 ≡ getD (distancesIn old) s 0
+    reads s c = rw (← (R .distances)) (rw (column-at distancesFrom distanceNumbers new s c) refl)
 
     pub raised-in-shared :
         Raising sources sinks old → getD sinks i 0 ≡ t →
-        RaisedIn sources sinks t old (set new (0 + i) (getD new (32 + getD sources i 0) 0)) (i + 1)
+        RaisedIn sources sinks t old (set new (0 + i) (getD new (distancesFrom + getD sources i 0) 0)) (i + 1)
     raised-in-shared A q =
-        let x : ℕ = getD new (32 + getD sources i 0) 0 in
+        let x : ℕ = getD new (distancesFrom + getD sources i 0) 0 in
         let place : 0 + i ≡ i = omega arith in
         rw place (record {
           bounds =
@@ -49,25 +49,25 @@ module _ {sources sinks : List ℕ} {t : ℕ} {old : List ℕ} where
         })
 
 -- A search has left the distances d in the memory M, and the bounds have been raised to them.
-module _ {sources sinks : List ℕ} {t : ℕ} (M d : List ℕ) {new : List ℕ} {k : ℕ} (few : k ≤ mostCommodities) (places : 97 ≤ length M) (size : length sources ≡ k)
-    (table : length d ≡ 65) (R : RaisedIn sources sinks t (put 32 65 M d) new (length sources)) where
-  distances-put : distancesIn (put 32 65 M d) ≡ d
-  distances-put = column-put 32 65 M d (omega arith) table
+module _ {sources sinks : List ℕ} {t : ℕ} (M d : List ℕ) {new : List ℕ} {k : ℕ} (few : k ≤ mostCommodities) (places : memoryNumbers ≤ length M) (size : length sources ≡ k)
+    (table : length d ≡ distanceNumbers) (R : RaisedIn sources sinks t (put distancesFrom distanceNumbers M d) new (length sources)) where
+  distances-put : distancesIn (put distancesFrom distanceNumbers M d) ≡ d
+  distances-put = column-put distancesFrom distanceNumbers M d (omega arith) table
 
   pub looked-raised : Raised sources sinks t d (column 0 k M) (column 0 k new) (length sources)
   looked-raised =
       subst (λ (n : ℕ). Raised sources sinks t d (column 0 n M) (column 0 n new) (length sources)) size
-      (rw (distances-put, column-before 32 65 M 0 (length sources) d (omega arith) (omega (arith, size))) at (R .bounds))
+      (rw (distances-put, column-before distancesFrom distanceNumbers M 0 (length sources) d (omega arith) (omega (arith, size))) at (R .bounds))
 
   pub looked-distances : distancesIn new ≡ d
   looked-distances = R .distances ∙ distances-put
 
   pub looked-numbers : length new ≡ length M
-  looked-numbers = R .numbers ∙ put-length 32 65 M d (omega arith) table
+  looked-numbers = R .numbers ∙ put-length distancesFrom distanceNumbers M d (omega arith) table
 
 -- Bounds of 0 are below whatever the lengths.
 pub memory-zero :
-    {s : Shape} {net : Network} (old zs : List ℕ) → s .commodities ≤ mostCommodities → s .commodities ≡ commodities net → 97 ≤ length old →
+    {s : Shape} {net : Network} (old zs : List ℕ) → s .commodities ≤ mostCommodities → s .commodities ≡ commodities net → memoryNumbers ≤ length old →
     zs ≡ replicate (s .commodities) 0 → (l : List ℕ) → Memory s net l (put 0 (s .commodities) old zs)
 memory-zero {s} {net} old zs few k places e l =
     let size : length zs ≡ s .commodities = ap length e ∙ length-replicate {A = ℕ} (s .commodities) 0 in

@@ -12,6 +12,7 @@ use Rattle.choice.specs.Chose.{Chose}
 use Rattle.choice.specs.Closest.{Closest}
 use Rattle.paths.specs.Far.{far}
 use Rattle.paths.specs.Index.{Out}
+use Rattle.choice.specs.Memory.{distanceNumbers}
 use Rattle.choice.specs.Search.{Survey}
 use Rattle.paths.specs.Walked.{Walkable, Walked}
 use Rattle.choice.specs.declared.Selected.{Selected}
@@ -35,7 +36,7 @@ module _ {net : Network} {l bounds d : List ℕ} {i x : ℕ} (H : Survey net l) 
 
   module _ (b : x < far) {u w : ℕ} (from : u ≡ source net i) (to : w ≡ sink net i) where
     -- Else the walk of the nearest can be taken, from its source u to its sink w,
-    pub selects-walkable : {out : List ℕ} {room : ℕ} → length d ≡ 65 → Out net out → mostNodes ≤ room → Walkable net out l d u w room
+    pub selects-walkable : {out : List ℕ} {room : ℕ} → length d ≡ distanceNumbers → Out net out → mostNodes ≤ room → Walkable net out l d u w room
     selects-walkable q index room =
         rw (from, to)
         (record {

@@ -6,7 +6,7 @@ use Rattle.bounds.specs.Bounds.{mostNodes}
 use Rattle.network.specs.Network.{Network}
 use Rattle.packed.specs.Packed.{column, netIn, Packed}
 use Rattle.packed.specs.declared.Shape.{Shape}
-use Rattle.paths.specs.Index.{Into, Out}
+use Rattle.paths.specs.Index.{indexNumbers, Into, Out}
 use Rattle.choice.specs.Memory.{Memory}
 use Rattle.choice.specs.Search.{Survey}
 
@@ -17,11 +17,15 @@ pub record Surveying (s : Shape) (net into l memory : List ℕ) : Type 0 where
   pub index : Into (netIn s net) into
   pub memory-of : Memory s (netIn s net) l memory
 
--- One slice has both indexes of the arcs, at the places that src/lib.rt names.
+-- How many numbers two indexes take.
+abbrev pub indexesNumbers : ℕ
+indexesNumbers = 2180
+
+-- One slice has both indexes of the arcs, one behind the other.
 pub record Indexed (net : Network) (indexes : List ℕ) : Type 0 where
-  pub numbers : 2180 ≤ length indexes
-  pub into : Into net (column 0 1090 indexes)
-  pub out : Out net (column 1090 1090 indexes)
+  pub numbers : indexesNumbers ≤ length indexes
+  pub into : Into net (column 0 indexNumbers indexes)
+  pub out : Out net (column indexNumbers indexNumbers indexes)
 
 -- That search, and the walk of the commodity found, over the arcs out of each node, into a table with this many places.
 pub record Choosing (s : Shape) (net indexes l memory : List ℕ) (places : ℕ) : Type 0 where

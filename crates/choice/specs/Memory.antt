@@ -7,14 +7,23 @@ use Rattle.packed.specs.Packed.{column}
 use Rattle.packed.specs.declared.Shape.{Shape}
 use Rattle.choice.specs.Below.{Below}
 
--- The bounds and the distances stand at the places that src/lib.rt names.
+-- Where the distances begin, behind the bounds, how many they are and how many numbers they all take, as src/lib.rt names them.
+abbrev pub distancesFrom : ℕ
+distancesFrom = 32
+
+abbrev pub distanceNumbers : ℕ
+distanceNumbers = 65
+
+abbrev pub memoryNumbers : ℕ
+memoryNumbers = 97
+
 abbrev pub boundsIn : Shape → List ℕ → List ℕ
 boundsIn s memory = column 0 (s .commodities) memory
 
 abbrev pub distancesIn : List ℕ → List ℕ
-distancesIn memory = column 32 65 memory
+distancesIn memory = column distancesFrom distanceNumbers memory
 
 -- There is a place for each, and the bounds are below the distances by the lengths l.
 pub record Memory (s : Shape) (net : Network) (l memory : List ℕ) : Type 0 where
-  pub places : 97 ≤ length memory
+  pub places : memoryNumbers ≤ length memory
   pub below : Below net l (boundsIn s memory)

@@ -5,7 +5,7 @@ use Prim.Native.Nat.{ℕ, _≤_, _<_}
 use lib.ListN.{length, getD}
 use Rattle.bounds.specs.Bounds.{mostNodes, mostCommodities}
 use Rattle.packed.specs.Packed.{column}
-use Rattle.choice.specs.Memory.{distancesIn}
+use Rattle.choice.specs.Memory.{distancesIn, memoryNumbers}
 
 -- Of the first k commodities those with sink t have the distance of their source as their bound; no other bound has changed.
 pub record Raised (sources sinks : List ℕ) (t : ℕ) (d old new : List ℕ) (k : ℕ) : Type 0 where
@@ -23,5 +23,5 @@ pub record RaisedIn (sources sinks : List ℕ) (t : ℕ) (old new : List ℕ) (k
 pub record Raising (sources sinks memory : List ℕ) : Type 0 where
   pub ends : (i : ℕ) → i < length sources → i < length sinks
   pub few : length sources ≤ mostCommodities
-  pub places : 97 ≤ length memory
+  pub places : memoryNumbers ≤ length memory
   pub nodes : (i : ℕ) → i < length sources → getD sources i 0 ≤ mostNodes

@@ -5,10 +5,11 @@ use Rattle.bounds.specs.Bounds.{mostNodes}
 use Rattle.network.specs.Ends.{Positive}
 use Rattle.network.specs.Network.{Network, commodities}
 use Rattle.paths.specs.Graph.{Fit}
+use Rattle.choice.specs.Memory.{distanceNumbers}
 
 -- The tables fit, lengths are at least 1, there are no more nodes than the cap allows, and some commodity.
 pub record Survey (net : Network) (l : List ℕ) : Type 0 where
-  pub fit : Fit net l 65
+  pub fit : Fit net l distanceNumbers
   pub positive : Positive net l
   pub few : net .nodes ≤ mostNodes
   pub some : 1 ≤ commodities net

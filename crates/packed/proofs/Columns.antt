@@ -7,7 +7,7 @@ use borrow.Rule.Slice.PartMut.{same-len-mid, mid-len, drop-put, postOf}
 use lib.ListN.{length, getD, take, drop, length-take, length-drop, take-append-drop}
 use lib.Seq.{length-take-le, take-at, drop-at, take-append-le, drop-append-le, drop-drop, getD-take, getD-drop}
 use Rattle.network.specs.Network.{arcs, commodities, tail, head, capacity, source, sink}
-use Rattle.packed.specs.Packed.{column, put, netIn, Packed}
+use Rattle.packed.specs.Packed.{column, put, tailsFrom, headsFrom, capacitiesFrom, sourcesFrom, sinksFrom, netIn, Packed}
 use Rattle.packed.specs.declared.Shape.{Shape}
 
 module _ (a n : ℕ) (xs : List ℕ) where
@@ -48,20 +48,20 @@ module _ (a n : ℕ) (xs : List ℕ) where
 module _ {s : Shape} {xs : List ℕ} (p : Packed s xs) where
   pub arcs-is : arcs (netIn s xs) ≡ s .arcs
   unfolding netIn
-  arcs-is = column-length 0 (s .arcs) xs (omega (arith, p .few-arcs, p .places))
+  arcs-is = column-length tailsFrom (s .arcs) xs (omega (arith, p .few-arcs, p .places))
 
   pub heads-length : length (netIn s xs .heads) ≡ arcs (netIn s xs)
   unfolding netIn
-  heads-length = column-length 256 (s .arcs) xs (omega (arith, p .few-arcs, p .places)) ∙ sym arcs-is
+  heads-length = column-length headsFrom (s .arcs) xs (omega (arith, p .few-arcs, p .places)) ∙ sym arcs-is
 
   pub capacities-length : length (netIn s xs .capacities) ≡ arcs (netIn s xs)
   unfolding netIn
-  capacities-length = column-length 512 (s .arcs) xs (omega (arith, p .few-arcs, p .places)) ∙ sym arcs-is
+  capacities-length = column-length capacitiesFrom (s .arcs) xs (omega (arith, p .few-arcs, p .places)) ∙ sym arcs-is
 
   pub commodities-is : commodities (netIn s xs) ≡ s .commodities
   unfolding netIn
-  commodities-is = column-length 768 (s .commodities) xs (omega (arith, p .few-commodities, p .places))
+  commodities-is = column-length sourcesFrom (s .commodities) xs (omega (arith, p .few-commodities, p .places))
 
   pub sinks-length : length (netIn s xs .sinks) ≡ commodities (netIn s xs)
   unfolding netIn
-  sinks-length = column-length 800 (s .commodities) xs (omega (arith, p .few-commodities, p .places)) ∙ sym commodities-is
+  sinks-length = column-length sinksFrom (s .commodities) xs (omega (arith, p .few-commodities, p .places)) ∙ sym commodities-is

@@ -16,35 +16,66 @@ column a n xs = take (a + n - a) (drop a xs)
 abbrev pub put : ℕ → ℕ → List ℕ → List ℕ → List ℕ
 put a n xs ys = take a xs ++ (ys ++ drop (a + n - a) (drop a xs))
 
--- The columns stand at the places that src/lib.rt names.
+-- Where the columns begin, as src/lib.rt names them, and how many numbers they take.
+abbrev pub tailsFrom : ℕ
+tailsFrom = 0
+
+abbrev pub headsFrom : ℕ
+headsFrom = 256
+
+abbrev pub capacitiesFrom : ℕ
+capacitiesFrom = 512
+
+abbrev pub sourcesFrom : ℕ
+sourcesFrom = 768
+
+abbrev pub sinksFrom : ℕ
+sinksFrom = 800
+
+abbrev pub netNumbers : ℕ
+netNumbers = 832
+
+-- The network.
 unfoldable pub netIn : Shape → List ℕ → Network
 netIn s xs =
     record {
       nodes = s .nodes;
-      tails = column 0 (s .arcs) xs;
-      heads = column 256 (s .arcs) xs;
-      capacities = column 512 (s .arcs) xs;
-      sources = column 768 (s .commodities) xs;
-      sinks = column 800 (s .commodities) xs;
+      tails = column tailsFrom (s .arcs) xs;
+      heads = column headsFrom (s .arcs) xs;
+      capacities = column capacitiesFrom (s .arcs) xs;
+      sources = column sourcesFrom (s .commodities) xs;
+      sinks = column sinksFrom (s .commodities) xs;
     }
 
 -- The columns do not overlap, and the slice has them all.
 pub record Packed (s : Shape) (xs : List ℕ) : Type 0 where
   pub few-arcs : s .arcs ≤ mostArcs
   pub few-commodities : s .commodities ≤ mostCommodities
-  pub places : 832 ≤ length xs
+  pub places : netNumbers ≤ length xs
 
 -- An accepted network at precision q.
 pub record Lent (s : Shape) (q : ℕ) (xs : List ℕ) : Type 0 where
   pub sound : Sound (netIn s xs) q
   pub packed : Packed s xs
 
--- The tables of the arcs stand in one slice in the same way.
+-- The tables of the arcs stand in one slice in the same way: where they begin, and how many numbers they take.
+abbrev pub lengthsFrom : ℕ
+lengthsFrom = 0
+
+abbrev pub loadsFrom : ℕ
+loadsFrom = 256
+
+abbrev pub keptFrom : ℕ
+keptFrom = 512
+
+abbrev pub tableNumbers : ℕ
+tableNumbers = 768
+
 abbrev pub lengthsIn : Shape → List ℕ → List ℕ
-lengthsIn s xs = column 0 (s .arcs) xs
+lengthsIn s xs = column lengthsFrom (s .arcs) xs
 
 abbrev pub loadsIn : Shape → List ℕ → List ℕ
-loadsIn s xs = column 256 (s .arcs) xs
+loadsIn s xs = column loadsFrom (s .arcs) xs
 
 abbrev pub keptIn : Shape → List ℕ → List ℕ
-keptIn s xs = column 512 (s .arcs) xs
+keptIn s xs = column keptFrom (s .arcs) xs

@@ -8,6 +8,7 @@ use native.Mathlib.Nat.{mul-le-mul-right, div-lt-iff-lt-mul, mod-lt, div-add-mod
 use native.Mathlib.Omega.{arith}
 use lib.ListN.{length, getD}
 use Rattle.arith.proofs.Sums.{term-le-sum}
+use Rattle.bounds.specs.Bounds.{mostNodes, mostArcs, mostCapacity}
 use Rattle.length.specs.Length.{growth}
 use Rattle.network.specs.Network.{Network, arcs, commodities}
 use Rattle.network.specs.Flow.{loadOf}
@@ -60,12 +61,12 @@ module _ (net : Network) (q : ℕ) (lent : Whole net q) (s : State) (r : Reached
   arc : 1 ≤ length p
   arc = chosen-some net (s .lengths) (choiceOf i p) (chosen-at net q (lent .sound) s v (choiceOf i p) h) (sound-ends net q (lent .sound))
 
-  few : length p ≤ 64
+  few : length p ≤ mostNodes
   few =
       omega
       (arith, chosen-at net q (lent .sound) s v (choiceOf i p) h .few, lent .sound .counts .of-nodes .most)
 
-  small : draw caps p ≤ 1000
+  small : draw caps p ≤ mostCapacity
   small = draw-most caps p arc places (capacities .most)
 
   listed : i < commodities net
@@ -90,7 +91,7 @@ module _ (net : Network) (q : ℕ) (lent : Whole net q) (s : State) (r : Reached
   row-place : (j : ℕ) → j < length p → i * arcs net + getD p j 0 < length (s .flow)
   row-place j l = omega (arith, places j l, lent .capacities, mul-le-mul-right (arcs net) listed, v .table .rows)
 
-  arcs-few : length caps ≤ 256
+  arcs-few : length caps ≤ mostArcs
   arcs-few = omega (arith, lent .capacities, lent .sound .counts .of-arcs .most)
 
   grown-settling : Settling caps (longer caps q (draw caps p) p (s .lengths))

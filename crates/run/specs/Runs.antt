@@ -5,7 +5,7 @@ use mathlib.Core.Option.{some}
 use Prim.Native.Nat.{ℕ, _≤_}
 use Rattle.bounds.specs.Bounds.{mostNodes}
 use Rattle.network.specs.Network.{Network}
-use Rattle.packed.specs.Packed.{netIn, Lent}
+use Rattle.packed.specs.Packed.{netIn, Lent, tableNumbers}
 use Rattle.packed.specs.declared.Shape.{Shape}
 use Rattle.method.specs.Choice.{Choice, choice}
 use Rattle.method.specs.Iteration.{State, initial}
@@ -17,7 +17,7 @@ use Rattle.choice.specs.Memory.{Memory}
 pub record Room (s : Shape) (q : ℕ) (net indexes : List ℕ) (numbers places : ℕ) : Type 0 where
   pub lent : Lent s q net
   pub indexed : Indexed (netIn s net) indexes
-  pub tables : 768 ≤ numbers
+  pub tables : tableNumbers ≤ numbers
   pub path : mostNodes ≤ places
 
 -- Some commodity is joined: whatever the lengths, a path is chosen.

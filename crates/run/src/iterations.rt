@@ -10,13 +10,14 @@ ghost use Prim.Native.Nat.{_≤_};
 ghost use lib.ListN.{length, replicate};
 ghost use Rattle.bounds.specs.Bounds.{mostCommodities};
 ghost use Rattle.packed.specs.Packed.{put, netIn};
+ghost use Rattle.choice.specs.Memory.{memoryNumbers};
 ghost use Rattle.step.specs.Progress.{stateIn};
 ghost use Rattle.run.specs.Noted.{Iterating, Onward};
 ghost use Rattle.run.specs.Runs.{Room};
 
 // The bounds of the distances, 0 again where the lengths were halved: only then can a distance fall.
 fn forget(halved: bool, k: usize, memory: &mut [u64])
-    requires { ⌜ (k ≤ mostCommodities) × (97 ≤ length (now memory)) ⌝ }
+    requires { ⌜ (k ≤ mostCommodities) × (memoryNumbers ≤ length (now memory)) ⌝ }
     ensures { λ _. ⌜ now (memory .exit) ≡ cond halved (put 0 k (now (memory .entry)) (replicate k 0)) (now (memory .entry)) ⌝ }
 {
     if halved {

@@ -7,27 +7,27 @@ use lib.ListN.{length}
 use Rattle.network.specs.Network.{Network}
 use Rattle.packed.specs.Packed.{column, put}
 use Rattle.packed.proofs.Columns.{column-length, column-put, column-before, put-length}
-use Rattle.paths.specs.Index.{Into, Out}
-use Rattle.choice.specs.Calls.{Indexed}
+use Rattle.paths.specs.Index.{indexNumbers, Into, Out}
+use Rattle.choice.specs.Calls.{indexesNumbers, Indexed}
 
-module _ (net : Network) (xs a b : List ℕ) (room : 2180 ≤ length xs) (first : length a ≡ length (column 0 1090 xs)) where
-  first-size : length a ≡ 1090
-  first-size = first ∙ column-length 0 1090 xs (omega arith)
+module _ (net : Network) (xs a b : List ℕ) (room : indexesNumbers ≤ length xs) (first : length a ≡ length (column 0 indexNumbers xs)) where
+  first-size : length a ≡ indexNumbers
+  first-size = first ∙ column-length 0 indexNumbers xs (omega arith)
 
-  first-length : length (put 0 1090 xs a) ≡ length xs
-  first-length = put-length 0 1090 xs a (omega arith) first-size
+  first-length : length (put 0 indexNumbers xs a) ≡ length xs
+  first-length = put-length 0 indexNumbers xs a (omega arith) first-size
 
-  module _ (second : length b ≡ length (column 1090 1090 (put 0 1090 xs a))) where
-    second-size : length b ≡ 1090
-    second-size = second ∙ column-length 1090 1090 (put 0 1090 xs a) (omega (arith, first-length))
+  module _ (second : length b ≡ length (column indexNumbers indexNumbers (put 0 indexNumbers xs a))) where
+    second-size : length b ≡ indexNumbers
+    second-size = second ∙ column-length indexNumbers indexNumbers (put 0 indexNumbers xs a) (omega (arith, first-length))
 
-    pub both : Into net a → Out net b → Indexed net (put 1090 1090 (put 0 1090 xs a) b)
+    pub both : Into net a → Out net b → Indexed net (put indexNumbers indexNumbers (put 0 indexNumbers xs a) b)
     both into out =
         record {
-          numbers = omega (arith, put-length 1090 1090 (put 0 1090 xs a) b (omega (arith, first-length)) second-size, first-length);
+          numbers = omega (arith, put-length indexNumbers indexNumbers (put 0 indexNumbers xs a) b (omega (arith, first-length)) second-size, first-length);
           into =
               subst (Into net)
-              (sym (column-before 1090 1090 (put 0 1090 xs a) 0 1090 b (omega (arith, first-length)) (omega arith) ∙
-              column-put 0 1090 xs a (omega arith) first-size)) into;
-          out = subst (Out net) (sym (column-put 1090 1090 (put 0 1090 xs a) b (omega (arith, first-length)) second-size)) out;
+              (sym (column-before indexNumbers indexNumbers (put 0 indexNumbers xs a) 0 indexNumbers b (omega (arith, first-length)) (omega arith) ∙
+              column-put 0 indexNumbers xs a (omega arith) first-size)) into;
+          out = subst (Out net) (sym (column-put indexNumbers indexNumbers (put 0 indexNumbers xs a) b (omega (arith, first-length)) second-size)) out;
         }

@@ -5,10 +5,11 @@ use Prim.Native.Nat.{ℕ, _*_, _≤_}
 use lib.ListN.{length}
 use Rattle.bounds.specs.Bounds.{mostNodes}
 use Rattle.network.specs.Network.{Network, arcs, commodities}
-use Rattle.packed.specs.Packed.{netIn, Lent}
+use Rattle.packed.specs.Packed.{netIn, Lent, tableNumbers}
 use Rattle.packed.specs.declared.Shape.{Shape}
 use Rattle.method.specs.Iteration.{initial}
-use Rattle.choice.specs.Memory.{Memory}
+use Rattle.choice.specs.Calls.{indexesNumbers}
+use Rattle.choice.specs.Memory.{memoryNumbers, Memory}
 use Rattle.step.specs.Progress.{stateIn, begun}
 
 -- The tables are those of the method's start, and the memory holds by its lengths.
@@ -20,11 +21,11 @@ pub record Cleared (s : Shape) (net : Network) (flow tables memory : List ℕ) :
 pub record Preparing (s : Shape) (q : ℕ) (net flow tables memory : List ℕ) : Type 0 where
   pub lent : Lent s q net
   pub flows : length flow ≡ commodities (netIn s net) * arcs (netIn s net)
-  pub tabled : 768 ≤ length tables
-  pub memorised : 97 ≤ length memory
+  pub tabled : tableNumbers ≤ length tables
+  pub memorised : memoryNumbers ≤ length memory
 
 -- What the solver asks with work space lent.
 pub record Working (s : Shape) (q : ℕ) (net indexes flow tables memory path : List ℕ) : Type 0 where
   pub preparing : Preparing s q net flow tables memory
-  pub indexes-of : 2180 ≤ length indexes
+  pub indexes-of : indexesNumbers ≤ length indexes
   pub path-of : mostNodes ≤ length path

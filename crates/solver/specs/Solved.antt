@@ -9,19 +9,19 @@ use Rattle.method.specs.Guarantee.{Guarantee}
 use Rattle.method.specs.declared.Answer.{Answer}
 use Rattle.tables.specs.Calls.{Ranking}
 use Rattle.step.specs.declared.Progress.{Progress}
-use Rattle.packed.specs.Packed.{netIn, Packed, Lent, loadsIn}
+use Rattle.packed.specs.Packed.{netIn, Packed, Lent, loadsIn, tableNumbers}
 use Rattle.packed.specs.declared.Shape.{Shape}
 
 -- An accepted network, a flow table of just the size that its outcome has, and room for the tables of the arcs.
 pub record Solving (s : Shape) (q : ℕ) (net flow tables : List ℕ) : Type 0 where
   pub lent : Lent s q net
   pub flows : length flow ≡ commodities (netIn s net) * arcs (netIn s net)
-  pub places : 768 ≤ length tables
+  pub places : tableNumbers ≤ length tables
 
 -- What the answer asks: loads and capacities that can be compared.
 pub record Answering (s : Shape) (net tables : List ℕ) : Type 0 where
   pub packed : Packed s net
-  pub places : 768 ≤ length tables
+  pub places : tableNumbers ≤ length tables
   pub ranking : Ranking (loadsIn s tables) (netIn s net .capacities)
 
 -- The answer of a run that left these loads of m arcs, and these numbers.

@@ -16,14 +16,15 @@ use tables::loads;
 ghost use Prim.Native.Nat.{_≤_};
 ghost use lib.ListN.{length};
 ghost use Rattle.packed.specs.Packed.{netIn, keptIn};
+ghost use Rattle.paths.specs.Index.{indexNumbers};
 ghost use Rattle.paths.specs.Indexing.{Indexable};
-ghost use Rattle.choice.specs.Calls.{Indexed};
+ghost use Rattle.choice.specs.Calls.{indexesNumbers, Indexed};
 ghost use Rattle.solver.specs.Prepared.{Preparing, Cleared, Working};
 ghost use Rattle.solver.specs.Solved.{Solved};
 
 // Both indexes.
 fn index_both(s: Shape, net: &[u64], indexes: &mut [u64])
-    requires { ⌜ Indexable s (now net) 1090 × (2180 ≤ length (now indexes)) ⌝ }
+    requires { ⌜ Indexable s (now net) indexNumbers × (indexesNumbers ≤ length (now indexes)) ⌝ }
     ensures { λ _. ⌜ Indexed (netIn s (now (net .entry))) (now (indexes .exit)) ⌝ }
 {
     index::index_into(s, net, &mut indexes[INTO..INTO + INDEX_NUMBERS]);

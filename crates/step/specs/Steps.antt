@@ -6,7 +6,7 @@ use Prim.Native.Nat.{ℕ, _*_, _^_, _≤_, _<_}
 use lib.ListN.{length}
 use Rattle.network.specs.Network.{Network, arcs}
 use Rattle.network.specs.Path.{pathLength}
-use Rattle.packed.specs.Packed.{netIn, Packed}
+use Rattle.packed.specs.Packed.{netIn, Packed, tableNumbers}
 use Rattle.packed.specs.declared.Shape.{Shape}
 use Rattle.method.specs.Choice.{choiceOf}
 use Rattle.method.specs.Iteration.{State, weight, draw, advance}
@@ -36,7 +36,7 @@ pub record Kept (net : Network) (threshold : ℕ) (s : State) (p : Progress) : T
 -- All of it, of the slices that it is lent.
 pub record Steppable (s : Shape) (q threshold commodity : ℕ) (net path : List ℕ) (a : ℕ) (flow tables : List ℕ) (p : Progress) : Type 0 where
   pub packed : Packed s net
-  pub places : 768 ≤ length tables
+  pub places : tableNumbers ≤ length tables
   pub stepping : Stepping (netIn s net) q commodity path a (stateIn s flow tables p)
   pub kept : Kept (netIn s net) threshold (stateIn s flow tables p) p
 

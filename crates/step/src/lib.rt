@@ -12,7 +12,7 @@ ghost use mathlib.Core.Path.{_≡_};
 ghost use Prim.Native.Nat.{_+_, _≤_, _<_, _^_};
 ghost use lib.ListN.{length};
 ghost use Rattle.bounds.specs.Bounds.{mostArcs};
-ghost use Rattle.packed.specs.Packed.{netIn};
+ghost use Rattle.packed.specs.Packed.{netIn, tableNumbers};
 ghost use Rattle.step.specs.Progress.{stateIn, keeping, counted};
 ghost use Rattle.step.specs.Steps.{Steppable, Stepped};
 
@@ -32,7 +32,7 @@ pub struct Progress {
 
 // The lengths kept where they gave a better bound.
 fn keep(better: bool, m: usize, tables: &mut [u64])
-    requires { ⌜ (m ≤ mostArcs) × (768 ≤ length (now tables)) ⌝ }
+    requires { ⌜ (m ≤ mostArcs) × (tableNumbers ≤ length (now tables)) ⌝ }
     ensures { λ r. ⌜ now (tables .exit) ≡ keeping better m (now (tables .entry)) ⌝ }
 {
     if better {

@@ -6,10 +6,11 @@ use mathlib.Core.Path.{_≡_, sym}
 use Prim.Native.Nat.{_+_, _<_, _≤_}
 use native.Mathlib.Omega.{arith}
 use lib.ListN.{length, getD}
+use Rattle.bounds.specs.Bounds.{mostCommodities}
 use Rattle.network.specs.Network.{Network, source, sink}
-use Rattle.packed.specs.Packed.{netIn}
+use Rattle.packed.specs.Packed.{netIn, sourcesFrom, sinksFrom}
 use Rattle.packed.proofs.Columns.{column-at, column-length, commodities-is}
-use Rattle.choice.specs.Memory.{boundsIn}
+use Rattle.choice.specs.Memory.{distancesFrom, distanceNumbers, memoryNumbers, boundsIn}
 use Rattle.choice.proofs.Selects.{selects-nothing, selects-walkable, selects-walk}
 use Rattle.choice.proofs.choose.Statement.{statement}
 use Rattle.choice.proofs.choose.Tie as tie
@@ -28,7 +29,7 @@ net s = netIn (s .args .s) (now (s .args .net))
 among : (c : tie.After-nearest) → c .nearest .result < entry c .args .s .commodities
 among c = omega (arith, c .nearest .ensures .least .among, commodities-is (entry c .pre .packed))
 
-places : (c : tie.After-nearest) → 97 ≤ length (c .nearest .last .1 .1 .1 .1 .0)
+places : (c : tie.After-nearest) → memoryNumbers ≤ length (c .nearest .last .1 .1 .1 .1 .0)
 places c = omega (arith, c .nearest .kept .1 .1 .1 .1 .0, entry c .pre .memory-of .places)
 
 own : (c : tie.After-nearest) → let M = c .nearest .last .1 .1 .1 .1 .0 in let i = c .nearest .result in
@@ -36,13 +37,13 @@ own : (c : tie.After-nearest) → let M = c .nearest .last .1 .1 .1 .1 .0 in let
 own c = sym (column-at 0 (entry c .args .s .commodities) (c .nearest .last .1 .1 .1 .1 .0) (c .nearest .result) (among c))
 
 -- its two ends, as they are read
-from : (c : tie.After-nearest) → getD (now (entry c .args .net)) (768 + c .nearest .result) 0 ≡ source (net (entry c)) (c .nearest .result)
+from : (c : tie.After-nearest) → getD (now (entry c .args .net)) (sourcesFrom + c .nearest .result) 0 ≡ source (net (entry c)) (c .nearest .result)
 unfolding netIn
-from c = sym (column-at 768 (entry c .args .s .commodities) (now (entry c .args .net)) (c .nearest .result) (among c))
+from c = sym (column-at sourcesFrom (entry c .args .s .commodities) (now (entry c .args .net)) (c .nearest .result) (among c))
 
-to : (c : tie.After-nearest) → getD (now (entry c .args .net)) (800 + c .nearest .result) 0 ≡ sink (net (entry c)) (c .nearest .result)
+to : (c : tie.After-nearest) → getD (now (entry c .args .net)) (sinksFrom + c .nearest .result) 0 ≡ sink (net (entry c)) (c .nearest .result)
 unfolding netIn
-to c = sym (column-at 800 (entry c .args .s .commodities) (now (entry c .args .net)) (c .nearest .result) (among c))
+to c = sym (column-at sinksFrom (entry c .args .s .commodities) (now (entry c .args .net)) (c .nearest .result) (among c))
 
 nearest-requires : tie.Need-nearest-requires
 nearest-requires c κs =
@@ -58,7 +59,7 @@ returns c =
     }
 
 -- places that are read are within the slices
-few : (c : tie.After-nearest) → c .nearest .result < 32
+few : (c : tie.After-nearest) → c .nearest .result < mostCommodities
 few c = omega (arith, among c, entry c .pre .packed .few-commodities)
 
 mul-distance : tie.Need-mul-distance
@@ -96,7 +97,7 @@ walk-requires c κs =
     let t = c .before .before .before .before .before .before in
     let s = search-at t in
     selects-walkable (entry s .pre .survey) (s .nearest .ensures) (own s) (t .if1 .left) (from s) (to s)
-    (column-length 32 65 (s .nearest .last .1 .1 .1 .1 .0) (places s)) (entry s .pre .indexed .out) (entry s .pre .room)
+    (column-length distancesFrom distanceNumbers (s .nearest .last .1 .1 .1 .1 .0) (places s)) (entry s .pre .indexed .out) (entry s .pre .room)
 
 returns-2 : tie.Need-returns-2
 returns-2 c =

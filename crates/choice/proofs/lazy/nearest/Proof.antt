@@ -12,7 +12,7 @@ use Rattle.packed.proofs.Columns.{commodities-is, sinks-length, column-length, 
 use Rattle.paths.specs.Far.{far}
 use Rattle.paths.specs.Graph.{Table}
 use Rattle.choice.specs.Closest.{Closest}
-use Rattle.choice.specs.Memory.{boundsIn}
+use Rattle.choice.specs.Memory.{distancesFrom, distanceNumbers, memoryNumbers, boundsIn}
 use Rattle.choice.specs.Raised.{Raised}
 use Rattle.choice.proofs.Memories.{looked-raised, looked-distances, looked-numbers}
 use Rattle.choice.proofs.Slack.{slack}
@@ -48,14 +48,14 @@ abbrev net : tie.Start Inv-loop μ-loop → Network
 net s = netIn (s .args .s) (now (s .args .net))
 
 -- there is a sink for each commodity, and room in the memory
-places : (c : tie.At-loop Inv-loop μ-loop) → 97 ≤ length (c .loop .memory)
+places : (c : tie.At-loop Inv-loop μ-loop) → memoryNumbers ≤ length (c .loop .memory)
 places c = omega (arith, c .loop .inv .1, entry c .pre .memory-of .places)
 
 among : (c : tie.At-loop Inv-loop μ-loop) → c .loop .i < length (net (entry c) .sinks)
 among c = omega (arith, c .loop .inv .0 .least .among, sinks-length (entry c .pre .packed))
 
-searched-size : (c : tie.After-distances Inv-loop μ-loop) → length (c .distances .last .1 .1 .1 .1 .1 .0) ≡ 65
-searched-size c = c .distances .kept .1 .1 .1 .1 .1 .0 ∙ column-length 32 65 (turn c .loop .memory) (places (turn c))
+searched-size : (c : tie.After-distances Inv-loop μ-loop) → length (c .distances .last .1 .1 .1 .1 .1 .0) ≡ distanceNumbers
+searched-size c = c .distances .kept .1 .1 .1 .1 .1 .0 ∙ column-length distancesFrom distanceNumbers (turn c .loop .memory) (places (turn c))
 
 least-requires : tie.Need-least-requires Inv-loop μ-loop
 least-requires c κs =
@@ -76,7 +76,7 @@ distances-requires c κs =
     let t = c .before .before in
     let p = entry t .pre in
     record {
-      fit = rw (column-length 32 65 (t .loop .memory) (places t)) (p .survey .fit);
+      fit = rw (column-length distancesFrom distanceNumbers (t .loop .memory) (places t)) (p .survey .fit);
       sink = p .survey .fit .ends .sinks (t .loop .i) (t .loop .inv .0 .least .among);
       index = p .index;
     }
@@ -90,7 +90,7 @@ raise-requires c κs =
     record {
       ends = λ i b. omega (arith, sinks-length (p .packed));
       few = omega (arith, commodities-is (p .packed), p .packed .few-commodities);
-      places = omega (arith, put-length 32 65 (t .loop .memory) (f .distances .last .1 .1 .1 .1 .1 .0) (places t) (searched-size f), places t);
+      places = omega (arith, put-length distancesFrom distanceNumbers (t .loop .memory) (f .distances .last .1 .1 .1 .1 .1 .0) (places t) (searched-size f), places t);
       nodes = λ i b. omega (arith, p .survey .fit .ends .sources i b, p .survey .few);
     }
 

@@ -9,7 +9,7 @@ use native.Mathlib.Nat.{le-antisymm}
 use native.Mathlib.Omega.{arith}
 use lib.ListN.{length}
 use Rattle.network.specs.Network.{Network, arcs}
-use Rattle.packed.specs.Packed.{netIn, lengthsIn, loadsIn, keptIn}
+use Rattle.packed.specs.Packed.{netIn, lengthsIn, loadsIn, keptIn, loadsFrom, tableNumbers}
 use Rattle.packed.proofs.Columns.{column-length, arcs-is}
 use Rattle.method.specs.Iteration.{initial}
 use Rattle.method.proofs.Guaranteed.{always}
@@ -82,13 +82,13 @@ start-of c = entry (search-at (choice-at c))
 abbrev tables : tie.After-run → List ℕ
 tables c = c .run .last .1 .1 .1 .1 .1 .0
 
-room : (c : tie.After-run) → 768 ≤ length (tables c)
+room : (c : tie.After-run) → tableNumbers ≤ length (tables c)
 room c = omega (arith, c .run .kept .1 .1 .1 .1 .1 .0, start-of c .pre .0 .tables)
 
 loaded : (c : tie.After-run) → length (loadsIn (start-of c .args .s) (tables c)) ≡ arcs (net (start-of c))
 loaded c =
     let a = start-of c .pre .0 .lent .packed in
-    column-length 256 (start-of c .args .s .arcs) (tables c) (omega (arith, a .few-arcs, room c)) ∙ sym (arcs-is a)
+    column-length loadsFrom (start-of c .args .s .arcs) (tables c) (omega (arith, a .few-arcs, room c)) ∙ sym (arcs-is a)
 
 answer-requires : tie.Need-answer-requires
 answer-requires c κs =

@@ -7,7 +7,7 @@ use Prim.Native.Nat.{ℕ, _≤_}
 use native.Mathlib.Omega.{arith}
 use lib.ListN.{length, replicate}
 use Rattle.method.specs.Iteration.{initial}
-use Rattle.packed.specs.Packed.{column, put, netIn}
+use Rattle.packed.specs.Packed.{column, put, netIn, capacitiesFrom, lengthsFrom, loadsFrom, keptFrom}
 use Rattle.packed.proofs.Columns.{column-length, arcs-is, capacities-length, commodities-is}
 use Rattle.choice.specs.Memory.{Memory}
 use Rattle.choice.proofs.Memories.{memory-zero}
@@ -42,8 +42,8 @@ unfolding netIn
 start-requires c κs =
     let s = c .before .before .before .before .before .before in
     let a = s .pre .lent in
-    let full : length (column 512 (m s) (now (s .args .net))) ≡ m s = capacities-length (a .packed) ∙ arcs-is (a .packed) in (
-      column-length 0 (m s) (now (s .args .tables)) (omega (arith, a .packed .few-arcs, s .pre .tabled)) ∙ sym full,
+    let full : length (column capacitiesFrom (m s) (now (s .args .net))) ≡ m s = capacities-length (a .packed) ∙ arcs-is (a .packed) in (
+      column-length lengthsFrom (m s) (now (s .args .tables)) (omega (arith, a .packed .few-arcs, s .pre .tabled)) ∙ sym full,
       record {
         least = λ e l. a .sound .arc-capacity e (omega (arith, capacities-length (a .packed))) .least;
         most = λ e l. a .sound .arc-capacity e (omega (arith, capacities-length (a .packed))) .most;
@@ -52,17 +52,17 @@ start-requires c κs =
 
 -- the tables of the arcs after each call that changes them
 started : (c : tie.After-start) → let s = entry c in let T = now (s .args .tables) in
-    Tabled (m s) (put 0 (m s) T (c .start .last .1 .0)) (c .start .last .1 .0) (column 256 (m s) T) (column 512 (m s) T)
+    Tabled (m s) (put lengthsFrom (m s) T (c .start .last .1 .0)) (c .start .last .1 .0) (column loadsFrom (m s) T) (column keptFrom (m s) T)
 started c =
     let s = entry c in
     with-lengths (tabled (m s) (now (s .args .tables)) (s .pre .lent .packed .few-arcs) (s .pre .tabled)) (c .start .last .1 .0) (c .start .kept .1 .0)
 
 unloaded : (c : tie.After-clear) → let f = start-at c in let s = entry f in let T = now (s .args .tables) in
-    Tabled (m s) (put 256 (m s) (put 0 (m s) T (f .start .last .1 .0)) (c .clear .last .0)) (f .start .last .1 .0) (c .clear .last .0) (column 512 (m s) T)
+    Tabled (m s) (put loadsFrom (m s) (put lengthsFrom (m s) T (f .start .last .1 .0)) (c .clear .last .0)) (f .start .last .1 .0) (c .clear .last .0) (column keptFrom (m s) T)
 unloaded c = with-loads (started (start-at c)) (c .clear .last .0) (c .clear .kept .0)
 
 cleared : (c : tie.After-clear2) → let g = loads-at c in let f = start-at g in let s = entry f in let T = now (s .args .tables) in
-    Tabled (m s) (put 512 (m s) (put 256 (m s) (put 0 (m s) T (f .start .last .1 .0)) (g .clear .last .0)) (c .clear2 .last .0)) (f .start .last .1 .0)
+    Tabled (m s) (put keptFrom (m s) (put loadsFrom (m s) (put lengthsFrom (m s) T (f .start .last .1 .0)) (g .clear .last .0)) (c .clear2 .last .0)) (f .start .last .1 .0)
     (g .clear .last .0) (c .clear2 .last .0)
 cleared c = with-kept (unloaded (loads-at c)) (c .clear2 .last .0) (c .clear2 .kept .0)
 
@@ -82,7 +82,7 @@ returns c =
       state =
           in-slice (cleared kept) (λ L Y K. stateOf L (flow .clear3 .last .0) Y K begun ≡ initial net)
           (initial-is (whole (p .lent)) (start .start .ensures) (loads .clear .ensures) (kept .clear2 .ensures) (flow .clear3 .ensures)
-          (sym (arcs-is (p .lent .packed))) (column-size (started start) 256 (omega arith)) (column-size (unloaded loads) 512 (omega arith)) (p .flows));
+          (sym (arcs-is (p .lent .packed))) (column-size (started start) loadsFrom (omega arith)) (column-size (unloaded loads) keptFrom (omega arith)) (p .flows));
       memory-of =
           memory-zero (now (z .memory)) (last .clear4 .last .0) (p .lent .packed .few-commodities) (sym (commodities-is (p .lent .packed))) (p .memorised)
           (last .clear4 .ensures ∙
