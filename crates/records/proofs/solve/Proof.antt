@@ -9,7 +9,7 @@
 --     begins   up to that verdict
 -- Of `check_call` and `judge` the proof knows only that each meets its contract. With 32 locals, local i stands at 2 * (31 - i) behind what is put
 -- in front. Assumes nothing.
-use mathlib.Core.Path.{_≡_, refl, sym, ap, _∙_}
+use mathlib.Core.Path.{_≡_, refl, sym, ap}
 use mathlib.Core.Bool.{Bool, true, false}
 use mathlib.Core.List.{List, [], _∷_, _++_}
 use mathlib.Core.WellFounded.{WellFounded, InvImage·wf}

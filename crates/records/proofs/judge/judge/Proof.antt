@@ -8,7 +8,7 @@ use lib.ListN.{length}
 use borrow.Author.Needs.{needs}
 use Rattle.network.specs.Network.{Network}
 use Rattle.network.specs.Verdict.{verdict, itemConditions}
-use Rattle.packed.specs.Packed.{netIn, Packed}
+use Rattle.packed.specs.Packed.{Packed}
 use Rattle.packed.specs.declared.Shape.{Shape}
 use Rattle.records.specs.Parts.{networkIn}
 use Rattle.records.proofs.Judged.{lends, replied-refused, replied-same}
