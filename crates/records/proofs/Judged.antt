@@ -62,8 +62,8 @@ module _ (net : Network) (q : ℕ) (flow lengths : List ℕ) where
         guarantee = λ _. g;
       }
 
--- What is said of a network that passes is said of the same network by another name.
+-- What is said of a network is said of the same network by another name.
 pub replied-same :
-    {net net' : Network} {q : ℕ} {flow lengths flow' lengths' : List ℕ} {r : Reply} → net ≡ net' → verdict (itemConditions net) ≡ Accepted →
-    Replied net q Accepted flow lengths flow' lengths' r → Replied net' q (verdict (itemConditions net')) flow lengths flow' lengths' r
-replied-same e h p = rw (← e) (rw h p)
+    {net net' : Network} {q : ℕ} {v : Verdict} {flow lengths flow' lengths' : List ℕ} {r : Reply} → net ≡ net' →
+    Replied net q v flow lengths flow' lengths' r → Replied net' q v flow lengths flow' lengths' r
+replied-same e p = rw (← e) p

@@ -1,7 +1,7 @@
 -- The verdict on a call, by its sizes and tables first, and what it leaves. Assumes nothing.
-use mathlib.Core.Path.{_≡_, refl, sym, ap, _∙_}
+use mathlib.Core.Path.{_≡_, sym, ap, _∙_}
 use mathlib.Core.List.{List, _++_, append-assoc}
-use Prim.Native.Nat.{ℕ, _*_, _/_, _≤_}
+use Prim.Native.Nat.{ℕ, _*_, _/_}
 use lib.Dec.{ltb}
 use borrow.Author.Tests.{ltb-false}
 use lib.ListN.{length, length-map}
@@ -20,7 +20,7 @@ use Rattle.records.specs.declared.Arc.{Arc}
 use Rattle.records.specs.declared.Reply.{Reply}
 use Rattle.records.specs.declared.Reply.the-variants.{TurnedDown}
 use Rattle.records.proofs.Copying.{filled, copied}
-use Rattle.records.proofs.Judged.{replied-refused}
+use Rattle.records.proofs.Judged.{replied-refused, replied-same}
 use Rattle.records.proofs.Pairs.{length-sources}
 
 room : (k m : ℕ) (flow lengths : List ℕ) → Quiet (recordConditions k m (length flow) (length lengths)) → Roomy k m flow lengths
@@ -61,11 +61,21 @@ module _ (n q : ℕ) (records : List Arc) (pairs flow lengths : List ℕ) where
           room = room (length pairs / 2) (length records) flow lengths (each-right sizes quiet);
         }
 
-    -- and the arcs and commodities decide.
-    pub served-judged :
-        (flow' lengths' : List ℕ) (r : Reply) →
-        let copy = networkIn n (length records) (filled records (length records)) pairs in
-        Replied copy q (verdict (itemConditions copy)) flow lengths flow' lengths' r → Recorded n q records pairs flow lengths flow' lengths' r
-    served-judged flow' lengths' r p =
-        rw (by-items ∙ first-accepts (sizes ++ own) (itemConditions net) h)
-        (rw (copied records (sizable .counts .of-arcs .most) n pairs) at p)
+    -- and the arcs and commodities of the copy decide.
+    abbrev copy : Network
+    copy = networkIn n (length records) (filled records (length records)) pairs
+
+    decides : verdictLent net q flow lengths ≡ verdict (itemConditions copy)
+    decides =
+        by-items ∙
+        (first-accepts (sizes ++ own) (itemConditions net) h ∙
+        ap (λ (x : Network). verdict (itemConditions x)) (sym (copied records (sizable .counts .of-arcs .most) n pairs)))
+
+    pub served-loose : (w : Refusal) → verdict (itemConditions copy) ≡ Refused w → Recorded n q records pairs flow lengths flow lengths (TurnedDown w)
+    served-loose w e = replied-refused net q flow lengths _ w (decides ∙ e)
+
+    pub served-passed :
+        verdict (itemConditions copy) ≡ Accepted → (flow' lengths' : List ℕ) (r : Reply) → Replied copy q Accepted flow lengths flow' lengths' r →
+        Recorded n q records pairs flow lengths flow' lengths' r
+    served-passed e flow' lengths' r p =
+        rw (decides ∙ e) (replied-same (copied records (sizable .counts .of-arcs .most) n pairs) p)

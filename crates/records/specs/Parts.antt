@@ -3,8 +3,11 @@ use mathlib.Core.Path.{_≡_}
 use mathlib.Core.List.{List}
 use Prim.Native.Nat.{ℕ, zero, suc, _*_, _/_, _≤_, _<_}
 use lib.ListN.{length}
+use Rattle.bounds.specs.Bounds.{mostArcs, mostCommodities}
 use Rattle.network.specs.Network.{Network}
 use Rattle.network.specs.Sound.{Counts}
+use Rattle.network.specs.Verdict.{verdict, itemConditions}
+use Rattle.network.specs.declared.Verdict.the-variants.{Accepted}
 use Rattle.packed.specs.Packed.{column, Packed, Lent}
 use Rattle.packed.specs.declared.Shape.{Shape}
 use Rattle.records.specs.Records.{sourcesIn, sinksIn}
@@ -46,7 +49,17 @@ pub record Pairing (s : Shape) (pairs net : List ℕ) : Type 0 where
   pub packed : Packed s net
   pub each : s .commodities ≡ length pairs / 2
 
+-- Columns with a place for each arc and for each pair.
+pub record Checking (m : ℕ) (pairs : List ℕ) : Type 0 where
+  pub few-arcs : m ≤ mostArcs
+  pub few-pairs : length pairs / 2 ≤ mostCommodities
+
 -- An accepted network, and room for its outcome.
 pub record Delivering (s : Shape) (q : ℕ) (net flow lengths : List ℕ) : Type 0 where
   pub lent : Lent s q net
   pub room : Roomy (s .commodities) (s .arcs) flow lengths
+
+-- A call that has passed.
+pub record Passed (n q m : ℕ) (net pairs flow lengths : List ℕ) : Type 0 where
+  pub sizes : Sizable n q m pairs flow lengths
+  pub items : verdict (itemConditions (networkIn n m net pairs)) ≡ Accepted

@@ -1,5 +1,4 @@
-// A call whose sizes have passed and whose records have been copied: its pairs put beside them, arcs and commodities checked, and the network
-// solved into the lent tables.
+// A call whose sizes have passed and whose records have been copied: arcs and commodities checked, and the network solved into the lent tables.
 use crate::Reply;
 use checks::items::check_items;
 use network::Verdict;
@@ -14,7 +13,7 @@ ghost use mathlib.Core.Path.{_≡_};
 ghost use Rattle.network.specs.Verdict.{verdict, itemConditions};
 ghost use Rattle.network.specs.declared.Verdict.the-variants.{Accepted};
 ghost use Rattle.packed.specs.Packed.{netIn};
-ghost use Rattle.records.specs.Parts.{Sizable, halfOf, Halving, Pairing, Delivering, networkIn};
+ghost use Rattle.records.specs.Parts.{networkIn, halfOf, Halving, Pairing, Checking, Delivering, Passed};
 ghost use Rattle.records.specs.Records.{Replied};
 
 // One number of each pair: the first of the two, or the second.
@@ -39,8 +38,23 @@ fn put_pairs(s: Shape, pairs: &[u64], net: &mut [u64])
     halve(pairs, 1, &mut net[SINKS..SINKS + k]);
 }
 
+// 6, 7 and 8 of a call whose sizes have passed: its arcs stand in their columns, and its pairs are put beside them.
+pub fn check_copy(n: u64, m: usize, arcs: [u64; NET_NUMBERS], pairs: &[u64]) -> Verdict
+    requires { ⌜ Checking m (now pairs) ⌝ }
+    ensures { λ r. ⌜ r ≡ verdict (itemConditions (networkIn n m arcs (now (pairs .entry)))) ⌝ }
+{
+    let s = Shape {
+        nodes: n,
+        arcs: m,
+        commodities: pairs.len() / 2,
+    };
+    let mut net = arcs;
+    put_pairs(s, pairs, &mut net);
+    check_items(s, &net)
+}
+
 // An accepted network: the outcome takes the first places of both tables.
-fn deliver(s: Shape, q: u64, net: &[u64], flow: &mut [u64], lengths: &mut [u64]) -> Reply
+fn deliver_in(s: Shape, q: u64, net: &[u64], flow: &mut [u64], lengths: &mut [u64]) -> Reply
     requires { ⌜ Delivering s q (now net) (now flow) (now lengths) ⌝ }
     ensures { λ r. ⌜ Replied (netIn s (now (net .entry))) q Accepted (now (flow .entry)) (now (lengths .entry)) (now (flow .exit)) (now (lengths .exit)) r ⌝ }
 {
@@ -52,8 +66,8 @@ fn deliver(s: Shape, q: u64, net: &[u64], flow: &mut [u64], lengths: &mut [u64])
     Reply::Answered(answer)
 }
 
-// The network of n nodes whose m arcs stand in their columns, with the commodities of the pairs.
-pub fn judge(
+// The outcome of a call that has passed.
+pub fn deliver(
     n: u64,
     q: u64,
     m: usize,
@@ -62,8 +76,8 @@ pub fn judge(
     flow: &mut [u64],
     lengths: &mut [u64],
 ) -> Reply
-    requires { ⌜ Sizable n q m (now pairs) (now flow) (now lengths) ⌝ }
-    ensures { λ r. ⌜ Replied (networkIn n m arcs (now (pairs .entry))) q (verdict (itemConditions (networkIn n m arcs (now (pairs .entry))))) (now (flow .entry)) (now (lengths .entry)) (now (flow .exit)) (now (lengths .exit)) r ⌝ }
+    requires { ⌜ Passed n q m arcs (now pairs) (now flow) (now lengths) ⌝ }
+    ensures { λ r. ⌜ Replied (networkIn n m arcs (now (pairs .entry))) q Accepted (now (flow .entry)) (now (lengths .entry)) (now (flow .exit)) (now (lengths .exit)) r ⌝ }
 {
     let s = Shape {
         nodes: n,
@@ -72,9 +86,5 @@ pub fn judge(
     };
     let mut net = arcs;
     put_pairs(s, pairs, &mut net);
-    let items = check_items(s, &net);
-    if let Verdict::Refused(why) = items {
-        return Reply::TurnedDown(why);
-    }
-    deliver(s, q, &net, flow, lengths)
+    deliver_in(s, q, &net, flow, lengths)
 }

@@ -51,5 +51,9 @@ pub fn solve(
         net[CAPACITIES + e] = a.capacity;
         e += 1;
     }
-    judge::judge(n, q, m, net, pairs, flow, lengths)
+    let items = judge::check_copy(n, m, net, pairs);
+    if let Verdict::Refused(why) = items {
+        return Reply::TurnedDown(why);
+    }
+    judge::deliver(n, q, m, net, pairs, flow, lengths)
 }

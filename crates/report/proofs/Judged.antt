@@ -1,7 +1,6 @@
 -- The verdict on a network that a file holds is that on its arcs and its commodity: 1 to 4 cannot hold, since the reader has kept
 -- the counts within their bounds. Assumes nothing.
 use mathlib.Core.Path.{_≡_}
-use mathlib.Core.List.{[]}
 use lib.Dec.{lit≤}
 use Rattle.network.specs.Network.{Network, arcs, commodities}
 use Rattle.network.specs.Sound.{Counts, Sound}

@@ -1,19 +1,21 @@
 -- `records::solve` meets its contract: a walk of its MIR, by hand, since the borrow checker covers no function that holds a slice of structs.
---     exits    from what is had at the end to what the contract says
---     asks     what `judge` is handed: the copy, and the other parameters as they came
+--     exits, turns-down    from what is had at the end to what the contract says: of a reply, and of a refusal, which gives up both tables as they were
+--     asks..   what each call is handed
 --     At i     the loop's invariant: the slice of records is looked into, and the array has the first i records (`filled`)
---     leaves   after the loop: the slice is shut, the array is one value again, and `judge` is called on it
+--     leaves   after the loop: the slice is shut, the array is one value again, and `check_copy` is called on it
+--     decided  its verdict: a refusal is returned, or `deliver` is called
 --     turns    one turn: a record is read out of the slice and its numbers stored in the array, or the loop is left
 --     copies   up to the loop, once sizes and tables have passed
---     matched  the verdict on sizes and tables: a refusal is returned, and both tables are given up as they were
+--     matched  the verdict on sizes and tables: a refusal is returned, or the records are copied
 --     begins   up to that verdict
--- Of `check_call` and `judge` the proof knows only that each meets its contract. With 32 locals, local i stands at 2 * (31 - i) behind what is put
--- in front. Assumes nothing.
-use mathlib.Core.Path.{_≡_, refl, sym, ap, _∙_}
+-- Of `check_call`, `check_copy` and `deliver` the proof knows only that each meets its contract. With 34 locals, local i stands at 2 * (33 - i)
+-- behind what is put in front. Assumes nothing.
+use mathlib.Core.Path.{_≡_, refl, sym, ap, subst}
 use mathlib.Core.Bool.{Bool, true, false}
 use mathlib.Core.List.{List, [], _∷_, _++_}
 use mathlib.Core.WellFounded.{WellFounded, InvImage·wf}
 use Prim.Native.Nat.{ℕ, _+_, _*_, _-_, _/_, _≤_, _<_, _^_, zero-le}
+use native.Mathlib.Nat.{le-antisymm}
 use native.Mathlib.Numerals.{add-one-le, add-one-dec}
 use native.Mathlib.Omega.{arith}
 use borrow.Author.Tests.{ltb-true, ltb-false}
@@ -45,9 +47,9 @@ use denote.Memory.{pointee, shares}
 use denote.Plain.{uint-makes, uint-vals, uint-tells, uint-copy}
 use denote.Builtin.{u64, usize}
 use denote.Ref.{RefT, now}
-use denote.Slice.{sliceTy, ShrSlice, MutSlice, Room, finally, slice-vals, shr-slice-tells, mut-slice-tells}
+use denote.Slice.{sliceTy, ShrSlice, MutSlice, Room, finally, slice-vals, shr-slice-tells, mut-slice-tells, shr-slice-copy}
 use denote.Index.{row, place-is, elem-out, elem-back, elem-put, looks-slice, shuts-slice}
-use denote.Array.{Array, arrayVal, array-repeat}
+use denote.Array.{Array, arrayVal, array-makes, array-repeat}
 use denote.Signature.{plain, shrSliceOf}
 use denote.Steps.{only, owned, peeks, heard, nothing}
 use denote.Enum.Laws as EL
@@ -68,7 +70,7 @@ use Rattle.network.proofs.Refusal as refusal
 use Rattle.network.proofs.Refusal.Laws as refusal-laws
 use Rattle.network.proofs.Verdict as verdict-type
 use Rattle.network.proofs.Verdict.Laws as verdict-laws
-use Rattle.records.specs.Parts.{Sizable, networkIn}
+use Rattle.records.specs.Parts.{Sizable, networkIn, Checking, Passed}
 use Rattle.records.specs.Records.{recordConditions, Recorded, Replied}
 use Rattle.records.specs.declared.Arc.{Arc}
 use Rattle.records.specs.declared.Reply.{Reply}
@@ -76,7 +78,7 @@ use Rattle.records.specs.declared.Reply.the-variants.{TurnedDown}
 use Rattle.records.proofs.Copying.{nil, filled, filled-none, filled-more, length-filled}
 use Rattle.records.proofs.Locals.{holds, empty, held, sets, frees-all}
 use Rattle.records.proofs.Places.{array, arrayed, array-is, apart, together, gives-up}
-use Rattle.records.proofs.Served.{served-refused, sizable, served-judged}
+use Rattle.records.proofs.Served.{served-refused, sizable, served-loose, served-passed}
 use Rattle.records.proofs.Slots.{Rec, spelt, tells, typed}
 use Rattle.records.proofs.Arc as arc
 use Rattle.records.proofs.Arc.Laws as arc-laws
@@ -86,10 +88,14 @@ use Rattle.records.proofs.sizes.check_call as check
 use Rattle.records.proofs.sizes.check_call.Symbol as check-def
 use Rattle.records.proofs.sizes.check_call.Symbol.{name as #records·sizes·check-call}
 use Rattle.records.proofs.sizes.check_call.Met as check-thm
-use Rattle.records.proofs.judge.judge as judge
-use Rattle.records.proofs.judge.judge.Symbol as judge-def
-use Rattle.records.proofs.judge.judge.Symbol.{name as #records·judge·judge}
-use Rattle.records.proofs.judge.judge.Met as judge-thm
+use Rattle.records.proofs.judge.check_copy as items
+use Rattle.records.proofs.judge.check_copy.Symbol as items-def
+use Rattle.records.proofs.judge.check_copy.Symbol.{name as #records·judge·check-copy}
+use Rattle.records.proofs.judge.check_copy.Met as items-thm
+use Rattle.records.proofs.judge.deliver as deliver
+use Rattle.records.proofs.judge.deliver.Symbol as deliver-def
+use Rattle.records.proofs.judge.deliver.Symbol.{name as #records·judge·deliver}
+use Rattle.records.proofs.judge.deliver.Met as deliver-thm
 use Rattle.records.proofs.solve.Key.{name as #records·solve}
 use Rattle.records.proofs.solve as solve
 use Rattle.records.proofs.solve.Statement as stated
@@ -115,7 +121,7 @@ second-table = sliceTy (tyRef (named 3) mut num)
 abbrev ref : Ty
 ref = tyRef erased mut num
 
--- the two tables are given up, to `judge` where it is called, and it is said what they hold at last; nothing is had of the other parameters
+-- the two tables are given up to `serve`, which says what they hold at last; nothing is had of the other parameters
 abbrev stayed : Stays (solve.ended .signature .params) (solve.ended .kept)
 stayed = (
   stay-dropped _ yes,
@@ -125,11 +131,11 @@ stayed = (
   ),
 )
 
--- the arm of a refusal, which the generated MIR has under no name
-abbrev refuses : Body
-refuses =
-    seq (assign (place 9 []) (rvOpd (copy (place 8 (variant 1 ∷ field 1 ∷ [])))))
-    (seq (assign (place 0 []) (aggregate (int w8 0 ∷ copy (place 9 []) ∷ []))) return)
+-- the arm of a refusal, which the generated MIR has under no name: local b takes it out of the verdict in local a
+abbrev refuses : ℕ → ℕ → Body
+refuses a b =
+    seq (assign (place b []) (rvOpd (copy (place a (variant 1 ∷ field 1 ∷ [])))))
+    (seq (assign (place 0 []) (aggregate (int w8 0 ∷ copy (place b []) ∷ []))) return)
 
 -- the machine values of a verdict and of a refusal returned
 abbrev told : Verdict → Val
@@ -143,8 +149,11 @@ module _ {M : Type 1} (𝓤 : URA M) (H : Heap 𝓤) (A : Atoms 𝓤) (mem : Mem
   abbrev Check : Contract 𝓤
   Check = tripleOf 𝓤 H A check.signature (check.spec 𝓤 H A mem run)
 
-  abbrev Judge : Contract 𝓤
-  Judge = tripleOf 𝓤 H A judge.signature (judge.spec 𝓤 H A mem run)
+  abbrev Items : Contract 𝓤
+  Items = tripleOf 𝓤 H A items.signature (items.spec 𝓤 H A mem run)
+
+  abbrev Deliver : Contract 𝓤
+  Deliver = tripleOf 𝓤 H A deliver.signature (deliver.spec 𝓤 H A mem run)
 
 module _ {M : Type 1} (𝓤 : URA M) (H : Heap 𝓤) (A : Atoms 𝓤) (W : Given 𝓤 H A) (mem : Memory → SProp 𝓤) (run : Routine → Fun 𝓤)
     (κa κp κf κl : Lft) (qa qp qf ql : Share) (n q : ℕ) (arcs : RefT (List Arc)) (pairs flow lens : RefT (List ℕ)) where
@@ -168,7 +177,7 @@ module _ {M : Type 1} (𝓤 : URA M) (H : Heap 𝓤) (A : Atoms 𝓤) (W : Given
   abbrev Post : Val → SProp 𝓤
   Post = walkOf 𝓤 H A solve.ended stayed (solve.clauses 𝓤 H A mem run) .post bound
 
-  -- the tokens of the three lifetimes that `judge` is handed
+  -- the tokens of the three lifetimes that `deliver` is handed
   abbrev Tokens : Item 𝓤
   Tokens = ‵ (flft κp qp) ⊛ (‵ (flft κf qf) ⊛ (‵ (flft κl ql) ⊛ ‵ ftrue))
 
@@ -221,12 +230,26 @@ module _ {M : Type 1} (𝓤 : URA M) (H : Heap 𝓤) (A : Atoms 𝓤) (W : Given
   check-said : (v : Verdict) → ent 𝓤 (ensured 𝓤 H A check.ended (check.clauses 𝓤 H A mem run) tt sized tt v) (fact 𝓤 (Checked v))
   check-said v = exE 𝓤 _ (λ ws. snd∗ 𝓤 (sem 𝓤 H A (lasts check.ended tt sized ws)) (fact 𝓤 (Checked v)))
 
-  -- the call of `judge` on the array xs
-  abbrev passed : List ℕ → Args judge.signature (κp, (κf, (κl, tt)))
+  -- the call of `check_copy` on the array xs, and what is known of its verdict
+  abbrev shown : List ℕ → Args items.signature (κp, tt)
+  shown xs = (n, (m, (xs, (pairs, tt))))
+
+  abbrev to-items : List ℕ → Items 𝓤 H A mem run .Ghost
+  to-items xs = (((κp, tt), (qp, tt), tt, shown xs, (vint w64 n ∷ [], (vint w64 m ∷ [], (arrayed xs, (slice-vals pairs, tt))))), tt)
+
+  abbrev Found : List ℕ → Verdict → Type 0
+  Found xs v = v ≡ verdict (itemConditions (networkIn n m xs (now pairs)))
+
+  items-said :
+      (xs : List ℕ) (v : Verdict) → ent 𝓤 (ensured 𝓤 H A items.ended (items.clauses 𝓤 H A mem run) (κp, tt) (shown xs) tt v) (fact 𝓤 (Found xs v))
+  items-said xs v = exE 𝓤 _ (λ ws. snd∗ 𝓤 (sem 𝓤 H A (lasts items.ended (κp, tt) (shown xs) ws)) (fact 𝓤 (Found xs v)))
+
+  -- the call of `deliver` on the array xs
+  abbrev passed : List ℕ → Args deliver.signature (κp, (κf, (κl, tt)))
   passed xs = (n, (q, (m, (xs, (pairs, (flow, (lens, tt)))))))
 
-  abbrev to-judge : List ℕ → Judge 𝓤 H A mem run .Ghost
-  to-judge xs = (
+  abbrev to-deliver : List ℕ → Deliver 𝓤 H A mem run .Ghost
+  to-deliver xs = (
     (
       (κp, (κf, (κl, tt))),
       (qp, (qf, (ql, tt))),
@@ -238,10 +261,9 @@ module _ {M : Type 1} (𝓤 : URA M) (H : Heap 𝓤) (A : Atoms 𝓤) (W : Given
   )
 
   -- what it ensures of the reply r, at last tables zs
-  abbrev Said : List ℕ → Reply → Lasts judge.ended (κp, (κf, (κl, tt))) (passed []) → Type 0
+  abbrev Said : List ℕ → Reply → Lasts deliver.ended (κp, (κf, (κl, tt))) (passed []) → Type 0
   Said xs r zs =
-      Replied (networkIn n m xs (now pairs)) q (verdict (itemConditions (networkIn n m xs (now pairs)))) (now flow) (now lens) (zs .1 .1 .1 .1 .1 .0)
-      (zs .1 .1 .1 .1 .1 .1 .0) r
+      Replied (networkIn n m xs (now pairs)) q Accepted (now flow) (now lens) (zs .1 .1 .1 .1 .1 .0) (zs .1 .1 .1 .1 .1 .1 .0) r
 
   -- what is passed on beside the numbers and the array
   abbrev Beside : List (Item 𝓤)
@@ -259,16 +281,38 @@ module _ {M : Type 1} (𝓤 : URA M) (H : Heap 𝓤) (A : Atoms 𝓤) (W : Given
   Lent = ‵ (flft κa qa) ∷ ‵ (fshr-bor κa (λ s. arr-parts (shares Rec) m .part s (now arcs) (arcs .ptr .0) (arcs .ptr .1))) ∷ Beside
 
   -- a refusal: both tables are given up as they are
+  abbrev Kept : List (Item 𝓤)
+  Kept =
+      ‵ (flft κa qa) ∷
+      ‵ (flft κp qp) ∷
+      ‵ (flft κf qf) ∷
+      ‵ (flft κl ql) ∷
+      ‵ (MutSlice (named 2) κf u64 .own flow (slice-vals flow)) ∷
+      ‵ (MutSlice (named 3) κl u64 .own lens (slice-vals lens)) ∷
+      []
+
   turns-down :
-      (w : Refusal) → Is reply.the-row (TurnedDown w) (down w ∷ []) → Checked (Refused w) → ent 𝓤 (⋆ 𝓤 H A Lent) (Post (down w))
-  turns-down w is e =
-      qed W Lent ∵
-      move ! (6 ∷ []) $ use1 W (‵ (finally u64 (flow .name) (now flow))) (gives-up 𝓤 H A W (named 2) κf flow (slice-vals flow)) $
-      move ! (7 ∷ []) $ use1 W (‵ (finally u64 (lens .name) (now lens))) (gives-up 𝓤 H A W (named 3) κl lens (slice-vals lens)) $
+      (w : Refusal) → Is reply.the-row (TurnedDown w) (down w ∷ []) →
+      Recorded n q (now arcs) (now pairs) (now flow) (now lens) (now flow) (now lens) (TurnedDown w) → ent 𝓤 (⋆ 𝓤 H A Kept) (Post (down w))
+  turns-down w is g =
+      qed W Kept ∵
+      move ! (4 ∷ []) $ use1 W (‵ (finally u64 (flow .name) (now flow))) (gives-up 𝓤 H A W (named 2) κf flow (slice-vals flow)) $
+      move ! (5 ∷ []) $ use1 W (‵ (finally u64 (lens .name) (now lens))) (gives-up 𝓤 H A W (named 3) κl lens (slice-vals lens)) $
       owned ! reply.the-row (Is reply.the-row) (EL.makes reply.the-type reply-laws.the-plain 𝓤 H A) (TurnedDown w) _ is $
-      nothing ! $ move ! (8 ∷ 0 ∷ []) $ join ! $ move ! (7 ∷ 0 ∷ []) $ join ! $ move ! (6 ∷ 0 ∷ []) $ join ! $ move ! (4 ∷ 0 ∷ []) $ join ! $
-      keep ! (0 ∷ 3 ∷ 2 ∷ 1 ∷ []) $
-      by ! (exits (TurnedDown w) (down w) (now flow) (now lens) refl refl (served-refused n q (now arcs) (now pairs) (now flow) (now lens) w (sym e)))
+      -- [true; the reply; the last lengths; the last flow; the four tokens]
+      nothing ! $ move ! (7 ∷ 0 ∷ []) $ join ! $ move ! (6 ∷ 0 ∷ []) $ join ! $ move ! (5 ∷ 0 ∷ []) $ join ! $ move ! (4 ∷ 0 ∷ []) $ join ! $
+      move ! (0 ∷ 3 ∷ 2 ∷ 1 ∷ []) $ by ! (exits (TurnedDown w) (down w) (now flow) (now lens) refl refl g)
+
+  -- what a refusal is made of
+  why : (w : Refusal) → Is verdict-type.the-row (Refused w) (told (Refused w) ∷ []) → Is refusal.the-row w (EL.vals refusal.the-type refusal-laws.the-laws w)
+  why w is = EL.owed verdict-type.the-type verdict-laws.the-laws (Refused w) _ is .0
+
+  tells-why : (w : Refusal) → Is verdict-type.the-row (Refused w) (told (Refused w) ∷ []) → Is reply.the-row (TurnedDown w) (down w ∷ [])
+  tells-why w is = EL.owes reply.the-type reply-laws.the-laws (TurnedDown w) (why w is, tt)
+
+  -- a verdict's machine value is spelt out
+  spells : (v : Verdict) (u : Val) → Is verdict-type.the-row v (u ∷ []) → Is verdict-type.the-row v (told v ∷ [])
+  spells v u is = EL.owes verdict-type.the-type verdict-laws.the-laws v (EL.owed verdict-type.the-type verdict-laws.the-laws v _ is)
 
   module _ (gn : n < 2 ^ 64) (gq : q < 2 ^ 64) (ra : Room Rec m) (rp : Room u64 (length (now pairs))) (rf : Room u64 (length (now flow)))
       (rl : Room u64 (length (now lens))) where
@@ -282,10 +326,21 @@ module _ {M : Type 1} (𝓤 : URA M) (H : Heap 𝓤) (A : Atoms 𝓤) (W : Given
         owned ! u64 (Is u64) (uint-makes 𝓤 H A W w64) q _ (refl, gq) $ fjoin ! $
         owned ! u64 (Is u64) (uint-makes 𝓤 H A W w64) n _ (refl, gn) $ fjoin ! $ nothing ! $ join ! $ frame ! $ done !
 
+    asks-items :
+        Checking m (now pairs) → (xs : List ℕ) →
+        ent 𝓤
+        (⋆ 𝓤 H A (‵ (Array u64 832 .own xs (arrayed xs)) ∷ ‵ (flft κp qp) ∷ ‵ (ShrSlice (named 1) κp u64 .own pairs (slice-vals pairs)) ∷ []))
+        (Items 𝓤 H A mem run .pre (to-items xs))
+    asks-items z xs =
+        qed W (‵ (Array u64 832 .own xs (arrayed xs)) ∷ ‵ (flft κp qp) ∷ ‵ (ShrSlice (named 1) κp u64 .own pairs (slice-vals pairs)) ∷ []) ∵ says ! z $
+        nothing ! $ move ! (3 ∷ 0 ∷ []) $ fjoin ! $ move ! (1 ∷ 0 ∷ []) $ fjoin ! $
+        owned ! usize (Is usize) (uint-makes 𝓤 H A W w64) m _ (refl, ra .0) $ fjoin ! $
+        owned ! u64 (Is u64) (uint-makes 𝓤 H A W w64) n _ (refl, gn) $ fjoin ! $ nothing ! $ move ! (2 ∷ 0 ∷ []) $ join ! $ frame ! $ done !
+
     asks :
-        Sizable n q m (now pairs) (now flow) (now lens) → (xs : List ℕ) →
-        ent 𝓤 (⋆ 𝓤 H A (‵ (Array u64 832 .own xs (arrayed xs)) ∷ Beside)) (Judge 𝓤 H A mem run .pre (to-judge xs))
-    asks z xs =
+        (xs : List ℕ) → Passed n q m xs (now pairs) (now flow) (now lens) →
+        ent 𝓤 (⋆ 𝓤 H A (‵ (Array u64 832 .own xs (arrayed xs)) ∷ Beside)) (Deliver 𝓤 H A mem run .pre (to-deliver xs))
+    asks xs z =
         qed W (‵ (Array u64 832 .own xs (arrayed xs)) ∷ Beside) ∵ says ! z $
         nothing ! $ move ! (7 ∷ 0 ∷ []) $ fjoin ! $ move ! (6 ∷ 0 ∷ []) $ fjoin ! $ move ! (5 ∷ 0 ∷ []) $ fjoin ! $ move ! (1 ∷ 0 ∷ []) $ fjoin ! $
         owned ! usize (Is usize) (uint-makes 𝓤 H A W w64) m _ (refl, ra .0) $ fjoin ! $
@@ -294,8 +349,9 @@ module _ {M : Type 1} (𝓤 : URA M) (H : Heap 𝓤) (A : Atoms 𝓤) (W : Given
         nothing ! $ move ! (4 ∷ 0 ∷ []) $ join ! $ move ! (3 ∷ 0 ∷ []) $ join ! $ move ! (2 ∷ 0 ∷ []) $ join ! $ frame ! $ done !
 
     module _ (𝓣 : Tables 𝓤 H) (known-check : Triple 𝓤 (𝓣 .C #records·sizes·check-call) (Check 𝓤 H A mem run))
-        (known : Triple 𝓤 (𝓣 .C #records·judge·judge) (Judge 𝓤 H A mem run))
-        (l₀ l₁ l₂ l₃ l₄ l₅ l₆ l₇ l₈ l₉ l₁₀ l₁₁ l₁₂ l₁₃ l₁₄ l₁₅ l₁₆ l₁₇ l₁₈ l₁₉ l₂₀ l₂₁ l₂₂ l₂₃ l₂₄ l₂₅ l₂₆ l₂₇ l₂₈ l₂₉ l₃₀ l₃₁ : ℕ) where
+        (known-items : Triple 𝓤 (𝓣 .C #records·judge·check-copy) (Items 𝓤 H A mem run))
+        (known : Triple 𝓤 (𝓣 .C #records·judge·deliver) (Deliver 𝓤 H A mem run))
+        (l₀ l₁ l₂ l₃ l₄ l₅ l₆ l₇ l₈ l₉ l₁₀ l₁₁ l₁₂ l₁₃ l₁₄ l₁₅ l₁₆ l₁₇ l₁₈ l₁₉ l₂₀ l₂₁ l₂₂ l₂₃ l₂₄ l₂₅ l₂₆ l₂₇ l₂₈ l₂₉ l₃₀ l₃₁ l₃₂ l₃₃ : ℕ) where
       abbrev C : Calls 𝓤 H
       C = 𝓣 .C
 
@@ -305,9 +361,15 @@ module _ {M : Type 1} (𝓤 : URA M) (H : Heap 𝓤) (A : Atoms 𝓤) (W : Given
       abbrev E : Env 𝓤 H
       E =
           (reply-laws.mir, l₀) ∷ (num, l₁) ∷ (num, l₂) ∷ (records, l₃) ∷ (numbers, l₄) ∷ (first-table, l₅) ∷ (second-table, l₆) ∷ (num, l₇) ∷
-          (verdict-laws.mir, l₈) ∷ (refusal-laws.mir, l₉) ∷ (array 832, l₁₀) ∷ (num, l₁₁) ∷ (arc-laws.mir, l₁₂) ∷ (num, l₁₃) ∷ (num, l₁₄) ∷ (num, l₁₅)
-          ∷ (tyBool, l₁₆) ∷ (num, l₁₇) ∷ (tyPtr, l₁₈) ∷ (arc-laws.mir, l₁₉) ∷ (num, l₂₀) ∷ (tyPtr, l₂₁) ∷ (tyPtr, l₂₂) ∷ (tyPtr, l₂₃) ∷ (tyPtr, l₂₄) ∷
-          (tyPtr, l₂₅) ∷ (tyPtr, l₂₆) ∷ (array 832, l₂₇) ∷ (ref, l₂₈) ∷ (sliceTy ref, l₂₉) ∷ (ref, l₃₀) ∷ (sliceTy ref, l₃₁) ∷ []
+          (verdict-laws.mir, l₈) ∷ (refusal-laws.mir, l₉) ∷ (array 832, l₁₀) ∷ (num, l₁₁) ∷ (arc-laws.mir, l₁₂) ∷ (verdict-laws.mir, l₁₃) ∷
+          (refusal-laws.mir, l₁₄) ∷ (num, l₁₅) ∷ (num, l₁₆) ∷ (num, l₁₇) ∷ (tyBool, l₁₈) ∷ (num, l₁₉) ∷ (tyPtr, l₂₀) ∷ (arc-laws.mir, l₂₁) ∷ (
+            num,
+            l₂₂,
+          ) ∷ (tyPtr, l₂₃) ∷ (tyPtr, l₂₄) ∷ (tyPtr, l₂₅) ∷ (tyPtr, l₂₆) ∷ (tyPtr, l₂₇) ∷ (tyPtr, l₂₈) ∷ (array 832, l₂₉) ∷ (ref, l₃₀) ∷ (
+            sliceTy
+                ref,
+            l₃₁,
+          ) ∷ (ref, l₃₂) ∷ (sliceTy ref, l₃₃) ∷ []
 
       -- the locals before `m`, which hold the parameters and the result, and those after `lengths.len()`, with nothing in them
       abbrev Low : List (Item 𝓤) → List (Item 𝓤)
@@ -317,19 +379,22 @@ module _ {M : Type 1} (𝓤 : URA M) (H : Heap 𝓤) (A : Atoms 𝓤) (W : Given
           (holds numbers l₄ (only (slice-vals pairs))
           (holds records l₃ (only (slice-vals arcs)) (holds num l₂ (vint w64 q) (holds num l₁ (vint w64 n) (empty reply-laws.mir l₀ Γ))))))
 
-      abbrev High : List (Item 𝓤) → List (Item 𝓤)
-      High Γ =
-          empty (sliceTy ref) l₃₁
-          (empty ref l₃₀
-          (empty (sliceTy ref) l₂₉
-          (empty ref l₂₈
-          (empty (array 832) l₂₇
+      abbrev Pointers : List (Item 𝓤) → List (Item 𝓤)
+      Pointers Γ =
+          empty tyPtr l₂₈
+          (empty tyPtr l₂₇
           (empty tyPtr l₂₆
           (empty tyPtr l₂₅
           (empty tyPtr l₂₄
-          (empty tyPtr l₂₃
-          (empty tyPtr l₂₂
-          (empty tyPtr l₂₁ (empty num l₂₀ (empty arc-laws.mir l₁₉ (empty tyPtr l₁₈ (empty num l₁₇ (empty tyBool l₁₆ Γ)))))))))))))))
+          (empty tyPtr l₂₃ (empty num l₂₂ (empty arc-laws.mir l₂₁ (empty tyPtr l₂₀ (empty num l₁₉ (empty tyBool l₁₈ Γ))))))))))
+
+      abbrev High : List (Item 𝓤) → List (Item 𝓤)
+      High Γ =
+          empty (sliceTy ref) l₃₃ (empty ref l₃₂ (empty (sliceTy ref) l₃₁ (empty ref l₃₀ (empty (array 832) l₂₉ (Pointers Γ)))))
+
+      -- what is to hold after a switch that the body b follows
+      abbrev Then : Body → Kit.Post 𝓤 H
+      Then b = anyQ (afterSeq 𝓤 H (Wp 𝓤 H C Λ E b (atReturn 𝓤 H E Post)) (atReturn 𝓤 H E Post))
 
       module _ (h : Accepted ≡ verdict (sizeConditions n m (length (now pairs) / 2) q ++ recordConditions (length (now pairs) / 2) m (length (now flow)) (length (now lens)))) where
         passes : Sizable n q m (now pairs) (now flow) (now lens)
@@ -348,18 +413,23 @@ module _ {M : Type 1} (𝓤 : URA M) (H : Heap 𝓤) (A : Atoms 𝓤) (W : Given
         Nearer-wf = InvImage·wf (λ (i : Upto). m - i .0) (Nat·lt-wfRel .wf)
 
         module _ (s : Share) where
-          abbrev At : Upto → List (Item 𝓤)
-          At i =
+          abbrev Upon : ℕ → List (Item 𝓤)
+          Upon i =
               ‵ (row Rec s (now arcs) (arcs .ptr .0) (arcs .ptr .1)) ∷
               ‵ (fobor κa qa (arr-parts (shares Rec) m .part s (now arcs) (arcs .ptr .0) (arcs .ptr .1))) ∷
-              ‵ (row u64 fullShare (filled (now arcs) (i .0)) l₁₀ 0) ∷
+              ‵ (row u64 fullShare (filled (now arcs) i) l₁₀ 0) ∷
               High
+              (empty num l₁₇
+              (empty num l₁₆
               (empty num l₁₅
-              (empty num l₁₄
-              (empty num l₁₃
+              (empty refusal-laws.mir l₁₄
+              (empty verdict-laws.mir l₁₃
               (empty arc-laws.mir l₁₂
-              (holds num l₁₁ (vint w64 (i .0))
-              (‵ (fdies (array 832) l₁₀) ∷ empty refusal-laws.mir l₉ (empty verdict-laws.mir l₈ (holds num l₇ (vint w64 m) (Low Beside)))))))))
+              (holds num l₁₁ (vint w64 i)
+              (‵ (fdies (array 832) l₁₀) ∷ empty refusal-laws.mir l₉ (empty verdict-laws.mir l₈ (holds num l₇ (vint w64 m) (Low Beside)))))))))))
+
+          abbrev At : Upto → List (Item 𝓤)
+          At i = Upon (i .0)
 
           -- a turn's postcondition: it ends nearer to m, or the loop is left and the rest of the body runs
           abbrev Turned : Upto → Out → SProp 𝓤
@@ -367,112 +437,186 @@ module _ {M : Type 1} (𝓤 : URA M) (H : Heap 𝓤) (A : Atoms 𝓤) (W : Given
               afterTurn 𝓤 H (Below 𝓤 H A Nearer At i)
               (afterBlock 𝓤 H (afterSeq 𝓤 H (Wp 𝓤 H C Λ E body.t-10 (atReturn 𝓤 H E Post)) (atReturn 𝓤 H E Post)))
 
-          leaves : (i : Upto) → m ≤ i .0 → Sq W (At i) (runs C Λ E body.t-10 (atRet E Post))
-          leaves i over =
-              shuts-slice ! tt Rec s (now arcs) (arcs .ptr .0) (arcs .ptr .1) $ move ! (1 ∷ []) $
-              use1 W (‵ (fat fullShare (array 832) l₁₀ 0 (only (arrayed xs))) ⊛ ‵ (Array u64 832 .own xs (arrayed xs)))
-              (together 𝓤 H A W 832 xs l₁₀ (length-filled (now arcs) (i .0))) $ split ! $ move ! (1 ∷ []) $
-              peeks ! (Array u64 832) (Is (Array u64 832)) (shows 𝓤 H A (Array u64 832)) xs (arrayed xs) (λ is.
-              -- [what the array owns; the array; the token of arcs; _31; …; _0; …; what is passed on]
-              sets ! (of-opd ! (held ! 1 refl)) 11 refl (array-is 𝓤 H A W 832 xs _ is) $
-              sets ! (addr ! (from ! (fld ! refl (hop ! (look-in ! 54 (sub ! 0 refl (whole !))) (stop !))))) 9 refl (tt, tt) $
-              sets ! (agg ! (and-then ! (held ! 9 refl) (and-then ! (load ! (from ! (fld ! refl (stop !))) (look-in ! 54 (sub ! 1 refl (whole !)))) (no-more !)))) 7
-              refl (tt, (tt, (record { fits = rf .0 }, tt))) $
-              sets ! (addr ! (from ! (fld ! refl (hop ! (look-in ! 52 (sub ! 0 refl (whole !))) (stop !))))) 5 refl (tt, tt) $
-              sets ! (agg ! (and-then ! (held ! 5 refl) (and-then ! (load ! (from ! (fld ! refl (stop !))) (look-in ! 52 (sub ! 1 refl (whole !)))) (no-more !)))) 3
-              refl (tt, (tt, (record { fits = rl .0 }, tt))) $
-              move ! (0 ∷ 66 ∷ 67 ∷ 68 ∷ 69 ∷ 70 ∷ 71 ∷ []) $ group ! 7 $ use1 W (raw (Judge 𝓤 H A mem run .pre (to-judge xs))) (asks passes xs) $
-              calls-at ! (fmOf 𝓤 H (W .laws) 𝓣) (Judge 𝓤 H A mem run) known (to-judge xs)
-              (and-then ! (held ! 62 refl) (and-then ! (held ! 60 refl) (and-then ! (held ! 50 refl) (and-then ! (held ! 11 refl)
-              (and-then ! (held ! 56 refl) (and-then ! (held ! 7 refl) (and-then ! (held ! 3 refl) (no-more !)))))))) (λ u.
+          -- the array with all records in their places
+          abbrev xs : List ℕ
+          xs = filled (now arcs) m
+
+          -- after the call of `check_copy` on the full array
+          abbrev Shown : Verdict → List (Item 𝓤)
+          Shown v =
+              ‵ (Array u64 832 .own xs (arrayed xs)) ∷
+              ‵ (fat fullShare (array 832) l₁₀ 0 (only (arrayed xs))) ∷
+              ‵ (flft κa qa) ∷
+              ‵ (flft κp qp) ∷
+              ‵ (ShrSlice (named 1) κp u64 .own pairs (slice-vals pairs)) ∷
+              empty (sliceTy ref) l₃₃
+              (empty ref l₃₂
+              (empty (sliceTy ref) l₃₁
+              (empty ref l₃₀
+              (holds (array 832) l₂₉ (only (arrayed xs))
+              (Pointers
+              (empty num l₁₇
+              (empty num l₁₆
+              (empty num l₁₅
+              (empty refusal-laws.mir l₁₄
+              (holds verdict-laws.mir l₁₃ (told v)
+              (empty arc-laws.mir l₁₂
+              (holds num l₁₁ (vint w64 m)
+              (‵ (fdies (array 832) l₁₀) ∷
+              empty refusal-laws.mir l₉
+              (empty verdict-laws.mir l₈
+              (holds num l₇ (vint w64 m)
+              (Low
+              (‵ (flft κf qf) ∷
+              ‵ (flft κl ql) ∷
+              ‵ (MutSlice (named 2) κf u64 .own flow (slice-vals flow)) ∷
+              ‵ (MutSlice (named 3) κl u64 .own lens (slice-vals lens)) ∷
+              [])))))))))))))))))
+
+          -- by cases on its verdict: a refusal is returned, or `deliver` is called
+          decided :
+              (v : Verdict) → Is verdict-type.the-row v (told v ∷ []) → Found xs v → Is (Array u64 832) xs (arrayed xs) →
+              Sq W (Shown v) (runs C Λ E body.s-12 (Then body.t-13))
+          decided Accepted is e all =
+              switches-on ! (load ! (from ! (vrt ! refl (fld ! refl (stop !)))) (look-tag ! 45 (whole !))) $ exec ! C Λ E skip (Then body.t-13) $ skips ! $
+              exec ! C Λ E body.t-13 (atRet E Post) $ forget ! 45 refl $
+              assigns ! (of-opd ! (held ! 1 refl)) (from ! (stop !)) (store ! 13 refl (array-is 𝓤 H A W 832 xs _ all)) $
+              sets ! (addr ! (from ! (fld ! refl (hop ! (look-in ! 60 (sub ! 0 refl (whole !))) (stop !))))) 11 refl (tt, tt) $
+              sets ! (agg ! (and-then ! (held ! 11 refl) (and-then ! (load ! (from ! (fld ! refl (stop !))) (look-in ! 60 (sub ! 1 refl (whole !)))) (no-more !))))
+              9 refl (tt, (tt, (record { fits = rf .0 }, tt))) $
+              sets ! (addr ! (from ! (fld ! refl (hop ! (look-in ! 58 (sub ! 0 refl (whole !))) (stop !))))) 7 refl (tt, tt) $
+              sets ! (agg ! (and-then ! (held ! 7 refl) (and-then ! (load ! (from ! (fld ! refl (stop !))) (look-in ! 58 (sub ! 1 refl (whole !)))) (no-more !))))
+              5 refl (tt, (tt, (record { fits = rl .0 }, tt))) $
+              move ! (0 ∷ 3 ∷ 72 ∷ 73 ∷ 4 ∷ 74 ∷ 75 ∷ []) $ group ! 7 $
+              use1 W (raw (Deliver 𝓤 H A mem run .pre (to-deliver xs))) (asks xs (record { sizes = passes; items = sym e })) $
+              calls-at ! (fmOf 𝓤 H (W .laws) 𝓣) (Deliver 𝓤 H A mem run) known (to-deliver xs)
+              (and-then ! (held ! 66 refl) (and-then ! (held ! 64 refl) (and-then ! (held ! 54 refl) (and-then ! (held ! 11 refl)
+              (and-then ! (held ! 60 refl) (and-then ! (held ! 7 refl) (and-then ! (held ! 3 refl) (no-more !)))))))) (λ u.
               use1 W
               (later
               (some (λ (r : Reply). (Tokens ⊛ ‵ (reply.the-row .own r (u ∷ []))) ⊛
-              raw (ensured 𝓤 H A judge.ended (judge.clauses 𝓤 H A mem run) (κp, (κf, (κl, tt))) (passed xs) tt r)))) (id⊢ 𝓤 _) $
+              raw (ensured 𝓤 H A deliver.ended (deliver.clauses 𝓤 H A mem run) (κp, (κf, (κl, tt))) (passed xs) tt r)))) (id⊢ 𝓤 _) $
               await ! tt $ pick ! (λ r. split ! $ move ! (1 ∷ []) $
               use1 W
-              (some (λ (zs : Lasts judge.ended (κp, (κf, (κl, tt))) (passed xs)). ‵ (lasts judge.ended (κp, (κf, (κl, tt))) (passed xs) zs) ⊛
+              (some (λ (zs : Lasts deliver.ended (κp, (κf, (κl, tt))) (passed xs)). ‵ (lasts deliver.ended (κp, (κf, (κl, tt))) (passed xs) zs) ⊛
               raw (fact 𝓤 (Said xs r zs)))) (id⊢ 𝓤 _) $ pick ! (λ zs. split ! $ move ! (1 ∷ []) $ heard ! (Said xs r zs) (λ said.
               -- what is said of the two tables at last
               fsplit ! $ drop ! $ fsplit ! $ drop ! $ fsplit ! $ drop ! $ fsplit ! $ drop ! $ fsplit ! $ drop ! $ fsplit ! $
               fsplit ! $ move ! (1 ∷ []) $ feqL ! (λ ef. move ! (1 ∷ []) $ fsplit ! $ fsplit ! $ move ! (1 ∷ []) $ feqL ! (λ el.
               move ! (3 ∷ []) $ split ! $ move ! (1 ∷ []) $ peeks ! reply.the-row (Is reply.the-row) (shows 𝓤 H A reply.the-row) r (u ∷ []) (λ is′.
-              -- [the reply; the tokens; the last lengths; true; the last flow; the array; the token of arcs; _31; …; _0; …]
-              land ! (from ! (stop !)) (init ! 68 refl (EL.lawful reply.the-type reply-laws.the-laws 𝓤 H A W tt .typed r _ is′ .0)) $
-              returns ! (look ! 68 refl) $
-              forget ! 68 refl $ forget ! 66 refl $ forget ! 64 refl $ forget ! 62 refl $ forget ! 60 refl $ forget ! 58 refl $ forget ! 56 refl $
-              forget ! 54 refl $ forget ! 47 refl $ forget ! 15 refl $ forget ! 13 refl $ forget ! 11 refl $ forget ! 9 refl $ forget ! 7 refl $
-              forget ! 5 refl $
-              move ! (68 ∷ 69 ∷ 66 ∷ 67 ∷ 64 ∷ 65 ∷ 62 ∷ 63 ∷ 60 ∷ 61 ∷ 58 ∷ 59 ∷ 56 ∷ 57 ∷ 54 ∷ 55 ∷ 52 ∷ 53 ∷ 50 ∷ 51 ∷ 5 ∷ 49 ∷ 47 ∷ 48 ∷ 45 ∷ 46 ∷ 43 ∷ 44
-              ∷ 41 ∷ 42 ∷ 39 ∷ 40 ∷ 37 ∷ 38 ∷ 35 ∷ 36 ∷ 33 ∷ 34 ∷ 31 ∷ 32 ∷ 29 ∷ 30 ∷ 27 ∷ 28 ∷ 25 ∷ 26 ∷ 23 ∷ 24 ∷ 21 ∷ 22 ∷ 19 ∷ 20 ∷ 17 ∷ 18 ∷ 15 ∷
-              16 ∷ 13 ∷ 14 ∷ 11 ∷ 12 ∷ 9 ∷ 10 ∷ 7 ∷ 8 ∷ []) $
+              -- [the reply; the tokens; the last lengths; true; the last flow; the array; the token of arcs; _33; …; _0; …]
+              land ! (from ! (stop !)) (init ! 72 refl (EL.lawful reply.the-type reply-laws.the-laws 𝓤 H A W tt .typed r _ is′ .0)) $
+              returns ! (look ! 72 refl) $
+              forget ! 72 refl $ forget ! 70 refl $ forget ! 68 refl $ forget ! 66 refl $ forget ! 64 refl $ forget ! 62 refl $ forget ! 60 refl $ forget ! 58 refl $
+              forget ! 51 refl $ forget ! 15 refl $ forget ! 13 refl $ forget ! 11 refl $ forget ! 9 refl $ forget ! 7 refl $ forget ! 5 refl $
+              move ! (72 ∷ 73 ∷ 70 ∷ 71 ∷ 68 ∷ 69 ∷ 66 ∷ 67 ∷ 64 ∷ 65 ∷ 62 ∷ 63 ∷ 60 ∷ 61 ∷ 58 ∷ 59 ∷ 56 ∷ 57 ∷ 54 ∷ 55 ∷ 5 ∷ 53 ∷ 51 ∷ 52 ∷ 49 ∷ 50 ∷ 47 ∷ 48
+              ∷ 45 ∷ 46 ∷ 43 ∷ 44 ∷ 41 ∷ 42 ∷ 39 ∷ 40 ∷ 37 ∷ 38 ∷ 35 ∷ 36 ∷ 33 ∷ 34 ∷ 31 ∷ 32 ∷ 29 ∷ 30 ∷ 27 ∷ 28 ∷ 25 ∷ 26 ∷ 23 ∷ 24 ∷ 21 ∷ 22 ∷ 19 ∷
+              20 ∷ 17 ∷ 18 ∷ 15 ∷ 16 ∷ 13 ∷ 14 ∷ 11 ∷ 12 ∷ 9 ∷ 10 ∷ 7 ∷ 8 ∷ []) $
               frees-all ! E $ keep ! (5 ∷ 1 ∷ 4 ∷ 2 ∷ 0 ∷ []) $ join ! $
               by ! (exits r u (zs .1 .1 .1 .1 .1 .0) (zs .1 .1 .1 .1 .1 .1 .0) ef el
-              (served-judged n q (now arcs) (now pairs) (now flow) (now lens) (sym h) _ _ r (all said)))))))))))
-            where
-              xs : List ℕ
-              xs = filled (now arcs) (i .0)
+              (served-passed n q (now arcs) (now pairs) (now flow) (now lens) (sym h) (sym e) _ _ r said)))))))))
+          decided (Refused w) is e all =
+              switches-on ! (load ! (from ! (vrt ! refl (fld ! refl (stop !)))) (look-tag ! 45 (whole !))) $ exec ! C Λ E (refuses 13 14) (Then body.t-13) $
+              sets ! (of-opd ! (load ! (from ! (vrt ! refl (fld ! refl (stop !)))) (look-in ! 45 (in-variant ! 1 0 refl refl (whole !))))) 43 refl
+              (EL.lawful refusal.the-type refusal-laws.the-laws 𝓤 H A W tt .typed w _ (why w is) .0) $
+              sets ! (agg ! (and-then ! (lit ! tt) (and-then ! (held ! 43 refl) (no-more !)))) 70 refl
+              (EL.lawful reply.the-type reply-laws.the-laws 𝓤 H A W tt .typed (TurnedDown w) _ (tells-why w is) .0) $
+              returns-within ! Post refl (look ! 70 refl) $
+              forget ! 70 refl $ forget ! 68 refl $ forget ! 66 refl $ forget ! 64 refl $ forget ! 62 refl $ forget ! 60 refl $ forget ! 58 refl $ forget ! 56 refl $
+              forget ! 49 refl $ forget ! 45 refl $ forget ! 43 refl $ forget ! 13 refl $ forget ! 1 refl $
+              move ! (70 ∷ 71 ∷ 68 ∷ 69 ∷ 66 ∷ 67 ∷ 64 ∷ 65 ∷ 62 ∷ 63 ∷ 60 ∷ 61 ∷ 58 ∷ 59 ∷ 56 ∷ 57 ∷ 54 ∷ 55 ∷ 52 ∷ 53 ∷ 1 ∷ 51 ∷ 49 ∷ 50 ∷ 47 ∷ 48 ∷ 45 ∷ 46
+              ∷ 43 ∷ 44 ∷ 41 ∷ 42 ∷ 39 ∷ 40 ∷ 37 ∷ 38 ∷ 35 ∷ 36 ∷ 33 ∷ 34 ∷ 31 ∷ 32 ∷ 29 ∷ 30 ∷ 27 ∷ 28 ∷ 25 ∷ 26 ∷ 23 ∷ 24 ∷ 21 ∷ 22 ∷ 19 ∷ 20 ∷ 17 ∷
+              18 ∷ 15 ∷ 16 ∷ 13 ∷ 14 ∷ 11 ∷ 12 ∷ 9 ∷ 10 ∷ 7 ∷ 8 ∷ 5 ∷ 6 ∷ []) $
+              frees-all ! E $ keep ! (1 ∷ 2 ∷ 4 ∷ 5 ∷ 6 ∷ 7 ∷ []) $
+              by ! (turns-down w (tells-why w is) (served-loose n q (now arcs) (now pairs) (now flow) (now lens) (sym h) w (sym e)))
 
-              -- all records are copied
-              all :
-                  {flow′ lens′ : List ℕ} {r : Reply} →
-                  Replied (networkIn n m xs (now pairs)) q (verdict (itemConditions (networkIn n m xs (now pairs)))) (now flow) (now lens) flow′ lens′ r →
-                  let copy = networkIn n m (filled (now arcs) m) (now pairs) in
-                  Replied copy q (verdict (itemConditions copy)) (now flow) (now lens) flow′ lens′ r
-              all p = let e : i .0 ≡ m = omega (arith, i .1) in rw e at p
+          leaves : Sq W (Upon m) (runs C Λ E body.t-10 (atRet E Post))
+          leaves =
+              shuts-slice ! tt Rec s (now arcs) (arcs .ptr .0) (arcs .ptr .1) $ move ! (1 ∷ []) $
+              use1 W (‵ (fat fullShare (array 832) l₁₀ 0 (only (arrayed xs))) ⊛ ‵ (Array u64 832 .own xs (arrayed xs)))
+              (together 𝓤 H A W 832 xs l₁₀ (length-filled (now arcs) m)) $ split ! $ move ! (1 ∷ []) $
+              peeks ! (Array u64 832) (Is (Array u64 832)) (shows 𝓤 H A (Array u64 832)) xs (arrayed xs) (λ all.
+              -- [what the array owns; the array; the token of arcs; _33; …; _0; …; what is passed on]
+              sets ! (of-opd ! (held ! 1 refl)) 11 refl (array-is 𝓤 H A W 832 xs _ all) $
+              -- the slice of pairs, and what the array owns, are had twice
+              move ! (73 ∷ []) $
+              use1 W (‵ (ShrSlice (named 1) κp u64 .own pairs (slice-vals pairs)) ⊛ ‵ (ShrSlice (named 1) κp u64 .own pairs (slice-vals pairs)))
+              (shr-slice-copy 𝓤 H A W (named 1) κp u64 .twice pairs (slice-vals pairs)) $ split ! $
+              owned ! (Array u64 832) (Is (Array u64 832)) (array-makes 𝓤 H A W u64 (uint-makes 𝓤 H A W w64) 832) xs (arrayed xs) all $
+              move ! (0 ∷ 73 ∷ 1 ∷ []) $ group ! 3 $
+              use1 W (raw (Items 𝓤 H A mem run .pre (to-items xs)))
+              (asks-items (record { few-arcs = few; few-pairs = passes .counts .of-commodities .most }) xs) $
+              calls-at ! (fmOf 𝓤 H (W .laws) 𝓣) (Items 𝓤 H A mem run) known-items (to-items xs)
+              (and-then ! (held ! 68 refl) (and-then ! (held ! 56 refl) (and-then ! (held ! 13 refl) (and-then ! (held ! 62 refl) (no-more !))))) (λ u.
+              use1 W
+              (later
+              (some (λ (v : Verdict). ((‵ (flft κp qp) ⊛ ‵ ftrue) ⊛ ‵ (verdict-type.the-row .own v (u ∷ []))) ⊛
+              raw (ensured 𝓤 H A items.ended (items.clauses 𝓤 H A mem run) (κp, tt) (shown xs) tt v)))) (id⊢ 𝓤 _) $
+              await ! tt $ pick ! (λ v. split ! $ move ! (1 ∷ []) $ use1 W (raw (fact 𝓤 (Found xs v))) (items-said xs v) $ heard ! (Found xs v) (λ e.
+              split ! $ move ! (1 ∷ []) $
+              peeks ! verdict-type.the-row (Is verdict-type.the-row) (shows 𝓤 H A verdict-type.the-row) v (u ∷ []) (λ is.
+              -- [the verdict; the token of pairs; pairs; what the array owns; the array; the token of arcs; _33; …; _0; …; what is passed on]
+              land ! (from ! (stop !)) (init ! 46 refl (EL.lawful verdict-type.the-type verdict-laws.the-laws 𝓤 H A W tt .typed v _ is .0)) $
+              rewrite ! 46 (λ (x : Val). ‵ (fat fullShare verdict-laws.mir l₁₃ 0 x)) (ap only (EL.tells verdict-type.the-type verdict-laws.the-laws v _ is)) refl $
+              drop ! $ split ! $ move ! (1 ∷ []) $ drop ! $ move ! (2 ∷ 3 ∷ 4 ∷ 0 ∷ 1 ∷ []) $ first ! $ decided v (spells v u is) e all)))))
+
+          -- the loop is left when all records are copied
+          ended : (i : Upto) → ltb (i .0) m ≡ false → Sq W (At i) (runs C Λ E body.t-10 (atRet E Post))
+          ended i e =
+              subst (λ (k : ℕ). Sq W (Upon k) (runs C Λ E body.t-10 (atRet E Post))) (sym (le-antisymm (i .1) (ltb-false (i .0) m e))) leaves
 
           -- a turn, by what its test says
           turn-at : (i : Upto) (t : Bool) → ltb (i .0) m ≡ t → Sq W (At i) (runs C Λ E body.turn-1 (anyQ (Turned i)))
           unfolding afterTurn
           turn-at i true e =
-              sets ! (bin ! (held ! 43 refl) (held ! 50 refl) tt) 33 refl (tt, tt) $
-              rewrite ! 33 (λ (b : Bool). ‵ (fat fullShare tyBool l₁₆ 0 (vbool b))) e refl $
+              sets ! (bin ! (held ! 47 refl) (held ! 54 refl) tt) 33 refl (tt, tt) $
+              rewrite ! 33 (λ (b : Bool). ‵ (fat fullShare tyBool l₁₈ 0 (vbool b))) e refl $
               stays ! (held ! 33 refl) $
               -- the place of `arcs[e]`; the record is taken out of the slice, read, and put back
-              sets ! (bin ! (held ! 43 refl) (lit ! tt) (record { fits = far })) 31 refl (tt, record { fits = far }) $
-              sets ! (bin ! (load ! (from ! (fld ! refl (stop !))) (look-in ! 58 (sub ! 0 refl (whole !)))) (held ! 31 refl) tt) 29 refl (tt, tt) $
-              rewrite ! 29 (λ (p : ℕ). ‵ (fat fullShare tyPtr l₁₈ 0 (vptr (arcs .ptr .0) p))) (sym (place-is 24 (arcs .ptr .1) (i .0))) refl $
+              sets ! (bin ! (held ! 47 refl) (lit ! tt) (record { fits = far })) 31 refl (tt, record { fits = far }) $
+              sets ! (bin ! (load ! (from ! (fld ! refl (stop !))) (look-in ! 62 (sub ! 0 refl (whole !)))) (held ! 31 refl) tt) 29 refl (tt, tt) $
+              rewrite ! 29 (λ (p : ℕ). ‵ (fat fullShare tyPtr l₂₀ 0 (vptr (arcs .ptr .0) p))) (sym (place-is 24 (arcs .ptr .1) (i .0))) refl $
               elem-out ! Rec (Is Rec) (shows 𝓤 H A Rec) spelt tells s (now arcs) (i .0) nil (arcs .ptr .0) (arcs .ptr .1) within (λ is.
               -- [arcs[e]; what it owns; the others; the open borrow; the array; _31; …; _0; …; what is passed on]
               sets ! (of-opd ! (load ! (from ! (hop ! (look ! 31 refl) (stop !))) (look-raw ! 0 refl))) 29 refl (typed 𝓤 H A W x is) $
               elem-back ! Rec s (now arcs) (i .0) nil (spelt x) (arcs .ptr .0) (arcs .ptr .1) within $
-              sets ! (of-opd ! (held ! 27 refl)) 41 refl (typed 𝓤 H A W x is) $ move ! (2 ∷ []) $
+              sets ! (of-opd ! (held ! 27 refl)) 45 refl (typed 𝓤 H A W x is) $ move ! (2 ∷ []) $
               -- its tail: the number at the column's place e is taken out of the array, and the other put in its place
-              assigns ! (bin ! (lit ! tt) (held ! 43 refl) (record { fits = small 0 (omega arith) })) (from ! (stop !)) (store ! 31 refl (tt, record { fits = small 0 (omega arith) })) $
+              assigns ! (bin ! (lit ! tt) (held ! 47 refl) (record { fits = small 0 (omega arith) })) (from ! (stop !)) (store ! 31 refl (tt, record { fits = small 0 (omega arith) })) $
               sets ! (bin ! (held ! 31 refl) (lit ! tt) (record { fits = byte 0 (omega arith) })) 25 refl (tt, record { fits = byte 0 (omega arith) }) $
               sets ! (addr ! (from ! (stop !))) 23 refl (tt, tt) $
               sets ! (bin ! (held ! 23 refl) (held ! 25 refl) tt) 21 refl (tt, tt) $
-              rewrite ! 21 (λ (p : ℕ). ‵ (fat fullShare tyPtr l₂₂ 0 (vptr l₁₀ p))) (sym (place-is 8 0 (0 + i .0))) refl $
-              elem-out ! u64 (Is u64) (shows 𝓤 H A u64) (uint-vals w64) (uint-tells w64) fullShare xs (0 + i .0) 0 l₁₀ 0 inside (λ _.
-              assigns ! (of-opd ! (load ! (from ! (fld ! refl (stop !))) (look-in ! 43 (sub ! 0 refl (whole !))))) (from ! (hop ! (look ! 23 refl) (stop !)))
+              rewrite ! 21 (λ (p : ℕ). ‵ (fat fullShare tyPtr l₂₄ 0 (vptr l₁₀ p))) (sym (place-is 8 0 (0 + i .0))) refl $
+              elem-out ! u64 (Is u64) (shows 𝓤 H A u64) (uint-vals w64) (uint-tells w64) fullShare ys (0 + i .0) 0 l₁₀ 0 inside (λ _.
+              assigns ! (of-opd ! (load ! (from ! (fld ! refl (stop !))) (look-in ! 47 (sub ! 0 refl (whole !))))) (from ! (hop ! (look ! 23 refl) (stop !)))
               (store ! 0 refl (tt, record { fits = fields is .0 .1 })) $ move ! (1 ∷ []) $ drop ! $
               owned ! u64 (Is u64) (uint-makes 𝓤 H A W w64) (x .tail) _ (refl, fields is .0 .1) $ move ! (1 ∷ 0 ∷ []) $
-              elem-put ! u64 fullShare xs (0 + i .0) (x .tail) (vint w64 (x .tail) ∷ []) l₁₀ 0 inside $
+              elem-put ! u64 fullShare ys (0 + i .0) (x .tail) (vint w64 (x .tail) ∷ []) l₁₀ 0 inside $
               -- its head
-              assigns ! (bin ! (lit ! tt) (held ! 43 refl) (record { fits = small 256 (omega arith) })) (from ! (stop !)) (store ! 31 refl (tt, record { fits = small 256 (omega arith) })) $
+              assigns ! (bin ! (lit ! tt) (held ! 47 refl) (record { fits = small 256 (omega arith) })) (from ! (stop !)) (store ! 31 refl (tt, record { fits = small 256 (omega arith) })) $
               assigns ! (bin ! (held ! 31 refl) (lit ! tt) (record { fits = byte 256 (omega arith) })) (from ! (stop !)) (store ! 25 refl (tt, record { fits = byte 256 (omega arith) })) $
               sets ! (addr ! (from ! (stop !))) 19 refl (tt, tt) $
               sets ! (bin ! (held ! 19 refl) (held ! 25 refl) tt) 17 refl (tt, tt) $
-              rewrite ! 17 (λ (p : ℕ). ‵ (fat fullShare tyPtr l₂₄ 0 (vptr l₁₀ p))) (sym (place-is 8 0 (256 + i .0))) refl $
+              rewrite ! 17 (λ (p : ℕ). ‵ (fat fullShare tyPtr l₂₆ 0 (vptr l₁₀ p))) (sym (place-is 8 0 (256 + i .0))) refl $
               elem-out ! u64 (Is u64) (shows 𝓤 H A u64) (uint-vals w64) (uint-tells w64) fullShare tailed (256 + i .0) 0 l₁₀ 0 inside-tailed (λ _.
-              assigns ! (of-opd ! (load ! (from ! (fld ! refl (stop !))) (look-in ! 43 (sub ! 1 refl (whole !))))) (from ! (hop ! (look ! 19 refl) (stop !)))
+              assigns ! (of-opd ! (load ! (from ! (fld ! refl (stop !))) (look-in ! 47 (sub ! 1 refl (whole !))))) (from ! (hop ! (look ! 19 refl) (stop !)))
               (store ! 0 refl (tt, record { fits = fields is .1 .0 .1 })) $ move ! (1 ∷ []) $ drop ! $
               owned ! u64 (Is u64) (uint-makes 𝓤 H A W w64) (x .head) _ (refl, fields is .1 .0 .1) $ move ! (1 ∷ 0 ∷ []) $
               elem-put ! u64 fullShare tailed (256 + i .0) (x .head) (vint w64 (x .head) ∷ []) l₁₀ 0 inside-tailed $
               -- its capacity
-              assigns ! (bin ! (lit ! tt) (held ! 43 refl) (record { fits = small 512 (omega arith) })) (from ! (stop !)) (store ! 31 refl (tt, record { fits = small 512 (omega arith) })) $
+              assigns ! (bin ! (lit ! tt) (held ! 47 refl) (record { fits = small 512 (omega arith) })) (from ! (stop !)) (store ! 31 refl (tt, record { fits = small 512 (omega arith) })) $
               assigns ! (bin ! (held ! 31 refl) (lit ! tt) (record { fits = byte 512 (omega arith) })) (from ! (stop !)) (store ! 25 refl (tt, record { fits = byte 512 (omega arith) })) $
               sets ! (addr ! (from ! (stop !))) 15 refl (tt, tt) $
               sets ! (bin ! (held ! 15 refl) (held ! 25 refl) tt) 13 refl (tt, tt) $
-              rewrite ! 13 (λ (p : ℕ). ‵ (fat fullShare tyPtr l₂₆ 0 (vptr l₁₀ p))) (sym (place-is 8 0 (512 + i .0))) refl $
+              rewrite ! 13 (λ (p : ℕ). ‵ (fat fullShare tyPtr l₂₈ 0 (vptr l₁₀ p))) (sym (place-is 8 0 (512 + i .0))) refl $
               elem-out ! u64 (Is u64) (shows 𝓤 H A u64) (uint-vals w64) (uint-tells w64) fullShare headed (512 + i .0) 0 l₁₀ 0 inside-headed (λ _.
-              assigns ! (of-opd ! (load ! (from ! (fld ! refl (stop !))) (look-in ! 43 (sub ! 2 refl (whole !))))) (from ! (hop ! (look ! 15 refl) (stop !)))
+              assigns ! (of-opd ! (load ! (from ! (fld ! refl (stop !))) (look-in ! 47 (sub ! 2 refl (whole !))))) (from ! (hop ! (look ! 15 refl) (stop !)))
               (store ! 0 refl (tt, record { fits = fields is .1 .1 .0 .1 })) $ move ! (1 ∷ []) $ drop ! $
               owned ! u64 (Is u64) (uint-makes 𝓤 H A W w64) (x .capacity) _ (refl, fields is .1 .1 .0 .1) $ move ! (1 ∷ 0 ∷ []) $
               elem-put ! u64 fullShare headed (512 + i .0) (x .capacity) (vint w64 (x .capacity) ∷ []) l₁₀ 0 inside-headed $
-              rewrite ! 0 (λ (ys : List ℕ). ‵ (row u64 fullShare ys l₁₀ 0)) (filled-more (now arcs) (i .0)) refl $
-              assigns-last ! (bin ! (held ! 43 refl) (lit ! tt) (record { fits = next })) (from ! (stop !))
-              (store ! 43 refl (tt, record { fits = next })) $ forget ! 41 refl $ forget ! 33 refl $ forget ! 31 refl $ forget ! 29 refl $
+              rewrite ! 0 (λ (zs : List ℕ). ‵ (row u64 fullShare zs l₁₀ 0)) (filled-more (now arcs) (i .0)) refl $
+              assigns-last ! (bin ! (held ! 47 refl) (lit ! tt) (record { fits = next })) (from ! (stop !))
+              (store ! 47 refl (tt, record { fits = next })) $ forget ! 45 refl $ forget ! 33 refl $ forget ! 31 refl $ forget ! 29 refl $
               forget ! 27 refl $ forget ! 25 refl $ forget ! 23 refl $ forget ! 21 refl $ forget ! 19 refl $ forget ! 17 refl $ forget ! 15 refl $
               forget ! 13 refl $ move ! (1 ∷ 2 ∷ 0 ∷ []) $
               again ! Nearer At i (i .0 + 1, add-one-le less) (add-one-dec m (i .0) less)))))
@@ -487,11 +631,11 @@ module _ {M : Type 1} (𝓤 : URA M) (H : Heap 𝓤) (A : Atoms 𝓤) (W : Given
               fields is = LL.owed arc.the-type arc-laws.the-laws x _ is
 
               -- the array as it was, and with the tail, and with the head too
-              xs : List ℕ
-              xs = filled (now arcs) (i .0)
+              ys : List ℕ
+              ys = filled (now arcs) (i .0)
 
               tailed : List ℕ
-              tailed = set xs (0 + i .0) (x .tail)
+              tailed = set ys (0 + i .0) (x .tail)
 
               headed : List ℕ
               headed = set tailed (256 + i .0) (x .head)
@@ -502,15 +646,15 @@ module _ {M : Type 1} (𝓤 : URA M) (H : Heap 𝓤) (A : Atoms 𝓤) (W : Given
               within : i .0 < m
               within = less
 
-              inside : 0 + i .0 < length xs
+              inside : 0 + i .0 < length ys
               inside = omega (arith, less, few, length-filled (now arcs) (i .0))
 
               inside-tailed : 256 + i .0 < length tailed
-              inside-tailed = omega (arith, less, few, length-set xs (0 + i .0) (x .tail), length-filled (now arcs) (i .0))
+              inside-tailed = omega (arith, less, few, length-set ys (0 + i .0) (x .tail), length-filled (now arcs) (i .0))
 
               inside-headed : 512 + i .0 < length headed
               inside-headed =
-                  omega (arith, less, few, length-set tailed (256 + i .0) (x .head), length-set xs (0 + i .0) (x .tail), length-filled (now arcs) (i .0))
+                  omega (arith, less, few, length-set tailed (256 + i .0) (x .head), length-set ys (0 + i .0) (x .tail), length-filled (now arcs) (i .0))
 
               next : i .0 + 1 < 2 ^ 64
               next = omega (arith, less, few)
@@ -525,10 +669,9 @@ module _ {M : Type 1} (𝓤 : URA M) (H : Heap 𝓤) (A : Atoms 𝓤) (W : Given
               byte : (b : ℕ) → b ≤ 512 → (b + i .0) * 8 < 2 ^ 64
               byte b l = omega (arith, less, few)
           turn-at i false e =
-              sets ! (bin ! (held ! 43 refl) (held ! 50 refl) tt) 33 refl (tt, tt) $
-              rewrite ! 33 (λ (b : Bool). ‵ (fat fullShare tyBool l₁₆ 0 (vbool b))) e refl $
-              leaves-loop ! (held ! 33 refl) $ exec ! C Λ E body.t-10 (atRet E Post) $ forget ! 33 refl $
-              leaves i (ltb-false (i .0) m e)
+              sets ! (bin ! (held ! 47 refl) (held ! 54 refl) tt) 33 refl (tt, tt) $
+              rewrite ! 33 (λ (b : Bool). ‵ (fat fullShare tyBool l₁₈ 0 (vbool b))) e refl $
+              leaves-loop ! (held ! 33 refl) $ exec ! C Λ E body.t-10 (atRet E Post) $ forget ! 33 refl $ ended i e
 
           turns : (i : Upto) → Sq W (At i) (runs C Λ E body.turn-1 (anyQ (Turned i)))
           turns i = turn-at i (ltb (i .0) m) refl
@@ -536,23 +679,25 @@ module _ {M : Type 1} (𝓤 : URA M) (H : Heap 𝓤) (A : Atoms 𝓤) (W : Given
         copies :
             Sq W
             (High
+            (empty num l₁₇
+            (empty num l₁₆
             (empty num l₁₅
-            (empty num l₁₄
-            (empty num l₁₃
+            (empty refusal-laws.mir l₁₄
+            (empty verdict-laws.mir l₁₃
             (empty arc-laws.mir l₁₂
-            (empty num l₁₁ (empty (array 832) l₁₀ (empty refusal-laws.mir l₉ (empty verdict-laws.mir l₈ (holds num l₇ (vint w64 m) (Low Lent)))))))))))
+            (empty num l₁₁ (empty (array 832) l₁₀ (empty refusal-laws.mir l₉ (empty verdict-laws.mir l₈ (holds num l₇ (vint w64 m) (Low Lent)))))))))))))
             (runs C Λ E body.t-7 (atRet E Post))
         copies =
             -- 832 zeros and what they own
             owned ! u64 (Is u64) (uint-makes 𝓤 H A W w64) 0 _ (refl, lit< tt) $
             use1 W (‵ (Array u64 832 .own (replicate 832 0) zeros)) (array-repeat 𝓤 H A W u64 (uint-copy 𝓤 H A W w64) 832 0 (vint w64 0)) $
             peeks ! (Array u64 832) (Is (Array u64 832)) (shows 𝓤 H A (Array u64 832)) (replicate 832 0) zeros (λ is.
-            sets ! (rep ! 832 (lit ! tt)) 43 refl (array-is 𝓤 H A W 832 (replicate 832 0) _ is) $ move ! (43 ∷ 0 ∷ []) $
+            sets ! (rep ! 832 (lit ! tt)) 47 refl (array-is 𝓤 H A W 832 (replicate 832 0) _ is) $ move ! (47 ∷ 0 ∷ []) $
             use2 W (‵ (row u64 fullShare (replicate 832 0) l₁₀ 0)) (apart 𝓤 H A W 832 (replicate 832 0) l₁₀ (only zeros)) $
             rewrite ! 0 (λ (xs : List ℕ). ‵ (row u64 fullShare xs l₁₀ 0)) (filled-none (now arcs)) refl $
-            sets ! (of-opd ! (lit ! tt)) 41 refl (tt, record { fits = lit< tt }) $
+            sets ! (of-opd ! (lit ! tt)) 45 refl (tt, record { fits = lit< tt }) $
             -- [the array; _31; …; _0; …; the token of arcs; its borrow; what is passed on]
-            move ! (65 ∷ 64 ∷ []) $
+            move ! (69 ∷ 68 ∷ []) $
             looks-slice ! tt Rec (Is Rec) (shows 𝓤 H A Rec) spelt tells (LL.copy arc.the-type arc-laws.the-copy 𝓤 H A W) (now arcs) (arcs .ptr .0)
             (arcs .ptr .1) (λ s.
             move ! (2 ∷ []) $ drop ! $ first ! $ blocks ! $ loops ! 𝓣 Nearer Nearer-wf (At s) (turns s) (0, zero-le)))
@@ -560,62 +705,58 @@ module _ {M : Type 1} (𝓤 : URA M) (H : Heap 𝓤) (A : Atoms 𝓤) (W : Given
             zeros : List Val
             zeros = arrayVal (replicate 832 (vint w64 0)) ∷ []
 
-      -- before and after the switch on the verdict
+      -- after the call of `check_call`
       abbrev Tested : Verdict → List (Item 𝓤)
       Tested v =
           High
-          (holds num l₁₅ (vint w64 (length (now lens)))
-          (holds num l₁₄ (vint w64 (length (now flow)))
-          (holds num l₁₃ (vint w64 (length (now pairs)))
+          (holds num l₁₇ (vint w64 (length (now lens)))
+          (holds num l₁₆ (vint w64 (length (now flow)))
+          (holds num l₁₅ (vint w64 (length (now pairs)))
+          (empty refusal-laws.mir l₁₄
+          (empty verdict-laws.mir l₁₃
           (empty arc-laws.mir l₁₂
           (empty num l₁₁
-          (empty (array 832) l₁₀ (empty refusal-laws.mir l₉ (holds verdict-laws.mir l₈ (told v) (holds num l₇ (vint w64 m) (Low Lent))))))))))
-
-      abbrev Then : Kit.Post 𝓤 H
-      Then = anyQ (afterSeq 𝓤 H (Wp 𝓤 H C Λ E body.t-7 (atReturn 𝓤 H E Post)) (atReturn 𝓤 H E Post))
+          (empty (array 832) l₁₀ (empty refusal-laws.mir l₉ (holds verdict-laws.mir l₈ (told v) (holds num l₇ (vint w64 m) (Low Lent))))))))))))
 
       -- by cases on the verdict: its tag is then a numeral, and what is left computes to the arm that runs
-      matched : (v : Verdict) → Is verdict-type.the-row v (told v ∷ []) → Checked v → Sq W (Tested v) (runs C Λ E body.s-6 Then)
+      matched : (v : Verdict) → Is verdict-type.the-row v (told v ∷ []) → Checked v → Sq W (Tested v) (runs C Λ E body.s-6 (Then body.t-7))
       matched Accepted is e =
-          switches-on ! (load ! (from ! (vrt ! refl (fld ! refl (stop !)))) (look-tag ! 46 (whole !))) $ exec ! C Λ E skip Then $ skips ! $
-          exec ! C Λ E body.t-7 (atRet E Post) $ forget ! 32 refl $ forget ! 34 refl $ forget ! 36 refl $ forget ! 46 refl $ copies e
+          switches-on ! (load ! (from ! (vrt ! refl (fld ! refl (stop !)))) (look-tag ! 50 (whole !))) $ exec ! C Λ E skip (Then body.t-7) $ skips ! $
+          exec ! C Λ E body.t-7 (atRet E Post) $ forget ! 32 refl $ forget ! 34 refl $ forget ! 36 refl $ forget ! 50 refl $ copies e
       matched (Refused w) is e =
-          switches-on ! (load ! (from ! (vrt ! refl (fld ! refl (stop !)))) (look-tag ! 46 (whole !))) $ exec ! C Λ E refuses Then $
-          sets ! (of-opd ! (load ! (from ! (vrt ! refl (fld ! refl (stop !)))) (look-in ! 46 (in-variant ! 1 0 refl refl (whole !))))) 44 refl
-          (EL.lawful refusal.the-type refusal-laws.the-laws 𝓤 H A W tt .typed w _ why .0) $
-          sets ! (agg ! (and-then ! (lit ! tt) (and-then ! (held ! 44 refl) (no-more !)))) 62 refl
-          (EL.lawful reply.the-type reply-laws.the-laws 𝓤 H A W tt .typed (TurnedDown w) _ is′ .0) $
-          returns-within ! Post refl (look ! 62 refl) $
-          forget ! 62 refl $ forget ! 60 refl $ forget ! 58 refl $ forget ! 56 refl $ forget ! 54 refl $ forget ! 52 refl $ forget ! 50 refl $
-          forget ! 48 refl $ forget ! 46 refl $ forget ! 44 refl $ forget ! 36 refl $ forget ! 34 refl $ forget ! 32 refl $
-          move ! (62 ∷ 63 ∷ 60 ∷ 61 ∷ 58 ∷ 59 ∷ 56 ∷ 57 ∷ 54 ∷ 55 ∷ 52 ∷ 53 ∷ 50 ∷ 51 ∷ 48 ∷ 49 ∷ 46 ∷ 47 ∷ 44 ∷ 45 ∷ 42 ∷ 43 ∷ 40 ∷ 41 ∷ 38 ∷ 39 ∷ 36 ∷ 37 ∷
-          34 ∷ 35 ∷ 32 ∷ 33 ∷ 30 ∷ 31 ∷ 28 ∷ 29 ∷ 26 ∷ 27 ∷ 24 ∷ 25 ∷ 22 ∷ 23 ∷ 20 ∷ 21 ∷ 18 ∷ 19 ∷ 16 ∷ 17 ∷ 14 ∷ 15 ∷ 12 ∷ 13 ∷ 10 ∷ 11 ∷ 8 ∷ 9 ∷ 6
-          ∷ 7 ∷ 4 ∷ 5 ∷ 2 ∷ 3 ∷ 0 ∷ 1 ∷ []) $
-          frees-all ! E $ by ! (turns-down w is′ e)
-        where
-          why : Is refusal.the-row w (EL.vals refusal.the-type refusal-laws.the-laws w)
-          why = EL.owed verdict-type.the-type verdict-laws.the-laws (Refused w) _ is .0
-
-          is′ : Is reply.the-row (TurnedDown w) (down w ∷ [])
-          is′ = EL.owes reply.the-type reply-laws.the-laws (TurnedDown w) (why, tt)
+          switches-on ! (load ! (from ! (vrt ! refl (fld ! refl (stop !)))) (look-tag ! 50 (whole !))) $ exec ! C Λ E (refuses 8 9) (Then body.t-7) $
+          sets ! (of-opd ! (load ! (from ! (vrt ! refl (fld ! refl (stop !)))) (look-in ! 50 (in-variant ! 1 0 refl refl (whole !))))) 48 refl
+          (EL.lawful refusal.the-type refusal-laws.the-laws 𝓤 H A W tt .typed w _ (why w is) .0) $
+          sets ! (agg ! (and-then ! (lit ! tt) (and-then ! (held ! 48 refl) (no-more !)))) 66 refl
+          (EL.lawful reply.the-type reply-laws.the-laws 𝓤 H A W tt .typed (TurnedDown w) _ (tells-why w is) .0) $
+          returns-within ! Post refl (look ! 66 refl) $
+          forget ! 66 refl $ forget ! 64 refl $ forget ! 62 refl $ forget ! 60 refl $ forget ! 58 refl $ forget ! 56 refl $ forget ! 54 refl $
+          forget ! 52 refl $ forget ! 50 refl $ forget ! 48 refl $ forget ! 36 refl $ forget ! 34 refl $ forget ! 32 refl $
+          move ! (66 ∷ 67 ∷ 64 ∷ 65 ∷ 62 ∷ 63 ∷ 60 ∷ 61 ∷ 58 ∷ 59 ∷ 56 ∷ 57 ∷ 54 ∷ 55 ∷ 52 ∷ 53 ∷ 50 ∷ 51 ∷ 48 ∷ 49 ∷ 46 ∷ 47 ∷ 44 ∷ 45 ∷ 42 ∷ 43 ∷ 40 ∷ 41 ∷
+          38 ∷ 39 ∷ 36 ∷ 37 ∷ 34 ∷ 35 ∷ 32 ∷ 33 ∷ 30 ∷ 31 ∷ 28 ∷ 29 ∷ 26 ∷ 27 ∷ 24 ∷ 25 ∷ 22 ∷ 23 ∷ 20 ∷ 21 ∷ 18 ∷ 19 ∷ 16 ∷ 17 ∷ 14 ∷ 15 ∷ 12 ∷ 13 ∷
+          10 ∷ 11 ∷ 8 ∷ 9 ∷ 6 ∷ 7 ∷ 4 ∷ 5 ∷ 2 ∷ 3 ∷ 0 ∷ 1 ∷ []) $
+          frees-all ! E $ keep ! (0 ∷ 2 ∷ 3 ∷ 4 ∷ 6 ∷ 7 ∷ []) $
+          by ! (turns-down w (tells-why w is) (served-refused n q (now arcs) (now pairs) (now flow) (now lens) w (sym e)))
 
       begins :
           Sq W
           (High
+          (empty num l₁₇
+          (empty num l₁₆
           (empty num l₁₅
-          (empty num l₁₄
-          (empty num l₁₃
+          (empty refusal-laws.mir l₁₄
+          (empty verdict-laws.mir l₁₃
           (empty arc-laws.mir l₁₂
-          (empty num l₁₁ (empty (array 832) l₁₀ (empty refusal-laws.mir l₉ (empty verdict-laws.mir l₈ (empty num l₇ (Low Lent)))))))))))
+          (empty num l₁₁ (empty (array 832) l₁₀ (empty refusal-laws.mir l₉ (empty verdict-laws.mir l₈ (empty num l₇ (Low Lent)))))))))))))
           (runs C Λ E body.t-1 (atRet E Post))
       begins =
-          sets ! (of-opd ! (load ! (from ! (fld ! refl (stop !))) (look-in ! 56 (sub ! 1 refl (whole !))))) 48 refl (tt, record { fits = ra .0 }) $
-          sets ! (of-opd ! (load ! (from ! (fld ! refl (stop !))) (look-in ! 54 (sub ! 1 refl (whole !))))) 36 refl (tt, record { fits = rp .0 }) $
-          sets ! (of-opd ! (load ! (from ! (fld ! refl (stop !))) (look-in ! 52 (sub ! 1 refl (whole !))))) 34 refl (tt, record { fits = rf .0 }) $
-          sets ! (of-opd ! (load ! (from ! (fld ! refl (stop !))) (look-in ! 50 (sub ! 1 refl (whole !))))) 32 refl (tt, record { fits = rl .0 }) $
+          sets ! (of-opd ! (load ! (from ! (fld ! refl (stop !))) (look-in ! 60 (sub ! 1 refl (whole !))))) 52 refl (tt, record { fits = ra .0 }) $
+          sets ! (of-opd ! (load ! (from ! (fld ! refl (stop !))) (look-in ! 58 (sub ! 1 refl (whole !))))) 36 refl (tt, record { fits = rp .0 }) $
+          sets ! (of-opd ! (load ! (from ! (fld ! refl (stop !))) (look-in ! 56 (sub ! 1 refl (whole !))))) 34 refl (tt, record { fits = rf .0 }) $
+          sets ! (of-opd ! (load ! (from ! (fld ! refl (stop !))) (look-in ! 54 (sub ! 1 refl (whole !))))) 32 refl (tt, record { fits = rl .0 }) $
           use0 W (raw (Check 𝓤 H A mem run .pre to-check)) asks-check $
           calls-at ! (fmOf 𝓤 H (W .laws) 𝓣) (Check 𝓤 H A mem run) known-check to-check
-          (and-then ! (held ! 61 refl) (and-then ! (held ! 59 refl) (and-then ! (held ! 49 refl)
+          (and-then ! (held ! 65 refl) (and-then ! (held ! 63 refl) (and-then ! (held ! 53 refl)
           (and-then ! (held ! 37 refl) (and-then ! (held ! 35 refl) (and-then ! (held ! 33 refl) (no-more !))))))) (λ u.
           use1 W
           (later
@@ -625,21 +766,16 @@ module _ {M : Type 1} (𝓤 : URA M) (H : Heap 𝓤) (A : Atoms 𝓤) (W : Given
           split ! $ move ! (1 ∷ []) $
           peeks ! verdict-type.the-row (Is verdict-type.the-row) (shows 𝓤 H A verdict-type.the-row) v (u ∷ []) (λ is.
           -- [the verdict; true; _31; …; _0; …; the token of arcs; its borrow; what is passed on]
-          land ! (from ! (stop !)) (init ! 48 refl (EL.lawful verdict-type.the-type verdict-laws.the-laws 𝓤 H A W tt .typed v _ is .0)) $
-          rewrite ! 48 (λ (x : Val). ‵ (fat fullShare verdict-laws.mir l₈ 0 x)) (ap only (EL.tells verdict-type.the-type verdict-laws.the-laws v _ is)) refl $
+          land ! (from ! (stop !)) (init ! 52 refl (EL.lawful verdict-type.the-type verdict-laws.the-laws 𝓤 H A W tt .typed v _ is .0)) $
+          rewrite ! 52 (λ (x : Val). ‵ (fat fullShare verdict-laws.mir l₈ 0 x)) (ap only (EL.tells verdict-type.the-type verdict-laws.the-laws v _ is)) refl $
           drop ! $ drop ! $ first ! $ matched v (spells v u is) e))))
-        where
-          -- the verdict's machine value is spelt out
-          spells : (v : Verdict) (u : Val) → Is verdict-type.the-row v (u ∷ []) → Is verdict-type.the-row v (told v ∷ [])
-          spells v u is =
-              EL.owes verdict-type.the-type verdict-laws.the-laws v (EL.owed verdict-type.the-type verdict-laws.the-laws v _ is)
 
     walk :
         (𝓣 : Tables 𝓤 H) → Triple 𝓤 (𝓣 .C #records·sizes·check-call) (Check 𝓤 H A mem run) →
-        Triple 𝓤 (𝓣 .C #records·judge·judge) (Judge 𝓤 H A mem run) →
+        Triple 𝓤 (𝓣 .C #records·judge·check-copy) (Items 𝓤 H A mem run) → Triple 𝓤 (𝓣 .C #records·judge·deliver) (Deliver 𝓤 H A mem run) →
         ent 𝓤 (onEntry 𝓤 H A solve.signature (κa, (κp, (κf, (κl, tt)))) (qa, (qp, (qf, (ql, tt)))) a vals)
         (WpFn 𝓤 H (𝓣 .C) (𝓣 .Λ) code.function flat Post)
-    walk 𝓣 known-check known =
+    walk 𝓣 known-check known-items known =
         qed W
         ((‵ (flft κa qa) ⊛ Tokens) ∷
         ‵
@@ -653,16 +789,18 @@ module _ {M : Type 1} (𝓤 : URA M) (H : Heap 𝓤) (A : Atoms 𝓤) (W : Given
         alloc1 ! (λ l₀. alloc1 ! (λ l₁. alloc1 ! (λ l₂. alloc1 ! (λ l₃. alloc1 ! (λ l₄. alloc1 ! (λ l₅. alloc1 ! (λ l₆. alloc1 ! (λ l₇. alloc1 ! (λ
         l₈. alloc1 ! (λ l₉. alloc1 ! (λ l₁₀. alloc1 ! (λ l₁₁. alloc1 ! (λ l₁₂. alloc1 ! (λ l₁₃. alloc1 ! (λ l₁₄. alloc1 ! (λ l₁₅. alloc1 ! (λ l₁₆.
         alloc1 ! (λ l₁₇. alloc1 ! (λ l₁₈. alloc1 ! (λ l₁₉. alloc1 ! (λ l₂₀. alloc1 ! (λ l₂₁. alloc1 ! (λ l₂₂. alloc1 ! (λ l₂₃. alloc1 ! (λ l₂₄. alloc1
-        ! (λ l₂₅. alloc1 ! (λ l₂₆. alloc1 ! (λ l₂₇. alloc1 ! (λ l₂₈. alloc1 ! (λ l₂₉. alloc1 ! (λ l₃₀. alloc1 ! (λ l₃₁. alloc0 ! $ params1 ! $
-        pass1 ! (init ! 60 refl (tt, record { fits = gn })) $ pass1 ! (init ! 58 refl (tt, record { fits = gq })) $
-        pass1 ! (init ! 56 refl (tt, (tt, (record { fits = ra .0 }, tt)))) $ pass1 ! (init ! 54 refl (tt, (tt, (record { fits = rp .0 }, tt)))) $
-        pass1 ! (init ! 52 refl (tt, (tt, (record { fits = rf .0 }, tt)))) $ pass1 ! (init ! 50 refl (tt, (tt, (record { fits = rl .0 }, tt)))) $
+        ! (λ l₂₅. alloc1 ! (λ l₂₆. alloc1 ! (λ l₂₇. alloc1 ! (λ l₂₈. alloc1 ! (λ l₂₉. alloc1 ! (λ l₃₀. alloc1 ! (λ l₃₁. alloc1 ! (λ l₃₂. alloc1 ! (λ
+        l₃₃. alloc0 ! $ params1 ! $
+        pass1 ! (init ! 64 refl (tt, record { fits = gn })) $ pass1 ! (init ! 62 refl (tt, record { fits = gq })) $
+        pass1 ! (init ! 60 refl (tt, (tt, (record { fits = ra .0 }, tt)))) $ pass1 ! (init ! 58 refl (tt, (tt, (record { fits = rp .0 }, tt)))) $
+        pass1 ! (init ! 56 refl (tt, (tt, (record { fits = rf .0 }, tt)))) $ pass1 ! (init ! 54 refl (tt, (tt, (record { fits = rl .0 }, tt)))) $
         pass0 ! $
-        begins 𝓣 known-check known l₀ l₁ l₂ l₃ l₄ l₅ l₆ l₇ l₈ l₉ l₁₀ l₁₁ l₁₂ l₁₃ l₁₄ l₁₅ l₁₆ l₁₇ l₁₈ l₁₉ l₂₀ l₂₁ l₂₂ l₂₃ l₂₄ l₂₅ l₂₆ l₂₇ l₂₈ l₂₉ l₃₀ l₃₁))))))))))))))))))))))))))))))))
+        begins 𝓣 known-check known-items known l₀ l₁ l₂ l₃ l₄ l₅ l₆ l₇ l₈ l₉ l₁₀ l₁₁ l₁₂ l₁₃ l₁₄ l₁₅ l₁₆ l₁₇ l₁₈ l₁₉ l₂₀ l₂₁ l₂₂ l₂₃ l₂₄ l₂₅ l₂₆ l₂₇ l₂₈ l₂₉ l₃₀ l₃₁ l₃₂ l₃₃))))))))))))))))))))))))))))))))))
 
 module _ {M : Type 1} (𝓤 : URA M) (H : Heap 𝓤) (A : Atoms 𝓤) (W : Given 𝓤 H A) (mem : Memory → SProp 𝓤) (run : Routine → Fun 𝓤) (𝓣 : Tables 𝓤 H)
     (known-check : Triple 𝓤 (𝓣 .C #records·sizes·check-call) (Check 𝓤 H A mem run))
-    (known : Triple 𝓤 (𝓣 .C #records·judge·judge) (Judge 𝓤 H A mem run)) where
+    (known-items : Triple 𝓤 (𝓣 .C #records·judge·check-copy) (Items 𝓤 H A mem run))
+    (known : Triple 𝓤 (𝓣 .C #records·judge·deliver) (Deliver 𝓤 H A mem run)) where
   solve-walks : Walks 𝓤 H A solve.ended stayed (WpFn 𝓤 H (𝓣 .C) (𝓣 .Λ) code.function) (solve.clauses 𝓤 H A mem run)
   solve-walks =
       walked 𝓤 H A solve.ended stayed (solve.clauses 𝓤 H A mem run) (WpFn 𝓤 H (𝓣 .C) (𝓣 .Λ) code.function)
@@ -684,7 +822,7 @@ module _ {M : Type 1} (𝓤 : URA M) (H : Heap 𝓤) (A : Atoms 𝓤) (W : Given
       via 𝓤 _ (fst∗ 𝓤 _ (emp 𝓤))
       (walk 𝓤 H A W mem run (κs .0) (κs .1 .0) (κs .1 .1 .0) (κs .1 .1 .1 .0) (qs .0) (qs .1 .0) (qs .1 .1 .0) (qs .1 .1 .1 .0)
       (a .0) (a .1 .0) (a .1 .1 .0) (a .1 .1 .1 .0) (a .1 .1 .1 .1 .0) (a .1 .1 .1 .1 .1 .0) (are .0 .1) (are .1 .0 .1)
-      (are .1 .1 .0 .0 .1) (are .1 .1 .1 .0 .0 .1) (are .1 .1 .1 .1 .0 .0 .1) (are .1 .1 .1 .1 .1 .0 .0 .1) 𝓣 known-check known))
+      (are .1 .1 .0 .0 .1) (are .1 .1 .1 .0 .0 .1) (are .1 .1 .1 .1 .0 .0 .1) (are .1 .1 .1 .1 .1 .0 .0 .1) 𝓣 known-check known-items known))
 
   goes : AllGo 𝓤 H A W 4 (solve.signature .params) (solve.ended .kept) stayed
   goes = (
@@ -717,5 +855,7 @@ solve-spec 𝓤 H 𝓜 𝓖 𝓡 =
     (solve-meets 𝓤 H (𝓖 .A) (givenOf 𝓤 H 𝓜 𝓖) (𝓜 .mem) (𝓡 .run) (tablesOf 𝓤 H 𝓜 (tables 𝓤 H 𝓜 𝓡 code.env))
     (cited 𝓤 H (Check 𝓤 H (𝓖 .A) (𝓜 .mem) (𝓡 .run)) 𝓜 𝓡 code.env #records·sizes·check-call check-def.routine code.calls-records·sizes·check-call
     (check-thm.met 𝓤 H 𝓜 𝓖 𝓡))
-    (cited 𝓤 H (Judge 𝓤 H (𝓖 .A) (𝓜 .mem) (𝓡 .run)) 𝓜 𝓡 code.env #records·judge·judge judge-def.routine code.calls-records·judge·judge
-    (judge-thm.met 𝓤 H 𝓜 𝓖 𝓡)))
+    (cited 𝓤 H (Items 𝓤 H (𝓖 .A) (𝓜 .mem) (𝓡 .run)) 𝓜 𝓡 code.env #records·judge·check-copy items-def.routine code.calls-records·judge·check-copy
+    (items-thm.met 𝓤 H 𝓜 𝓖 𝓡))
+    (cited 𝓤 H (Deliver 𝓤 H (𝓖 .A) (𝓜 .mem) (𝓡 .run)) 𝓜 𝓡 code.env #records·judge·deliver deliver-def.routine code.calls-records·judge·deliver
+    (deliver-thm.met 𝓤 H 𝓜 𝓖 𝓡)))
