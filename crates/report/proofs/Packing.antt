@@ -6,8 +6,8 @@ use native.Mathlib.Omega.{arith}
 use borrow.Rule.Slice.PartMut.{putMid, same-len-mid}
 use lib.ListN.{length, set, take, drop, length-set, length-drop}
 use lib.Seq.{drop-set-add, take-set-le}
-use Rattle.packed.specs.Packed.{column, netIn}
-use Rattle.packed.proofs.Columns.{column-length, column-put, column-before}
+use Rattle.packed.specs.Packed.{column, netIn, netNumbers, tailsFrom, headsFrom, capacitiesFrom, sourcesFrom, sinksFrom, put}
+use Rattle.packed.proofs.Columns.{column-length, put-length, column-put, column-before}
 use Rattle.packed.specs.declared.Shape.{Shape}
 
 -- A number that is put behind a column
@@ -19,23 +19,20 @@ alone : (ys : List ℕ) (v : ℕ) → 0 < length ys → take 1 (set ys 0 v) ≡ 
 alone [] v h = absurd (omega arith)
 alone (y ∷ ys) v h = refl
 
-pub put-length : (a n : ℕ) (xs ys : List ℕ) → a + n ≤ length xs → length ys ≡ n → length (putMid a (a + n - a) xs ys) ≡ length xs
-put-length a n xs ys h e = same-len-mid a (a + n - a) xs ys (e ∙ sym (column-length a n xs h))
-
-module _ (s : Shape) (few : s .arcs ≤ 256) (xs : List ℕ) (places : 832 ≤ length xs) where
+module _ (s : Shape) (few : s .arcs ≤ 256) (xs : List ℕ) (places : netNumbers ≤ length xs) where
   module _ {t t' h h' c c' : List ℕ} (et : t' ≡ t) (eh : h' ≡ h) (ec : c' ≡ c) (source sink : ℕ)
       (many-t : length t ≡ s .arcs) (many-h : length h ≡ s .arcs) (many-c : length c ≡ s .arcs) where
     abbrev m : ℕ
     m = s .arcs
 
     abbrev tailed : List ℕ
-    tailed = putMid 0 (0 + m - 0) xs t'
+    tailed = put tailsFrom m xs t'
 
     abbrev headed : List ℕ
-    headed = putMid 256 (256 + m - 256) tailed h'
+    headed = put headsFrom m tailed h'
 
     abbrev arced : List ℕ
-    arced = putMid 512 (512 + m - 512) headed c'
+    arced = put capacitiesFrom m headed c'
 
     abbrev filled : List ℕ
     filled = set (set arced 768 source) 800 sink
@@ -49,16 +46,16 @@ module _ (s : Shape) (few : s .arcs ≤ 256) (xs : List ℕ) (places : 832 ≤ l
     nc : length c' ≡ m
     nc = ap length ec ∙ many-c
 
-    long₁ : 832 ≤ length tailed
-    long₁ = omega (arith, put-length 0 m xs t' (omega arith) nt)
+    long₁ : netNumbers ≤ length tailed
+    long₁ = omega (arith, put-length tailsFrom m xs t' (omega arith) nt)
 
-    long₂ : 832 ≤ length headed
-    long₂ = omega (arith, long₁, put-length 256 m tailed h' (omega (arith, long₁)) nh)
+    long₂ : netNumbers ≤ length headed
+    long₂ = omega (arith, long₁, put-length headsFrom m tailed h' (omega (arith, long₁)) nh)
 
     long : length arced ≡ length xs
     long =
-        put-length 512 m headed c' (omega (arith, long₂)) nc ∙ put-length 256 m tailed h' (omega (arith, long₁)) nh ∙
-        put-length 0 m xs t' (omega arith) nt
+        put-length capacitiesFrom m headed c' (omega (arith, long₂)) nc ∙ put-length headsFrom m tailed h' (omega (arith, long₁)) nh ∙
+        put-length tailsFrom m xs t' (omega arith) nt
 
     -- The slice keeps its length.
     pub sink-place : 800 < length (set arced 768 source)
@@ -67,31 +64,31 @@ module _ (s : Shape) (few : s .arcs ≤ 256) (xs : List ℕ) (places : 832 ≤ l
     pub packed-length : length filled ≡ length xs
     packed-length = length-set (set arced 768 source) 800 sink ∙ (length-set arced 768 source ∙ long)
 
-    tails-in : column 0 m filled ≡ t
+    tails-in : column tailsFrom m filled ≡ t
     tails-in =
-        behind 0 m (set arced 768 source) 800 sink (omega arith) ∙ behind 0 m arced 768 source (omega arith) ∙
-        column-before 512 m headed 0 m c' (omega (arith, long₂)) (omega arith) ∙
-        column-before 256 m tailed 0 m h' (omega (arith, long₁)) (omega arith) ∙ column-put 0 m xs t' (omega arith) nt ∙ et
+        behind tailsFrom m (set arced 768 source) 800 sink (omega arith) ∙ behind tailsFrom m arced 768 source (omega arith) ∙
+        column-before capacitiesFrom m headed 0 m c' (omega (arith, long₂)) (omega arith) ∙
+        column-before headsFrom m tailed 0 m h' (omega (arith, long₁)) (omega arith) ∙ column-put tailsFrom m xs t' (omega arith) nt ∙ et
 
-    heads-in : column 256 m filled ≡ h
+    heads-in : column headsFrom m filled ≡ h
     heads-in =
-        behind 256 m (set arced 768 source) 544 sink (omega arith) ∙ behind 256 m arced 512 source (omega arith) ∙
-        column-before 512 m headed 256 m c' (omega (arith, long₂)) (omega arith) ∙ column-put 256 m tailed h' (omega (arith, long₁)) nh ∙ eh
+        behind headsFrom m (set arced 768 source) 544 sink (omega arith) ∙ behind headsFrom m arced 512 source (omega arith) ∙
+        column-before capacitiesFrom m headed 256 m c' (omega (arith, long₂)) (omega arith) ∙ column-put headsFrom m tailed h' (omega (arith, long₁)) nh ∙ eh
 
-    capacities-in : column 512 m filled ≡ c
+    capacities-in : column capacitiesFrom m filled ≡ c
     capacities-in =
-        behind 512 m (set arced 768 source) 288 sink (omega arith) ∙ behind 512 m arced 256 source (omega arith) ∙
-        column-put 512 m headed c' (omega (arith, long₂)) nc ∙ ec
+        behind capacitiesFrom m (set arced 768 source) 288 sink (omega arith) ∙ behind capacitiesFrom m arced 256 source (omega arith) ∙
+        column-put capacitiesFrom m headed c' (omega (arith, long₂)) nc ∙ ec
 
-    sources-in : column 768 1 filled ≡ source ∷ []
+    sources-in : column sourcesFrom 1 filled ≡ source ∷ []
     sources-in =
-        behind 768 1 (set arced 768 source) 32 sink (omega arith) ∙
-        (ap (take 1) (drop-set-add 768 arced 0 source) ∙ alone (drop 768 arced) source (omega (arith, long, length-drop 768 arced)))
+        behind sourcesFrom 1 (set arced 768 source) 32 sink (omega arith) ∙
+        (ap (take 1) (drop-set-add sourcesFrom arced 0 source) ∙ alone (drop sourcesFrom arced) source (omega (arith, long, length-drop sourcesFrom arced)))
 
-    sinks-in : column 800 1 filled ≡ sink ∷ []
+    sinks-in : column sinksFrom 1 filled ≡ sink ∷ []
     sinks-in =
-        ap (take 1) (drop-set-add 800 (set arced 768 source) 0 sink) ∙
-        alone (drop 800 (set arced 768 source)) sink (omega (arith, long, length-set arced 768 source, length-drop 800 (set arced 768 source)))
+        ap (take 1) (drop-set-add sinksFrom (set arced 768 source) 0 sink) ∙
+        alone (drop sinksFrom (set arced 768 source)) sink (omega (arith, long, length-set arced 768 source, length-drop sinksFrom (set arced 768 source)))
 
     pub packed :
         s .commodities ≡ 1 →

@@ -10,7 +10,7 @@ use Rattle.network.specs.declared.Verdict.{Verdict}
 use Rattle.network.specs.declared.Verdict.the-variants.{Accepted}
 use Rattle.method.specs.Answer.{outcome}
 use Rattle.method.specs.Guarantee.{Guarantee}
-use Rattle.packed.specs.Packed.{netIn, Packed, Lent}
+use Rattle.packed.specs.Packed.{netIn, Packed, Lent, netNumbers, tableNumbers}
 use Rattle.packed.specs.declared.Shape.{Shape}
 use Rattle.dimacs.specs.OneCommodity.{OneCommodity}
 use Rattle.dimacs.specs.declared.Parsed.{Parsed}
@@ -56,7 +56,7 @@ pub record Packing (file : Parsed) (net : List ℕ) : Type 0 where
   pub of-tails : length (file .tails) ≡ mostArcs
   pub of-heads : length (file .heads) ≡ mostArcs
   pub of-capacities : length (file .capacities) ≡ mostArcs
-  pub places : 832 ≤ length net
+  pub places : netNumbers ≤ length net
 
 -- A file's network, and room for its rows: 159 bytes for the first three, and 90 for each of 256 arcs.
 pub record Judging (s : Shape) (net : List ℕ) (at room : ℕ) : Type 0 where
@@ -74,7 +74,7 @@ pub record Ready (s : Shape) (net : List ℕ) (at room : ℕ) : Type 0 where
 pub record Showing (s : Shape) (net flow tables : List ℕ) (at room : ℕ) : Type 0 where
   pub ready : Ready s net at room
   pub flows : length flow ≡ s .arcs
-  pub places : 768 ≤ length tables
+  pub places : tableNumbers ≤ length tables
 
 -- The rows that follow from the verdict v on a network stand from place `at` on; where it is accepted, all that holds of its outcome.
 pub record Shown (net : Network) (v : Verdict) (out : List ℕ) (at : ℕ) (out' : List ℕ) (end : ℕ) : Type 0 where

@@ -4,6 +4,7 @@ use mathlib.Core.Path.{_≡_}
 use native.Mathlib.Omega.{arith}
 use lib.ListN.{length-replicate}
 use Prim.Native.Nat.{ℕ}
+use Rattle.packed.specs.Packed.{netNumbers}
 use Rattle.dimacs.proofs.Handed.{accepted-holds, refused-why}
 use Rattle.dimacs.proofs.Holds.{network-sizes}
 use Rattle.dimacs.proofs.Whole.{whole}
@@ -31,7 +32,7 @@ returns c =
 pack-requires : tie.Need-pack-requires
 pack-requires c κs =
     let w = whole _ (read-at (c .before .before .before) .read .ensures .result) in
-    record { few = w .few; of-tails = w .tails; of-heads = w .heads; of-capacities = w .capacities; places = omega (arith, length-replicate {A = ℕ} 832 0) }
+    record { few = w .few; of-tails = w .tails; of-heads = w .heads; of-capacities = w .capacities; places = omega (arith, length-replicate {A = ℕ} netNumbers 0) }
 
 -- the file holds the network that is packed
 held : (c : tie.After-pack) → parsed (now (read-at (put-at c) .before .before .args .text)) ≡ holds (networkRead (read-at (put-at c) .read .result))
@@ -42,7 +43,7 @@ judge-requires c κs =
     let f = c .before .before .before in
     let w = whole _ (read-at (put-at f) .read .ensures .result) in
     record {
-      packed = record { few-arcs = w .few; few-commodities = omega arith; places = omega (arith, f .pack .kept .1 .0, length-replicate {A = ℕ} 832 0) };
+      packed = record { few-arcs = w .few; few-commodities = omega arith; places = omega (arith, f .pack .kept .1 .0, length-replicate {A = ℕ} netNumbers 0) };
       held = rw (f .pack .ensures) (network-sizes _ (held f));
       enough = omega (arith, put-at f .put .ensures .next);
     }

@@ -7,9 +7,10 @@ use native.Mathlib.Omega.{arith}
 use borrow.Rule.Slice.PartMut.{putMid}
 use lib.ListN.{length, take}
 use lib.Seq.{length-take-le}
-use Rattle.packed.proofs.Columns.{column-length}
+use Rattle.packed.specs.Packed.{netNumbers, tailsFrom, headsFrom, capacitiesFrom, put}
+use Rattle.packed.proofs.Columns.{column-length, put-length}
 use Rattle.report.specs.Shown.{shapeOf}
-use Rattle.report.proofs.Packing.{put-length, sink-place, packed-length, packed}
+use Rattle.report.proofs.Packing.{sink-place, packed-length, packed}
 use borrow.Author.Needs.{needs}
 use Rattle.report.proofs.file.pack.Statement.{statement}
 use Rattle.report.proofs.file.pack.Tie as tie
@@ -40,22 +41,22 @@ heads-at c = c .before .before .before .before .before .before
 
 -- the slice after the first and the second
 abbrev tailed : tie.After-copy → List ℕ
-tailed c = putMid 0 (0 + m (entry c) - 0) (now (entry c .args .net)) (c .copy .last .1 .0)
+tailed c = put tailsFrom (m (entry c)) (now (entry c .args .net)) (c .copy .last .1 .0)
 
 abbrev headed : tie.After-copy2 → List ℕ
-headed c = putMid 256 (256 + m (entry (tails-at c)) - 256) (tailed (tails-at c)) (c .copy2 .last .1 .0)
+headed c = put headsFrom (m (entry (tails-at c))) (tailed (tails-at c)) (c .copy2 .last .1 .0)
 
-tailed-long : (c : tie.After-copy) → 832 ≤ length (tailed c)
+tailed-long : (c : tie.After-copy) → netNumbers ≤ length (tailed c)
 tailed-long c =
     let s = entry c in
-    let e = put-length 0 (m s) (now (s .args .net)) (c .copy .last .1 .0) (omega (arith, s .pre .few, s .pre .places)) (ap length (c .copy .ensures) ∙ tails-many s) in
+    let e = put-length tailsFrom (m s) (now (s .args .net)) (c .copy .last .1 .0) (omega (arith, s .pre .few, s .pre .places)) (ap length (c .copy .ensures) ∙ tails-many s) in
     omega (arith, e, s .pre .places)
 
-headed-long : (c : tie.After-copy2) → 832 ≤ length (headed c)
+headed-long : (c : tie.After-copy2) → netNumbers ≤ length (headed c)
 headed-long c =
     let t = tails-at c in
     let s = entry t in
-    let e = put-length 256 (m s) (tailed t) (c .copy2 .last .1 .0) (omega (arith, s .pre .few, tailed-long t)) (ap length (c .copy2 .ensures) ∙ heads-many s) in
+    let e = put-length headsFrom (m s) (tailed t) (c .copy2 .last .1 .0) (omega (arith, s .pre .few, tailed-long t)) (ap length (c .copy2 .ensures) ∙ heads-many s) in
     omega (arith, e, tailed-long t)
 
 slice-aggregate-copy : tie.Need-slice-aggregate-copy
@@ -64,7 +65,7 @@ slice-aggregate-copy c = sym (tails-many (c .before .before .before))
 copy-requires : tie.Need-copy-requires
 copy-requires c κs =
     let s = c .before .before .before .before in
-    column-length 0 (m s) (now (s .args .net)) (omega (arith, s .pre .few, s .pre .places)) ∙ sym (tails-many s)
+    column-length tailsFrom (m s) (now (s .args .net)) (omega (arith, s .pre .few, s .pre .places)) ∙ sym (tails-many s)
 
 slice-aggregate-copy-2 : tie.Need-slice-aggregate-copy-2
 slice-aggregate-copy-2 c = sym (heads-many (entry (c .before .before .before .before)))
@@ -73,7 +74,7 @@ copy-requires-2 : tie.Need-copy-requires-2
 copy-requires-2 c κs =
     let t = c .before .before .before .before .before in
     let s = entry t in
-    column-length 256 (m s) (tailed t) (omega (arith, s .pre .few, tailed-long t)) ∙ sym (heads-many s)
+    column-length headsFrom (m s) (tailed t) (omega (arith, s .pre .few, tailed-long t)) ∙ sym (heads-many s)
 
 slice-aggregate-copy-3 : tie.Need-slice-aggregate-copy-3
 slice-aggregate-copy-3 c = sym (capacities-many (entry (tails-at (c .before .before .before .before))))
@@ -82,7 +83,7 @@ copy-requires-3 : tie.Need-copy-requires-3
 copy-requires-3 c κs =
     let h = c .before .before .before .before .before in
     let s = entry (tails-at h) in
-    column-length 512 (m s) (headed h) (omega (arith, s .pre .few, headed-long h)) ∙ sym (capacities-many s)
+    column-length capacitiesFrom (m s) (headed h) (omega (arith, s .pre .few, headed-long h)) ∙ sym (capacities-many s)
 
 slice-write-net-2 : tie.Need-slice-write-net-2
 slice-write-net-2 c =
