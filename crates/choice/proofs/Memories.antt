@@ -7,16 +7,16 @@ use lib.ListN.{length, getD, take, set, replicate, length-set, length-replicate}
 use lib.Seq.{take-set-lt, drop-set-lt}
 use Rattle.bounds.specs.Bounds.{mostCommodities}
 use Rattle.network.specs.Network.{Network, commodities}
-use Rattle.packed.specs.Packed.{column, put}
+use Rattle.packed.specs.Packed.{part, put}
 use Rattle.packed.specs.declared.Shape.{Shape}
-use Rattle.packed.proofs.Columns.{column-at, column-length, column-put, column-before, put-length}
+use Rattle.packed.proofs.Columns.{part-at, part-length, part-put, part-before, put-length}
 use Rattle.choice.specs.Memory.{distancesFrom, distanceNumbers, memoryNumbers, distancesIn, Memory}
 use Rattle.choice.specs.Raised.{Raised, RaisedIn, Raising}
 use Rattle.choice.proofs.Bounds.{below-zero}
 use Rattle.choice.proofs.Raises.{raised-none, raised-shared, raised-other}
 
 module _ (k i x : ℕ) (memory : List ℕ) (b : i < k) where
-  bounds-set : column 0 k (set memory i x) ≡ set (column 0 k memory) i x
+  bounds-set : part 0 k (set memory i x) ≡ set (part 0 k memory) i x
   bounds-set = let whole : 0 + k - 0 ≡ k = omega arith in rw whole (take-set-lt k memory i x b)
 
   distances-set : k ≤ mostCommodities → distancesIn (set memory i x) ≡ distancesIn memory
@@ -32,7 +32,7 @@ module _ {sources sinks : List ℕ} {t : ℕ} {old : List ℕ} where
 
     -- The distance that is read is the one that was there.
     reads : (s : ℕ) → s < distanceNumbers → getD new (distancesFrom + s) 0 ≡ getD (distancesIn old) s 0
-    reads s c = rw (← (R .distances)) (rw (column-at distancesFrom distanceNumbers new s c) refl)
+    reads s c = rw (← (R .distances)) (rw (part-at distancesFrom distanceNumbers new s c) refl)
 
     pub raised-in-shared :
         Raising sources sinks old → getD sinks i 0 ≡ t →
@@ -43,7 +43,7 @@ module _ {sources sinks : List ℕ} {t : ℕ} {old : List ℕ} where
         rw place (record {
           bounds =
               rw (bounds-set (length sources) i x new b, reads (getD sources i 0) (omega (arith, A .nodes i b)))
-              (raised-shared (R .bounds) (omega (arith, column-length 0 (length sources) new (omega (arith, A .few, A .places, R .numbers)))) q);
+              (raised-shared (R .bounds) (omega (arith, part-length 0 (length sources) new (omega (arith, A .few, A .places, R .numbers)))) q);
           distances = distances-set (length sources) i x new b (A .few) ∙ R .distances;
           numbers = length-set new i x ∙ R .numbers;
         })
@@ -52,12 +52,12 @@ module _ {sources sinks : List ℕ} {t : ℕ} {old : List ℕ} where
 module _ {sources sinks : List ℕ} {t : ℕ} (M d : List ℕ) {new : List ℕ} {k : ℕ} (few : k ≤ mostCommodities) (places : memoryNumbers ≤ length M) (size : length sources ≡ k)
     (table : length d ≡ distanceNumbers) (R : RaisedIn sources sinks t (put distancesFrom distanceNumbers M d) new (length sources)) where
   distances-put : distancesIn (put distancesFrom distanceNumbers M d) ≡ d
-  distances-put = column-put distancesFrom distanceNumbers M d (omega arith) table
+  distances-put = part-put distancesFrom distanceNumbers M d (omega arith) table
 
-  pub looked-raised : Raised sources sinks t d (column 0 k M) (column 0 k new) (length sources)
+  pub looked-raised : Raised sources sinks t d (part 0 k M) (part 0 k new) (length sources)
   looked-raised =
-      subst (λ (n : ℕ). Raised sources sinks t d (column 0 n M) (column 0 n new) (length sources)) size
-      (rw (distances-put, column-before distancesFrom distanceNumbers M 0 (length sources) d (omega arith) (omega (arith, size))) at (R .bounds))
+      subst (λ (n : ℕ). Raised sources sinks t d (part 0 n M) (part 0 n new) (length sources)) size
+      (rw (distances-put, part-before distancesFrom distanceNumbers M 0 (length sources) d (omega arith) (omega (arith, size))) at (R .bounds))
 
   pub looked-distances : distancesIn new ≡ d
   looked-distances = R .distances ∙ distances-put
@@ -73,5 +73,5 @@ memory-zero {s} {net} old zs few k places e l =
     let size : length zs ≡ s .commodities = ap length e ∙ length-replicate {A = ℕ} (s .commodities) 0 in
     record {
       places = omega (arith, put-length 0 (s .commodities) old zs (omega arith) size);
-      below = rw (column-put 0 (s .commodities) old zs (omega arith) size, e) (below-zero net l k);
+      below = rw (part-put 0 (s .commodities) old zs (omega arith) size, e) (below-zero net l k);
     }

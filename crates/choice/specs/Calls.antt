@@ -4,7 +4,7 @@ use Prim.Native.Nat.{ℕ, _≤_}
 use lib.ListN.{length}
 use Rattle.bounds.specs.Bounds.{mostNodes}
 use Rattle.network.specs.Network.{Network}
-use Rattle.packed.specs.Packed.{column, netIn, Packed}
+use Rattle.packed.specs.Packed.{part, netIn, Packed}
 use Rattle.packed.specs.declared.Shape.{Shape}
 use Rattle.paths.specs.Index.{indexNumbers, Into, Out}
 use Rattle.choice.specs.Memory.{Memory}
@@ -24,8 +24,8 @@ indexesNumbers = 2180
 -- One slice has both indexes of the arcs, one behind the other.
 pub record Indexed (net : Network) (indexes : List ℕ) : Type 0 where
   pub numbers : indexesNumbers ≤ length indexes
-  pub into : Into net (column 0 indexNumbers indexes)
-  pub out : Out net (column indexNumbers indexNumbers indexes)
+  pub into : Into net (part 0 indexNumbers indexes)
+  pub out : Out net (part indexNumbers indexNumbers indexes)
 
 -- That search, and the walk of the commodity found, over the arcs out of each node, into a table with this many places.
 pub record Choosing (s : Shape) (net indexes l memory : List ℕ) (places : ℕ) : Type 0 where

@@ -3,7 +3,7 @@ use mathlib.Core.List.{List}
 use Prim.Native.Nat.{ℕ, _≤_}
 use lib.ListN.{length}
 use Rattle.network.specs.Network.{Network}
-use Rattle.packed.specs.Packed.{column}
+use Rattle.packed.specs.Packed.{part}
 use Rattle.packed.specs.declared.Shape.{Shape}
 use Rattle.choice.specs.Below.{Below}
 
@@ -18,10 +18,10 @@ abbrev pub memoryNumbers : ℕ
 memoryNumbers = 97
 
 abbrev pub boundsIn : Shape → List ℕ → List ℕ
-boundsIn s memory = column 0 (s .commodities) memory
+boundsIn s memory = part 0 (s .commodities) memory
 
 abbrev pub distancesIn : List ℕ → List ℕ
-distancesIn memory = column distancesFrom distanceNumbers memory
+distancesIn memory = part distancesFrom distanceNumbers memory
 
 -- There is a place for each, and the bounds are below the distances by the lengths l.
 pub record Memory (s : Shape) (net : Network) (l memory : List ℕ) : Type 0 where

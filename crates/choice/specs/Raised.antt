@@ -4,7 +4,7 @@ use mathlib.Core.List.{List}
 use Prim.Native.Nat.{ℕ, _≤_, _<_}
 use lib.ListN.{length, getD}
 use Rattle.bounds.specs.Bounds.{mostNodes, mostCommodities}
-use Rattle.packed.specs.Packed.{column}
+use Rattle.packed.specs.Packed.{part}
 use Rattle.choice.specs.Memory.{distancesIn, memoryNumbers}
 
 -- Of the first k commodities those with sink t have the distance of their source as their bound; no other bound has changed.
@@ -15,7 +15,7 @@ pub record Raised (sources sinks : List ℕ) (t : ℕ) (d old new : List ℕ) (k
 
 -- The same of a memory, whose distances stay.
 pub record RaisedIn (sources sinks : List ℕ) (t : ℕ) (old new : List ℕ) (k : ℕ) : Type 0 where
-  pub bounds : Raised sources sinks t (distancesIn old) (column 0 (length sources) old) (column 0 (length sources) new) k
+  pub bounds : Raised sources sinks t (distancesIn old) (part 0 (length sources) old) (part 0 (length sources) new) k
   pub distances : distancesIn new ≡ distancesIn old
   pub numbers : length new ≡ length old
 

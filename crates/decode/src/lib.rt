@@ -7,7 +7,8 @@ use packed::Shape;
 use packed::TAILS;
 ghost use mathlib.Core.Path.{_≡_};
 ghost use Rattle.packed.specs.Packed.{netIn};
-ghost use Rattle.decode.specs.Decode.{networkIn, Decoding};
+ghost use Rattle.decode.specs.Calls.{Decoding};
+ghost use Rattle.decode.specs.Decode.{networkIn};
 
 // The columns of the belts and the pairs, each to its place.
 pub fn decode(s: Shape, belts: &[u8], pairs: &[u8], net: &mut [u64])

@@ -27,7 +27,7 @@ pub record Open (k m : ℕ) (s : Slices) : Type 0 where
   pub full : runningIn s ≤ mostRunning
 
 -- The answer is the outcome's, and so are the numbers written into two tables.
-pub record Tabled (net : Network) (q : ℕ) (a : Answer) (flow lengths new-flow new-lengths : List ℕ) : Type 0 where
+pub record TablesWritten (net : Network) (q : ℕ) (a : Answer) (flow lengths new-flow new-lengths : List ℕ) : Type 0 where
   pub answers : a ≡ outcome net q .answer
   pub flows : new-flow ≡ written flow (outcome net q .flow)
   pub bests : new-lengths ≡ written lengths (outcome net q .lengths)

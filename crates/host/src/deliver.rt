@@ -14,7 +14,7 @@ ghost use Rattle.numbers.specs.Numbers.{count, numberAt, written};
 ghost use Rattle.method.specs.Answer.{numbersOf};
 ghost use Rattle.packed.specs.Packed.{netIn, Lent};
 ghost use Rattle.solver.specs.Solved.{Solving};
-ghost use Rattle.host.specs.Deliver.{slices, Room, Open, Tabled, Delivered};
+ghost use Rattle.host.specs.Deliver.{slices, Room, Open, TablesWritten, Delivered};
 
 // The seven numbers of the answer.
 fn put_answer(a: Answer, answer: &mut [u8])
@@ -54,7 +54,7 @@ fn write_tables_in(
 ) -> Answer
     requires solving { ⌜ Solving s q (now net) (now flows) (now tables) ⌝ }
     requires room { ⌜ Room (s .commodities) (s .arcs) (now flow) (now lengths) ⌝ }
-    ensures { λ r. ⌜ Tabled (netIn s (now (net .entry))) q r (now (flow .entry)) (now (lengths .entry)) (now (flow .exit)) (now (lengths .exit)) ⌝ }
+    ensures { λ r. ⌜ TablesWritten (netIn s (now (net .entry))) q r (now (flow .entry)) (now (lengths .entry)) (now (flow .exit)) (now (lengths .exit)) ⌝ }
 {
     let m = s.arcs;
     let a = solver::solve(s, q, net, flows, tables);
@@ -67,7 +67,7 @@ fn write_tables_in(
 fn write_tables(s: Shape, q: u64, net: &[u64], flow: &mut [u8], lengths: &mut [u8]) -> Answer
     requires lent { ⌜ Lent s q (now net) ⌝ }
     requires room { ⌜ Room (s .commodities) (s .arcs) (now flow) (now lengths) ⌝ }
-    ensures { λ r. ⌜ Tabled (netIn s (now (net .entry))) q r (now (flow .entry)) (now (lengths .entry)) (now (flow .exit)) (now (lengths .exit)) ⌝ }
+    ensures { λ r. ⌜ TablesWritten (netIn s (now (net .entry))) q r (now (flow .entry)) (now (lengths .entry)) (now (flow .exit)) (now (lengths .exit)) ⌝ }
 {
     let size = s.commodities * s.arcs;
     let mut flows = [0u64; MOST_COMMODITIES * MOST_ARCS];

@@ -9,8 +9,8 @@ use Rattle.network.specs.Sound.{Sound}
 use Rattle.packed.specs.declared.Shape.{Shape}
 
 -- The n numbers from place a on: how the checker shows a part a .. a + n of a slice.
-abbrev pub column : ℕ → ℕ → List ℕ → List ℕ
-column a n xs = take (a + n - a) (drop a xs)
+abbrev pub part : ℕ → ℕ → List ℕ → List ℕ
+part a n xs = take (a + n - a) (drop a xs)
 
 -- The slice with ys in the place of those n numbers: how it shows a part that was lent and has come back.
 abbrev pub put : ℕ → ℕ → List ℕ → List ℕ → List ℕ
@@ -40,11 +40,11 @@ unfoldable pub netIn : Shape → List ℕ → Network
 netIn s xs =
     record {
       nodes = s .nodes;
-      tails = column tailsFrom (s .arcs) xs;
-      heads = column headsFrom (s .arcs) xs;
-      capacities = column capacitiesFrom (s .arcs) xs;
-      sources = column sourcesFrom (s .commodities) xs;
-      sinks = column sinksFrom (s .commodities) xs;
+      tails = part tailsFrom (s .arcs) xs;
+      heads = part headsFrom (s .arcs) xs;
+      capacities = part capacitiesFrom (s .arcs) xs;
+      sources = part sourcesFrom (s .commodities) xs;
+      sinks = part sinksFrom (s .commodities) xs;
     }
 
 -- The columns do not overlap, and the slice has them all.
@@ -72,10 +72,10 @@ abbrev pub tableNumbers : ℕ
 tableNumbers = 768
 
 abbrev pub lengthsIn : Shape → List ℕ → List ℕ
-lengthsIn s xs = column lengthsFrom (s .arcs) xs
+lengthsIn s xs = part lengthsFrom (s .arcs) xs
 
 abbrev pub loadsIn : Shape → List ℕ → List ℕ
-loadsIn s xs = column loadsFrom (s .arcs) xs
+loadsIn s xs = part loadsFrom (s .arcs) xs
 
 abbrev pub keptIn : Shape → List ℕ → List ℕ
-keptIn s xs = column keptFrom (s .arcs) xs
+keptIn s xs = part keptFrom (s .arcs) xs

@@ -9,7 +9,7 @@ use native.Mathlib.Omega.{arith}
 use lib.ListN.{length, getD}
 use Rattle.bounds.specs.Bounds.{mostArcs}
 use Rattle.paths.specs.Index.{begins, Place}
-use Rattle.paths.specs.Indexing.{Joins, Upto, Building, Putting, put}
+use Rattle.paths.specs.Indexing.{Joins, Upto, Building, Putting, placed}
 use Rattle.paths.proofs.Counts.{taken-within, taken-put}
 use Rattle.paths.proofs.Putting.{put-length, put-next, put-begins, put-place, place-put, put-places}
 
@@ -31,13 +31,13 @@ module _ {here there : List ℕ} {v : ℕ} {e : ℕ} {ix : List ℕ} (B : Buildi
     abbrev New : ℕ → ℕ → ℕ → ℕ → Type 0
     New u p f x = (u ≡ v) × (p ≡ begins ix (v + 1)) × (f ≡ e) × (x ≡ w)
 
-    next : begins (put v e w ix) (v + 1) ≡ begins ix (v + 1) + 1
+    next : begins (placed v e w ix) (v + 1) ≡ begins ix (v + 1) + 1
     next = put-next building-room e w
 
-    places : {u p f x : ℕ} → u ≤ v → Place (put v e w ix) u p f x → Place ix u p f x ⊎ New u p f x
+    places : {u p f x : ℕ} → u ≤ v → Place (placed v e w ix) u p f x → Place ix u p f x ⊎ New u p f x
     places {u} c P = put-places building-room e w c (B .order (u + 1) (omega arith)) P
 
-    order : (u : ℕ) → u ≤ v + 1 → begins (put v e w ix) u ≤ begins (put v e w ix) (v + 1)
+    order : (u : ℕ) → u ≤ v + 1 → begins (placed v e w ix) u ≤ begins (placed v e w ix) (v + 1)
     order u c =
         ⊎-elim
         (λ (s : u ≡ v + 1). rw s (le-refl _))
@@ -52,18 +52,18 @@ module _ {here there : List ℕ} {v : ℕ} {e : ℕ} {ix : List ℕ} (B : Buildi
     on U = record { joins = U .joins; first = λ s. omega (arith, U .first s) }
 
     -- an arc that was there
-    old : {u f x : ℕ} → u ≤ v → Upto here there v e u f x → (p : ℕ) × Place (put v e w ix) u p f x
+    old : {u f x : ℕ} → u ≤ v → Upto here there v e u f x → (p : ℕ) × Place (placed v e w ix) u p f x
     old {u} {f} {x} c U =
         let r = B .index .whole u f x c U in
         (r .0, place-put building-room e w c (B .order (u + 1) (omega arith)) (r .1))
 
     -- the arc that is put
-    put-arc : {u f x : ℕ} → u ≡ v → f ≡ e → Joins here there u f x → (p : ℕ) × Place (put v e w ix) u p f x
+    put-arc : {u f x : ℕ} → u ≡ v → f ≡ e → Joins here there u f x → (p : ℕ) × Place (placed v e w ix) u p f x
     put-arc {u} {f} {x} s r J =
         let z : x ≡ w = sym (J .other) ∙ ap (λ i. getD there i 0) r in
         (begins ix (v + 1), rw (s, r, z) (put-place building-room e w (B .order v (omega arith))))
 
-    whole : (u f x : ℕ) → u ≤ v → Upto here there v (e + 1) u f x → (p : ℕ) × Place (put v e w ix) u p f x
+    whole : (u f x : ℕ) → u ≤ v → Upto here there v (e + 1) u f x → (p : ℕ) × Place (placed v e w ix) u p f x
     whole u f x c U =
         ⊎-elim
         (λ (s : u ≡ v). ⊎-elim
@@ -74,7 +74,7 @@ module _ {here there : List ℕ} {v : ℕ} {e : ℕ} {ix : List ℕ} (B : Buildi
         (eq-or-lt-of-le c)
 
     -- and it is put behind the others.
-    pub building-put : Building here there v (e + 1) (put v e (getD there e 0) ix)
+    pub building-put : Building here there v (e + 1) (placed v e (getD there e 0) ix)
     building-put =
         record {
           index =

@@ -59,12 +59,12 @@ pub record Putting (v : ℕ) (ix : List ℕ) : Type 0 where
   pub numbers : indexNumbers ≤ length ix
 
 -- Arc e with the other end w, put behind the last place of node v.
-unfoldable pub put : ℕ → ℕ → ℕ → List ℕ → List ℕ
-put v e w ix =
+unfoldable pub placed : ℕ → ℕ → ℕ → List ℕ → List ℕ
+placed v e w ix =
     set (set (set ix (arcsFrom + begins ix (v + 1)) e) (endsFrom + begins ix (v + 1)) w) (v + 1) (begins ix (v + 1) + 1)
 
 -- Arc e is next; there are no more than 256, and each has another end.
-pub record Adding (here there : List ℕ) (v e : ℕ) (ix : List ℕ) : Type 0 where
+pub record AddingArc (here there : List ℕ) (v e : ℕ) (ix : List ℕ) : Type 0 where
   pub building : Building here there v e ix
   pub few : length here ≤ mostArcs
   pub others : length here ≤ length there

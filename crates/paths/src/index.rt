@@ -10,7 +10,7 @@ ghost use Prim.Native.Nat.{_+_};
 ghost use lib.ListN.{length};
 ghost use Rattle.packed.specs.Packed.{netIn};
 ghost use Rattle.paths.specs.Index.{Index, Into, Out};
-ghost use Rattle.paths.specs.Indexing.{Indexable, Indexing, Joins, Building, Putting, put, Adding, Opening};
+ghost use Rattle.paths.specs.Indexing.{Indexable, Indexing, Joins, Building, Putting, placed, AddingArc, Opening};
 
 // First stands for each node, and one past the last, the place where its arcs begin; the arcs of the places stand from here on,
 pub const ARCS: usize = MOST_NODES as usize + 2;
@@ -24,7 +24,7 @@ pub const INDEX_NUMBERS: usize = ENDS + 2 * MOST_ARCS;
 // Arc e with the other end w comes behind the last place of node v.
 fn put(v: usize, e: usize, w: u64, ix: &mut [u64])
     requires { ⌜ Putting v (now ix) ⌝ }
-    ensures { λ r. ⌜ now (ix .exit) ≡ put v e w (now (ix .entry)) ⌝ }
+    ensures { λ r. ⌜ now (ix .exit) ≡ placed v e w (now (ix .entry)) ⌝ }
 {
     let p = ix[v + 1] as usize;
     ix[ARCS + p] = e as u64;
@@ -34,7 +34,7 @@ fn put(v: usize, e: usize, w: u64, ix: &mut [u64])
 
 // Arc e is put there if it is at node v.
 fn add(here: &[u64], there: &[u64], v: usize, e: usize, ix: &mut [u64])
-    requires { ⌜ Adding (now here) (now there) v e (now ix) ⌝ }
+    requires { ⌜ AddingArc (now here) (now there) v e (now ix) ⌝ }
     ensures { λ r. ⌜ Building (now (here .entry)) (now (there .entry)) v (e + 1) (now (ix .exit)) ⌝ }
 {
     if here[e] != v as u64 {

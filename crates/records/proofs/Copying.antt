@@ -8,9 +8,9 @@ use native.Mathlib.Numerals.{add-one}
 use native.Mathlib.Omega.{arith}
 use lib.ListN.{length, getD, set, replicate, length-set, length-map, length-replicate, List·getD-map}
 use lib.Seq.{getD-set-same, getD-set-other, ext-getD}
-use Rattle.packed.specs.Packed.{column}
-use Rattle.packed.proofs.Columns.{column-length, column-at}
-use Rattle.records.specs.Parts.{networkIn}
+use Rattle.packed.specs.Packed.{part}
+use Rattle.packed.proofs.Columns.{part-length, part-at}
+use Rattle.records.specs.Parts.{networkCopied}
 use Rattle.records.specs.Records.{networkLent}
 use Rattle.records.specs.declared.Arc.{Arc}
 
@@ -107,15 +107,15 @@ module _ (arcs : List Arc) where
   -- When all records are in their places, the slice has the columns of the network that they are.
   module _ (few : length arcs ≤ 256) where
     column-is :
-        (f : Arc → ℕ) → f nil ≡ 0 → (b : ℕ) → b ≤ 512 → Standing f b arcs (length arcs) → column b (length arcs) (filled arcs (length arcs)) ≡ map f arcs
+        (f : Arc → ℕ) → f nil ≡ 0 → (b : ℕ) → b ≤ 512 → Standing f b arcs (length arcs) → part b (length arcs) (filled arcs (length arcs)) ≡ map f arcs
     column-is f z b low h =
         let m = length arcs in
-        let long : length (column b m (filled arcs m)) ≡ m = column-length b m (filled arcs m) (omega (arith, length-filled arcs m)) in
-        ext-getD 0 (column b m (filled arcs m)) (map f arcs) (long ∙ sym (length-map arcs f)) (λ j l.
-        column-at b m (filled arcs m) j (omega (arith, long)) ∙ (h j (omega (arith, long)) ∙
+        let long : length (part b m (filled arcs m)) ≡ m = part-length b m (filled arcs m) (omega (arith, length-filled arcs m)) in
+        ext-getD 0 (part b m (filled arcs m)) (map f arcs) (long ∙ sym (length-map arcs f)) (λ j l.
+        part-at b m (filled arcs m) j (omega (arith, long)) ∙ (h j (omega (arith, long)) ∙
         (sym (List·getD-map f arcs j nil) ∙ ap (λ (d : ℕ). getD (map f arcs) j d) z)))
 
-    pub copied : (n : ℕ) (pairs : List ℕ) → networkIn n (length arcs) (filled arcs (length arcs)) pairs ≡ networkLent n arcs pairs
+    pub copied : (n : ℕ) (pairs : List ℕ) → networkCopied n (length arcs) (filled arcs (length arcs)) pairs ≡ networkLent n arcs pairs
     unfolding networkLent
     copied n pairs =
         rw (

@@ -5,10 +5,10 @@ use Prim.Native.Nat.{ℕ, _+_, _-_, _/_, _≤_}
 use native.Mathlib.Omega.{arith}
 use borrow.Rule.Slice.PartMut.{putMid, same-len-mid}
 use lib.ListN.{length}
-use Rattle.packed.specs.Packed.{column, netIn, tailsFrom, headsFrom, capacitiesFrom, sourcesFrom, sinksFrom, put, netNumbers}
+use Rattle.packed.specs.Packed.{part, netIn, tailsFrom, headsFrom, capacitiesFrom, sourcesFrom, sinksFrom, put, netNumbers}
 use Rattle.packed.specs.declared.Shape.{Shape}
-use Rattle.packed.proofs.Columns.{column-length, put-length, column-put, column-before}
-use Rattle.records.specs.Parts.{networkIn, halfOf, Pairing}
+use Rattle.packed.proofs.Columns.{part-length, put-length, part-put, part-before}
+use Rattle.records.specs.Parts.{networkCopied, halfOf, Pairing}
 use Rattle.records.specs.Records.{sourcesIn, sinksIn}
 use Rattle.records.proofs.Pairs.{length-half}
 
@@ -31,8 +31,8 @@ module _ {s : Shape} {pairs xs : List ℕ} (p : Pairing s pairs xs) {ys : List �
   sinks-places : 800 + k ≤ length sourced
   sinks-places = omega (arith, room, p .packed .few-commodities, sourced-length)
 
-  pub sinks-column : length (column sinksFrom k sourced) ≡ length pairs / 2
-  sinks-column = column-length sinksFrom k sourced sinks-places ∙ p .each
+  pub sinks-column : length (part sinksFrom k sourced) ≡ length pairs / 2
+  sinks-column = part-length sinksFrom k sourced sinks-places ∙ p .each
 
   module _ {zs : List ℕ} (et : zs ≡ halfOf 1 pairs) where
     abbrev filled : List ℕ
@@ -44,22 +44,22 @@ module _ {s : Shape} {pairs xs : List ℕ} (p : Pairing s pairs xs) {ys : List �
     pub paired-length : length filled ≡ length xs
     paired-length = put-length sinksFrom k sourced zs sinks-places nz ∙ sourced-length
 
-    stays : (b : ℕ) → b + s .arcs ≤ 768 → column b (s .arcs) filled ≡ column b (s .arcs) xs
+    stays : (b : ℕ) → b + s .arcs ≤ 768 → part b (s .arcs) filled ≡ part b (s .arcs) xs
     stays b l =
-        column-before sinksFrom k sourced b (s .arcs) zs (omega (arith, sinks-places)) (omega arith) ∙
-        column-before sourcesFrom k xs b (s .arcs) ys (omega (arith, room)) l
+        part-before sinksFrom k sourced b (s .arcs) zs (omega (arith, sinks-places)) (omega arith) ∙
+        part-before sourcesFrom k xs b (s .arcs) ys (omega (arith, room)) l
 
-    sources-in : column sourcesFrom k filled ≡ sourcesIn pairs
+    sources-in : part sourcesFrom k filled ≡ sourcesIn pairs
     unfolding halfOf
     sources-in =
-        column-before sinksFrom k sourced 768 k zs (omega (arith, sinks-places)) (omega (arith, p .packed .few-commodities)) ∙
-        (column-put sourcesFrom k xs ys (omega (arith, room, p .packed .few-commodities)) ny ∙ es)
+        part-before sinksFrom k sourced 768 k zs (omega (arith, sinks-places)) (omega (arith, p .packed .few-commodities)) ∙
+        (part-put sourcesFrom k xs ys (omega (arith, room, p .packed .few-commodities)) ny ∙ es)
 
-    sinks-in : column sinksFrom k filled ≡ sinksIn pairs
+    sinks-in : part sinksFrom k filled ≡ sinksIn pairs
     unfolding halfOf
-    sinks-in = column-put sinksFrom k sourced zs sinks-places nz ∙ et
+    sinks-in = part-put sinksFrom k sourced zs sinks-places nz ∙ et
 
-    pub paired : netIn s filled ≡ networkIn (s .nodes) (s .arcs) xs pairs
+    pub paired : netIn s filled ≡ networkCopied (s .nodes) (s .arcs) xs pairs
     unfolding netIn
     paired =
         let few = p .packed .few-arcs in

@@ -14,7 +14,7 @@ use Rattle.network.proofs.Each.{none, more, each-left, each-right}
 use Rattle.network.proofs.First.{first-refuses, first-accepts}
 use Rattle.network.proofs.Or.{or-false-left, or-false-right}
 use Rattle.network.proofs.Sizes.{sizes-kept}
-use Rattle.records.specs.Parts.{Roomy, Sizable, networkIn}
+use Rattle.records.specs.Parts.{Roomy, SizesPassed, networkCopied}
 use Rattle.records.specs.Records.{networkLent, recordConditions, verdictLent, Recorded, Replied}
 use Rattle.records.specs.declared.Arc.{Arc}
 use Rattle.records.specs.declared.Reply.{Reply}
@@ -54,7 +54,7 @@ module _ (n q : ℕ) (records : List Arc) (pairs flow lengths : List ℕ) where
     quiet = accepted-quiet (sizes ++ own) h
 
     -- or they pass,
-    pub sizable : Sizable n q (length records) pairs flow lengths
+    pub sizable : SizesPassed n q (length records) pairs flow lengths
     sizable =
         record {
           counts = sizes-kept n (length records) (length pairs / 2) q (each-left sizes own quiet);
@@ -63,7 +63,7 @@ module _ (n q : ℕ) (records : List Arc) (pairs flow lengths : List ℕ) where
 
     -- and the arcs and commodities of the copy decide.
     abbrev copy : Network
-    copy = networkIn n (length records) (filled records (length records)) pairs
+    copy = networkCopied n (length records) (filled records (length records)) pairs
 
     decides : verdictLent net q flow lengths ≡ verdict (itemConditions copy)
     decides =

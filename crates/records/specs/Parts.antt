@@ -8,7 +8,7 @@ use Rattle.network.specs.Network.{Network}
 use Rattle.network.specs.Sound.{Counts}
 use Rattle.network.specs.Verdict.{verdict, itemConditions}
 use Rattle.network.specs.declared.Verdict.the-variants.{Accepted}
-use Rattle.packed.specs.Packed.{column, Packed, Lent}
+use Rattle.packed.specs.Packed.{part, Packed, Lent}
 use Rattle.packed.specs.declared.Shape.{Shape}
 use Rattle.records.specs.Records.{sourcesIn, sinksIn}
 
@@ -18,18 +18,18 @@ pub record Roomy (k m : ℕ) (flow lengths : List ℕ) : Type 0 where
   pub for-lengths : m ≤ length lengths
 
 -- The sizes of a call with m arcs are within their bounds.
-pub record Sizable (n q m : ℕ) (pairs flow lengths : List ℕ) : Type 0 where
+pub record SizesPassed (n q m : ℕ) (pairs flow lengths : List ℕ) : Type 0 where
   pub counts : Counts n m (length pairs / 2) q
   pub room : Roomy (length pairs / 2) m flow lengths
 
 -- The network whose m arcs stand in their columns, with the commodities of the pairs.
-abbrev pub networkIn : ℕ → ℕ → List ℕ → List ℕ → Network
-networkIn n m net pairs =
+abbrev pub networkCopied : ℕ → ℕ → List ℕ → List ℕ → Network
+networkCopied n m net pairs =
     record {
       nodes = n;
-      tails = column 0 m net;
-      heads = column 256 m net;
-      capacities = column 512 m net;
+      tails = part 0 m net;
+      heads = part 256 m net;
+      capacities = part 512 m net;
       sources = sourcesIn pairs;
       sinks = sinksIn pairs;
     }
@@ -61,5 +61,5 @@ pub record Delivering (s : Shape) (q : ℕ) (net flow lengths : List ℕ) : Type
 
 -- A call that has passed.
 pub record Passed (n q m : ℕ) (net pairs flow lengths : List ℕ) : Type 0 where
-  pub sizes : Sizable n q m pairs flow lengths
-  pub items : verdict (itemConditions (networkIn n m net pairs)) ≡ Accepted
+  pub sizes : SizesPassed n q m pairs flow lengths
+  pub items : verdict (itemConditions (networkCopied n m net pairs)) ≡ Accepted

@@ -13,7 +13,7 @@ ghost use mathlib.Core.Path.{_≡_};
 ghost use Rattle.network.specs.Verdict.{verdict, itemConditions};
 ghost use Rattle.network.specs.declared.Verdict.the-variants.{Accepted};
 ghost use Rattle.packed.specs.Packed.{netIn};
-ghost use Rattle.records.specs.Parts.{networkIn, halfOf, Halving, Pairing, Checking, Delivering, Passed};
+ghost use Rattle.records.specs.Parts.{networkCopied, halfOf, Halving, Pairing, Checking, Delivering, Passed};
 ghost use Rattle.records.specs.Records.{Replied};
 
 // One number of each pair: the first of the two, or the second.
@@ -31,7 +31,7 @@ fn halve(pairs: &[u64], which: usize, to: &mut [u64])
 // The sources and the sinks of the pairs, into their columns.
 fn put_pairs(s: Shape, pairs: &[u64], net: &mut [u64])
     requires { ⌜ Pairing s (now pairs) (now net) ⌝ }
-    ensures { λ _. ⌜ netIn s (now (net .exit)) ≡ networkIn (s .nodes) (s .arcs) (now (net .entry)) (now (pairs .entry)) ⌝ }
+    ensures { λ _. ⌜ netIn s (now (net .exit)) ≡ networkCopied (s .nodes) (s .arcs) (now (net .entry)) (now (pairs .entry)) ⌝ }
 {
     let k = s.commodities;
     halve(pairs, 0, &mut net[SOURCES..SOURCES + k]);
@@ -41,7 +41,7 @@ fn put_pairs(s: Shape, pairs: &[u64], net: &mut [u64])
 // 6, 7 and 8 of a call whose sizes have passed: its arcs stand in their columns, and its pairs are put beside them.
 pub fn check_copy(n: u64, m: usize, arcs: [u64; NET_NUMBERS], pairs: &[u64]) -> Verdict
     requires { ⌜ Checking m (now pairs) ⌝ }
-    ensures { λ r. ⌜ r ≡ verdict (itemConditions (networkIn n m arcs (now (pairs .entry)))) ⌝ }
+    ensures { λ r. ⌜ r ≡ verdict (itemConditions (networkCopied n m arcs (now (pairs .entry)))) ⌝ }
 {
     let s = Shape {
         nodes: n,
@@ -77,7 +77,7 @@ pub fn deliver(
     lengths: &mut [u64],
 ) -> Reply
     requires { ⌜ Passed n q m arcs (now pairs) (now flow) (now lengths) ⌝ }
-    ensures { λ r. ⌜ Replied (networkIn n m arcs (now (pairs .entry))) q Accepted (now (flow .entry)) (now (lengths .entry)) (now (flow .exit)) (now (lengths .exit)) r ⌝ }
+    ensures { λ r. ⌜ Replied (networkCopied n m arcs (now (pairs .entry))) q Accepted (now (flow .entry)) (now (lengths .entry)) (now (flow .exit)) (now (lengths .exit)) r ⌝ }
 {
     let s = Shape {
         nodes: n,

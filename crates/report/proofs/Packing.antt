@@ -6,12 +6,12 @@ use native.Mathlib.Omega.{arith}
 use borrow.Rule.Slice.PartMut.{putMid, same-len-mid}
 use lib.ListN.{length, set, take, drop, length-set, length-drop}
 use lib.Seq.{drop-set-add, take-set-le}
-use Rattle.packed.specs.Packed.{column, netIn, netNumbers, tailsFrom, headsFrom, capacitiesFrom, sourcesFrom, sinksFrom, put}
-use Rattle.packed.proofs.Columns.{column-length, put-length, column-put, column-before}
+use Rattle.packed.specs.Packed.{part, netIn, netNumbers, tailsFrom, headsFrom, capacitiesFrom, sourcesFrom, sinksFrom, put}
+use Rattle.packed.proofs.Columns.{part-length, put-length, part-put, part-before}
 use Rattle.packed.specs.declared.Shape.{Shape}
 
 -- A number that is put behind a column
-behind : (a n : ℕ) (xs : List ℕ) (i v : ℕ) → n ≤ i → column a n (set xs (a + i) v) ≡ column a n xs
+behind : (a n : ℕ) (xs : List ℕ) (i v : ℕ) → n ≤ i → part a n (set xs (a + i) v) ≡ part a n xs
 behind a n xs i v l = ap (take (a + n - a)) (drop-set-add a xs i v) ∙ take-set-le (a + n - a) (drop a xs) i v (omega arith)
 
 -- and one that is put at a column of one.
@@ -64,28 +64,28 @@ module _ (s : Shape) (few : s .arcs ≤ 256) (xs : List ℕ) (places : netNumber
     pub packed-length : length filled ≡ length xs
     packed-length = length-set (set arced 768 source) 800 sink ∙ (length-set arced 768 source ∙ long)
 
-    tails-in : column tailsFrom m filled ≡ t
+    tails-in : part tailsFrom m filled ≡ t
     tails-in =
         behind tailsFrom m (set arced 768 source) 800 sink (omega arith) ∙ behind tailsFrom m arced 768 source (omega arith) ∙
-        column-before capacitiesFrom m headed 0 m c' (omega (arith, long₂)) (omega arith) ∙
-        column-before headsFrom m tailed 0 m h' (omega (arith, long₁)) (omega arith) ∙ column-put tailsFrom m xs t' (omega arith) nt ∙ et
+        part-before capacitiesFrom m headed 0 m c' (omega (arith, long₂)) (omega arith) ∙
+        part-before headsFrom m tailed 0 m h' (omega (arith, long₁)) (omega arith) ∙ part-put tailsFrom m xs t' (omega arith) nt ∙ et
 
-    heads-in : column headsFrom m filled ≡ h
+    heads-in : part headsFrom m filled ≡ h
     heads-in =
         behind headsFrom m (set arced 768 source) 544 sink (omega arith) ∙ behind headsFrom m arced 512 source (omega arith) ∙
-        column-before capacitiesFrom m headed 256 m c' (omega (arith, long₂)) (omega arith) ∙ column-put headsFrom m tailed h' (omega (arith, long₁)) nh ∙ eh
+        part-before capacitiesFrom m headed 256 m c' (omega (arith, long₂)) (omega arith) ∙ part-put headsFrom m tailed h' (omega (arith, long₁)) nh ∙ eh
 
-    capacities-in : column capacitiesFrom m filled ≡ c
+    capacities-in : part capacitiesFrom m filled ≡ c
     capacities-in =
         behind capacitiesFrom m (set arced 768 source) 288 sink (omega arith) ∙ behind capacitiesFrom m arced 256 source (omega arith) ∙
-        column-put capacitiesFrom m headed c' (omega (arith, long₂)) nc ∙ ec
+        part-put capacitiesFrom m headed c' (omega (arith, long₂)) nc ∙ ec
 
-    sources-in : column sourcesFrom 1 filled ≡ source ∷ []
+    sources-in : part sourcesFrom 1 filled ≡ source ∷ []
     sources-in =
         behind sourcesFrom 1 (set arced 768 source) 32 sink (omega arith) ∙
         (ap (take 1) (drop-set-add sourcesFrom arced 0 source) ∙ alone (drop sourcesFrom arced) source (omega (arith, long, length-drop sourcesFrom arced)))
 
-    sinks-in : column sinksFrom 1 filled ≡ sink ∷ []
+    sinks-in : part sinksFrom 1 filled ≡ sink ∷ []
     sinks-in =
         ap (take 1) (drop-set-add sinksFrom (set arced 768 source) 0 sink) ∙
         alone (drop sinksFrom (set arced 768 source)) sink (omega (arith, long, length-set arced 768 source, length-drop sinksFrom (set arced 768 source)))

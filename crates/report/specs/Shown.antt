@@ -39,8 +39,8 @@ pub record Belted (tails heads loads : List ℕ) (a at room : ℕ) : Type 0 wher
 abbrev pub shapeOf : Parsed → Shape
 shapeOf file = record { nodes = file .nodes; arcs = file .arcs; commodities = 1 }
 
-abbrev pub networkRead : Parsed → Network
-networkRead file =
+abbrev pub networkOfFile : Parsed → Network
+networkOfFile file =
     record {
       nodes = file .nodes;
       tails = take (file .arcs) (file .tails);

@@ -18,12 +18,12 @@ ghost use lib.ListN.{length};
 ghost use Rattle.packed.specs.Packed.{netIn};
 ghost use Rattle.report.specs.Listed.{Listed};
 ghost use Rattle.report.specs.Listing.{verdictHeld};
-ghost use Rattle.report.specs.Shown.{shapeOf, networkRead, Packing, Judging, Shown};
+ghost use Rattle.report.specs.Shown.{shapeOf, networkOfFile, Packing, Judging, Shown};
 
 // The network of a file that has been read, into one slice.
 fn pack(file: Parsed, net: &mut [u64])
     requires { ⌜ Packing file (now net) ⌝ }
-    ensures { λ _. ⌜ netIn (shapeOf file) (now (net .exit)) ≡ networkRead file ⌝ }
+    ensures { λ _. ⌜ netIn (shapeOf file) (now (net .exit)) ≡ networkOfFile file ⌝ }
 {
     let m = file.arcs;
     let tails = file.tails;

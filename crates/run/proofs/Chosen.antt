@@ -19,11 +19,11 @@ use Rattle.choice.specs.Chose.{Picked, Chose}
 use Rattle.choice.specs.Memory.{Memory}
 use Rattle.choice.specs.declared.Selected.{Selected}
 use Rattle.choice.proofs.Ready.{sound-survey}
-use Rattle.run.specs.Runs.{Room, Chooses}
+use Rattle.run.specs.Runs.{Space, Chooses}
 
 -- At every state that the run reaches, a choice can be made by its lengths.
 pub choosing :
-    {s : Shape} {q : ℕ} {net indexes memory : List ℕ} {numbers places : ℕ} → Room s q net indexes numbers places → (t : State) →
+    {s : Shape} {q : ℕ} {net indexes memory : List ℕ} {numbers places : ℕ} → Space s q net indexes numbers places → (t : State) →
     Reached (netIn s net) q t → {l : List ℕ} → l ≡ t .lengths → Memory s (netIn s net) l memory → Choosing s net indexes l memory places
 choosing {s} {q} {net} room t r e memory-of =
     let z = reached-sizes (netIn s net) q (room .lent .sound) t r in

@@ -14,7 +14,7 @@ use Rattle.choice.specs.Memory.{Memory}
 
 -- What each part of a run is lent: an accepted network and both indexes of its arcs, a slice of this many numbers for the tables of the arcs, and
 -- one for the arcs of a path.
-pub record Room (s : Shape) (q : ℕ) (net indexes : List ℕ) (numbers places : ℕ) : Type 0 where
+pub record Space (s : Shape) (q : ℕ) (net indexes : List ℕ) (numbers places : ℕ) : Type 0 where
   pub lent : Lent s q net
   pub indexed : Indexed (netIn s net) indexes
   pub tables : tableNumbers ≤ numbers

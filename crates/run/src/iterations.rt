@@ -13,7 +13,7 @@ ghost use Rattle.packed.specs.Packed.{put, netIn};
 ghost use Rattle.choice.specs.Memory.{memoryNumbers};
 ghost use Rattle.step.specs.Progress.{stateIn};
 ghost use Rattle.run.specs.Noted.{Iterating, Onward};
-ghost use Rattle.run.specs.Runs.{Room};
+ghost use Rattle.run.specs.Runs.{Space};
 
 // The bounds of the distances, 0 again where the lengths were halved: only then can a distance fall.
 fn forget(halved: bool, k: usize, memory: &mut [u64])
@@ -38,7 +38,7 @@ pub fn iterate(
     path: &mut [u64],
     p: Progress,
 ) -> Progress
-    requires room { ⌜ Room s q (now net) (now indexes) (length (now tables)) (length (now path)) ⌝ }
+    requires room { ⌜ Space s q (now net) (now indexes) (length (now tables)) (length (now path)) ⌝ }
     requires iterating { ⌜ Iterating s (netIn s (now net)) q threshold (now memory) (stateIn s (now flow) (now tables) p) p ⌝ }
     ensures { λ r. ⌜ Onward s (netIn s (now (net .entry))) q (stateIn s (now (flow .entry)) (now (tables .entry)) p) (stateIn s (now (flow .exit)) (now (tables .exit)) r) (now (memory .exit)) r ⌝ }
 {

@@ -12,7 +12,7 @@ ghost use Rattle.method.specs.Run.{run};
 ghost use Rattle.tables.specs.Calls.{Weighing};
 ghost use Rattle.tables.specs.Tables.{weightOf};
 ghost use Rattle.step.specs.Progress.{stateIn, begun, begunWith};
-ghost use Rattle.run.specs.Runs.{Room, Starting};
+ghost use Rattle.run.specs.Runs.{Space, Starting};
 
 // Nothing drawn yet, the least fraction 1 over 0, and D of the first lengths.
 fn begin(capacities: &[u64], lengths: &[u64]) -> Progress
@@ -43,7 +43,7 @@ pub fn run(
     memory: &mut [u64],
     path: &mut [u64],
 ) -> Progress
-    requires room { ⌜ Room s q (now net) (now indexes) (length (now tables)) (length (now path)) ⌝ }
+    requires room { ⌜ Space s q (now net) (now indexes) (length (now tables)) (length (now path)) ⌝ }
     requires starting { ⌜ Starting s (netIn s (now net)) (now memory) (stateIn s (now flow) (now tables) begun) ⌝ }
     ensures { λ r. ⌜ stateIn s (now (flow .exit)) (now (tables .exit)) r ≡ run (netIn s (now (net .entry))) q ⌝ }
 {

@@ -12,7 +12,7 @@ ghost use mathlib.Core.Path.{_≡_};
 ghost use lib.ListN.{length};
 ghost use Rattle.network.specs.Network.{arcs};
 ghost use Rattle.packed.specs.Packed.{netIn, loadsIn, keptIn};
-ghost use Rattle.run.specs.Runs.{Room};
+ghost use Rattle.run.specs.Runs.{Space};
 ghost use Rattle.solver.specs.Prepared.{Cleared};
 ghost use Rattle.solver.specs.Solved.{Answering, Solved, answerOf, noAnswer};
 
@@ -62,7 +62,7 @@ pub fn outcome(
     memory: &mut [u64],
     path: &mut [u64],
 ) -> Answer
-    requires room { ⌜ Room s q (now net) (now indexes) (length (now tables)) (length (now path)) ⌝ }
+    requires room { ⌜ Space s q (now net) (now indexes) (length (now tables)) (length (now path)) ⌝ }
     requires cleared { ⌜ Cleared s (netIn s (now net)) (now flow) (now tables) (now memory) ⌝ }
     ensures { λ r. ⌜ Solved (netIn s (now (net .entry))) q r (now (flow .exit)) (keptIn s (now (tables .exit))) ⌝ }
 {

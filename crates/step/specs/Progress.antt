@@ -2,7 +2,7 @@
 use mathlib.Core.Bool.{Bool, false, cond}
 use mathlib.Core.List.{List}
 use Prim.Native.Nat.{ℕ, _+_}
-use Rattle.packed.specs.Packed.{column, put, lengthsFrom, keptFrom, lengthsIn, loadsIn, keptIn}
+use Rattle.packed.specs.Packed.{part, put, lengthsFrom, keptFrom, lengthsIn, loadsIn, keptIn}
 use Rattle.packed.specs.declared.Shape.{Shape}
 use Rattle.method.specs.Iteration.{State, draw}
 use Rattle.tables.specs.Tables.{longer, atMark}
@@ -29,7 +29,7 @@ stateIn s flow tables p = stateOf (lengthsIn s tables) flow (loadsIn s tables) (
 
 -- Those tables, with the lengths of m arcs kept where they gave a better bound.
 abbrev pub keeping : Bool → ℕ → List ℕ → List ℕ
-keeping better m tables = cond better (put keptFrom m tables (column lengthsFrom m tables)) tables
+keeping better m tables = cond better (put keptFrom m tables (part lengthsFrom m tables)) tables
 
 -- Before the first iteration, where D is d.
 abbrev pub begunWith : ℕ → Progress

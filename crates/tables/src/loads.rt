@@ -3,7 +3,7 @@ ghost use mathlib.Core.Path.{_≡_};
 ghost use Prim.Native.Nat.{_+_, _-_, _≤_, _<_};
 ghost use lib.ListN.{length, replicate};
 ghost use Rattle.method.specs.Answer.{fullest};
-ghost use Rattle.packed.specs.Packed.{column, put};
+ghost use Rattle.packed.specs.Packed.{part, put};
 ghost use Rattle.tables.specs.Calls.{Loading, Ranking};
 ghost use Rattle.tables.specs.Results.{Loaded};
 
@@ -69,7 +69,7 @@ pub fn copy(from: &[u64], to: &mut [u64])
 // The n numbers from one place of a table on put at another place, further on.
 pub fn copy_within(table: &mut [u64], from: usize, to: usize, n: usize)
     requires { ⌜ (from + n ≤ to) × (to + n ≤ length (now table)) ⌝ }
-    ensures { λ _. ⌜ now (table .exit) ≡ put to n (now (table .entry)) (column from n (now (table .entry))) ⌝ }
+    ensures { λ _. ⌜ now (table .exit) ≡ put to n (now (table .entry)) (part from n (now (table .entry))) ⌝ }
 {
     let mut e = 0;
     while e < n {

@@ -9,7 +9,7 @@ use lib.ListN.{length, getD}
 use Rattle.bounds.specs.Bounds.{mostCommodities}
 use Rattle.network.specs.Network.{Network, source, sink}
 use Rattle.packed.specs.Packed.{netIn, sourcesFrom, sinksFrom}
-use Rattle.packed.proofs.Columns.{column-at, column-length, commodities-is}
+use Rattle.packed.proofs.Columns.{part-at, part-length, commodities-is}
 use Rattle.choice.specs.Memory.{distancesFrom, distanceNumbers, memoryNumbers, boundsIn}
 use Rattle.choice.proofs.Selects.{selects-nothing, selects-walkable, selects-walk}
 use Rattle.choice.proofs.choose.Statement.{statement}
@@ -34,16 +34,16 @@ places c = omega (arith, c .nearest .kept .1 .1 .1 .1 .0, entry c .pre .memory-o
 
 own : (c : tie.After-nearest) → let M = c .nearest .last .1 .1 .1 .1 .0 in let i = c .nearest .result in
     getD M (0 + i) 0 ≡ getD (boundsIn (entry c .args .s) M) i 0
-own c = sym (column-at 0 (entry c .args .s .commodities) (c .nearest .last .1 .1 .1 .1 .0) (c .nearest .result) (among c))
+own c = sym (part-at 0 (entry c .args .s .commodities) (c .nearest .last .1 .1 .1 .1 .0) (c .nearest .result) (among c))
 
 -- its two ends, as they are read
 from : (c : tie.After-nearest) → getD (now (entry c .args .net)) (sourcesFrom + c .nearest .result) 0 ≡ source (net (entry c)) (c .nearest .result)
 unfolding netIn
-from c = sym (column-at sourcesFrom (entry c .args .s .commodities) (now (entry c .args .net)) (c .nearest .result) (among c))
+from c = sym (part-at sourcesFrom (entry c .args .s .commodities) (now (entry c .args .net)) (c .nearest .result) (among c))
 
 to : (c : tie.After-nearest) → getD (now (entry c .args .net)) (sinksFrom + c .nearest .result) 0 ≡ sink (net (entry c)) (c .nearest .result)
 unfolding netIn
-to c = sym (column-at sinksFrom (entry c .args .s .commodities) (now (entry c .args .net)) (c .nearest .result) (among c))
+to c = sym (part-at sinksFrom (entry c .args .s .commodities) (now (entry c .args .net)) (c .nearest .result) (among c))
 
 nearest-requires : tie.Need-nearest-requires
 nearest-requires c κs =
@@ -97,7 +97,7 @@ walk-requires c κs =
     let t = c .before .before .before .before .before .before in
     let s = search-at t in
     selects-walkable (entry s .pre .survey) (s .nearest .ensures) (own s) (t .if1 .left) (from s) (to s)
-    (column-length distancesFrom distanceNumbers (s .nearest .last .1 .1 .1 .1 .0) (places s)) (entry s .pre .indexed .out) (entry s .pre .room)
+    (part-length distancesFrom distanceNumbers (s .nearest .last .1 .1 .1 .1 .0) (places s)) (entry s .pre .indexed .out) (entry s .pre .room)
 
 returns-2 : tie.Need-returns-2
 returns-2 c =

@@ -70,7 +70,7 @@ use Rattle.network.proofs.Refusal as refusal
 use Rattle.network.proofs.Refusal.Laws as refusal-laws
 use Rattle.network.proofs.Verdict as verdict-type
 use Rattle.network.proofs.Verdict.Laws as verdict-laws
-use Rattle.records.specs.Parts.{Sizable, networkIn, Checking, Passed}
+use Rattle.records.specs.Parts.{SizesPassed, networkCopied, Checking, Passed}
 use Rattle.records.specs.Records.{recordConditions, Recorded, Replied}
 use Rattle.records.specs.declared.Arc.{Arc}
 use Rattle.records.specs.declared.Reply.{Reply}
@@ -238,7 +238,7 @@ module _ {M : Type 1} (𝓤 : URA M) (H : Heap 𝓤) (A : Atoms 𝓤) (W : Given
   to-items xs = (((κp, tt), (qp, tt), tt, shown xs, (vint w64 n ∷ [], (vint w64 m ∷ [], (arrayed xs, (slice-vals pairs, tt))))), tt)
 
   abbrev Found : List ℕ → Verdict → Type 0
-  Found xs v = v ≡ verdict (itemConditions (networkIn n m xs (now pairs)))
+  Found xs v = v ≡ verdict (itemConditions (networkCopied n m xs (now pairs)))
 
   items-said :
       (xs : List ℕ) (v : Verdict) → ent 𝓤 (ensured 𝓤 H A items.ended (items.clauses 𝓤 H A mem run) (κp, tt) (shown xs) tt v) (fact 𝓤 (Found xs v))
@@ -263,7 +263,7 @@ module _ {M : Type 1} (𝓤 : URA M) (H : Heap 𝓤) (A : Atoms 𝓤) (W : Given
   -- what it ensures of the reply r, at last tables zs
   abbrev Said : List ℕ → Reply → Lasts deliver.ended (κp, (κf, (κl, tt))) (passed []) → Type 0
   Said xs r zs =
-      Replied (networkIn n m xs (now pairs)) q Accepted (now flow) (now lens) (zs .1 .1 .1 .1 .1 .0) (zs .1 .1 .1 .1 .1 .1 .0) r
+      Replied (networkCopied n m xs (now pairs)) q Accepted (now flow) (now lens) (zs .1 .1 .1 .1 .1 .0) (zs .1 .1 .1 .1 .1 .1 .0) r
 
   -- what is passed on beside the numbers and the array
   abbrev Beside : List (Item 𝓤)
@@ -397,7 +397,7 @@ module _ {M : Type 1} (𝓤 : URA M) (H : Heap 𝓤) (A : Atoms 𝓤) (W : Given
       Then b = anyQ (afterSeq 𝓤 H (Wp 𝓤 H C Λ E b (atReturn 𝓤 H E Post)) (atReturn 𝓤 H E Post))
 
       module _ (h : Accepted ≡ verdict (sizeConditions n m (length (now pairs) / 2) q ++ recordConditions (length (now pairs) / 2) m (length (now flow)) (length (now lens)))) where
-        passes : Sizable n q m (now pairs) (now flow) (now lens)
+        passes : SizesPassed n q m (now pairs) (now flow) (now lens)
         passes = sizable n q (now arcs) (now pairs) (now flow) (now lens) (sym h)
 
         few : m ≤ 256

@@ -7,7 +7,7 @@ use mathlib.Core.List.{List}
 use native.Mathlib.Omega.{arith}
 use Prim.Native.Nat.{ℕ}
 use Rattle.method.specs.Iteration.{draw}
-use Rattle.packed.specs.Packed.{netIn, column, put, capacitiesFrom, lengthsFrom, loadsFrom, keptFrom}
+use Rattle.packed.specs.Packed.{netIn, part, put, capacitiesFrom, lengthsFrom, loadsFrom, keptFrom}
 use Rattle.packed.proofs.Columns.{arcs-is, capacities-length}
 use Rattle.step.specs.Progress.{stateOf, stateIn}
 use Rattle.step.specs.Steps.{Stepped}
@@ -44,13 +44,13 @@ abbrev m : tie.Start → ℕ
 m s = s .args .s .arcs
 
 abbrev L : tie.Start → List ℕ
-L s = column lengthsFrom (m s) (now (s .args .tables))
+L s = part lengthsFrom (m s) (now (s .args .tables))
 
 abbrev Y : tie.Start → List ℕ
-Y s = column loadsFrom (m s) (now (s .args .tables))
+Y s = part loadsFrom (m s) (now (s .args .tables))
 
 abbrev K : tie.After-keep → List ℕ
-K c = let s = entry (draw-at c) in cond (compare-at c .less-product .result) (L s) (column keptFrom (m s) (now (s .args .tables)))
+K c = let s = entry (draw-at c) in cond (compare-at c .less-product .result) (L s) (part keptFrom (m s) (now (s .args .tables)))
 
 kept : (c : tie.After-keep) → let s = entry (draw-at c) in Tabled (m s) (c .keep .last .1 .1 .0) (L s) (Y s) (K c)
 kept c =
@@ -60,7 +60,7 @@ kept c =
 abbrev start-of : tie.After-load → tie.Start
 start-of c = entry (draw-at (keep-at (add-at c)))
 
-abbrev drawn : (c : tie.After-load) → draw-at (keep-at (add-at c)) .draw .result ≡ draw (column capacitiesFrom (m (start-of c)) (now (start-of c .args .net))) (now (start-of c .args .path))
+abbrev drawn : (c : tie.After-load) → draw-at (keep-at (add-at c)) .draw .result ≡ draw (part capacitiesFrom (m (start-of c)) (now (start-of c .args .net))) (now (start-of c .args .path))
 drawn c = draw-at (keep-at (add-at c)) .draw .ensures
 
 loaded : (c : tie.After-load) → let k = keep-at (add-at c) in let s = start-of c in
@@ -119,7 +119,7 @@ returns c =
     let z = s .args in
     in-slice (lengthened long)
     (λ L′ Y′ K′. Stepped (netIn (z .s) (now (z .net))) (z .q) (z .threshold) (z .commodity) (now (z .path)) (stateIn (z .s) (now (z .flow)) (now (z .tables)) (z .p)) (stateOf L′ (add .add .last .0) Y′ K′ (c .count .result)) (c .count .result))
-    (put-together (netIn (z .s) (now (z .net))) (z .q) (z .threshold) (z .commodity) (now (z .path)) (L s) (now (z .flow)) (Y s) (column keptFrom (m s) (now (z .tables))) (z .p)
+    (put-together (netIn (z .s) (now (z .net))) (z .q) (z .threshold) (z .commodity) (now (z .path)) (L s) (now (z .flow)) (Y s) (part keptFrom (m s) (now (z .tables))) (z .p)
     (capacities-length (s .pre .packed)) (s .pre .stepping .growing .same) (s .pre .kept .weight) (s .pre .stepping .alpha) (drawn load)
     (compare-at keep .less-product .ensures) refl (sym (arcs-is (s .pre .packed))) (add .add .ensures) (kept keep .loads) (load .load .ensures)
     (loaded load .lengths) (long .lengthen .ensures) (c .count .ensures))

@@ -8,7 +8,7 @@ use native.Mathlib.Omega.{arith}
 use lib.ListN.{length}
 use Rattle.network.specs.Network.{Network, commodities, sink}
 use Rattle.packed.specs.Packed.{netIn}
-use Rattle.packed.proofs.Columns.{commodities-is, sinks-length, column-length, put-length}
+use Rattle.packed.proofs.Columns.{commodities-is, sinks-length, part-length, put-length}
 use Rattle.paths.specs.Far.{far}
 use Rattle.paths.specs.Graph.{Table}
 use Rattle.choice.specs.Closest.{Closest}
@@ -55,7 +55,7 @@ among : (c : tie.At-loop Inv-loop μ-loop) → c .loop .i < length (net (entry c
 among c = omega (arith, c .loop .inv .0 .least .among, sinks-length (entry c .pre .packed))
 
 searched-size : (c : tie.After-distances Inv-loop μ-loop) → length (c .distances .last .1 .1 .1 .1 .1 .0) ≡ distanceNumbers
-searched-size c = c .distances .kept .1 .1 .1 .1 .1 .0 ∙ column-length distancesFrom distanceNumbers (turn c .loop .memory) (places (turn c))
+searched-size c = c .distances .kept .1 .1 .1 .1 .1 .0 ∙ part-length distancesFrom distanceNumbers (turn c .loop .memory) (places (turn c))
 
 least-requires : tie.Need-least-requires Inv-loop μ-loop
 least-requires c κs =
@@ -76,7 +76,7 @@ distances-requires c κs =
     let t = c .before .before in
     let p = entry t .pre in
     record {
-      fit = rw (column-length distancesFrom distanceNumbers (t .loop .memory) (places t)) (p .survey .fit);
+      fit = rw (part-length distancesFrom distanceNumbers (t .loop .memory) (places t)) (p .survey .fit);
       sink = p .survey .fit .ends .sinks (t .loop .i) (t .loop .inv .0 .least .among);
       index = p .index;
     }
@@ -120,7 +120,7 @@ least-requires-2 : tie.Need-least-requires-2 Inv-loop μ-loop
 least-requires-2 c κs =
     let r = c .before .before .before .before in
     let p = entry (begun r) .pre in
-    omega (arith, p .survey .some, commodities-is (p .packed), column-length 0 (entry (begun r) .args .s .commodities) (r .raise .last .1 .1 .1 .0) (omega (arith, p .packed .few-commodities, numbers r, places (begun r))))
+    omega (arith, p .survey .some, commodities-is (p .packed), part-length 0 (entry (begun r) .args .s .commodities) (r .raise .last .1 .1 .1 .0) (omega (arith, p .packed .few-commodities, numbers r, places (begun r))))
 
 -- the turn that comes next, if it does
 next : (c : tie.After-least2 Inv-loop μ-loop) → let r = raise-at c in let s = entry (begun r) in

@@ -9,7 +9,7 @@ use lib.ListN.{length}
 use lib.Seq.{take-length, take-all}
 use Rattle.numbers.specs.Numbers.{written}
 use Rattle.packed.specs.Packed.{keptFrom, keptIn}
-use Rattle.packed.proofs.Columns.{arcs-is, commodities-is, column-length}
+use Rattle.packed.proofs.Columns.{arcs-is, commodities-is, part-length}
 use Rattle.host.proofs.deliver.write_tables_in.Statement.{statement}
 use Rattle.host.proofs.deliver.write_tables_in.Tie as tie
 
@@ -32,7 +32,7 @@ flow-size c =
 kept-size : (c : tie.After-solve) → length (keptIn (entry c .args .s) (c .solve .last .1 .1 .1 .1 .0)) ≡ entry c .args .s .arcs
 kept-size c =
     let p = entry c .pre .0 in
-    column-length keptFrom (entry c .args .s .arcs) (c .solve .last .1 .1 .1 .1 .0) (omega (arith, c .solve .kept .1 .1 .1 .1 .0, p .places, p .lent .packed .few-arcs))
+    part-length keptFrom (entry c .args .s .arcs) (c .solve .last .1 .1 .1 .1 .0) (omega (arith, c .solve .kept .1 .1 .1 .1 .0, p .places, p .lent .packed .few-arcs))
 
 write-all-requires : tie.Need-write-all-requires
 write-all-requires c κs =

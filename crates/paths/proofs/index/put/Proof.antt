@@ -4,7 +4,7 @@ use mathlib.Core.Path.{refl}
 use native.Mathlib.Omega.{arith}
 use lib.ListN.{length-set}
 use borrow.Author.Needs.{needs}
-use Rattle.paths.specs.Indexing.{put}
+use Rattle.paths.specs.Indexing.{placed}
 use Rattle.paths.proofs.index.put.Statement.{statement}
 use Rattle.paths.proofs.index.put.Tie as tie
 
@@ -15,7 +15,7 @@ slice-write-ix-3 : tie.Need-slice-write-ix-3
 slice-write-ix-3 c = simp length-set (omega (arith, c .before .pre))
 
 returns : tie.Need-returns
-unfolding put
+unfolding placed
 returns c = refl
 
 pub put-spec : {M : Type 1} → statement M

@@ -7,7 +7,7 @@ use native.Mathlib.Omega.{arith}
 use lib.ListN.{length, take, length-replicate}
 use lib.Seq.{length-take-le}
 use borrow.Author.Needs.{needs}
-use Rattle.packed.proofs.Columns.{column-length, arcs-is, commodities-is}
+use Rattle.packed.proofs.Columns.{part-length, arcs-is, commodities-is}
 use Rattle.records.proofs.Judged.{placed, replied-accepted}
 use Rattle.records.proofs.judge.deliver_in.Statement.{statement}
 use Rattle.records.proofs.judge.deliver_in.Tie as tie
@@ -53,7 +53,7 @@ copy-requires : tie.Need-copy-requires
 copy-requires c κs =
     let f = c .before .before .before .before .before .before in
     let s = entry f in
-    bests s ∙ sym (column-length _ (m s) (f .solve .last .1 .1 .1 .1 .0) (omega (arith, kept-many f)))
+    bests s ∙ sym (part-length _ (m s) (f .solve .last .1 .1 .1 .1 .0) (omega (arith, kept-many f)))
 
 returns : tie.Need-returns
 returns c =

@@ -3,7 +3,7 @@ use denote.Ref.{now}
 use mathlib.Core.Path.{_∙_}
 use native.Mathlib.Omega.{arith}
 use borrow.Author.Needs.{needs}
-use Rattle.packed.proofs.Columns.{column-length}
+use Rattle.packed.proofs.Columns.{part-length}
 use Rattle.records.proofs.Paired.{sinks-column, paired-length, paired}
 use Rattle.records.proofs.judge.put_pairs.Statement.{statement}
 use Rattle.records.proofs.judge.put_pairs.Tie as tie
@@ -15,7 +15,7 @@ halve-requires : tie.Need-halve-requires
 halve-requires c κs =
     let s = c .before .before .before in
     record {
-      each = column-length 768 (s .args .s .commodities) (now (s .args .net)) (omega (arith, s .pre .packed .few-commodities, s .pre .packed .places)) ∙ s .pre .each;
+      each = part-length 768 (s .args .s .commodities) (now (s .args .net)) (omega (arith, s .pre .packed .few-commodities, s .pre .packed .places)) ∙ s .pre .each;
       two = omega arith;
     }
 

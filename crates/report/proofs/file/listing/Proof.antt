@@ -10,7 +10,7 @@ use Rattle.dimacs.proofs.Holds.{network-sizes}
 use Rattle.dimacs.proofs.Whole.{whole}
 use Rattle.dimacs.specs.File.{holds, parsed}
 use Rattle.report.specs.Row.{delimited, header}
-use Rattle.report.specs.Shown.{networkRead}
+use Rattle.report.specs.Shown.{networkOfFile}
 use Rattle.report.proofs.Written.{listed-refused, listed-held}
 use borrow.Author.Needs.{needs}
 use Rattle.report.proofs.file.listing.Statement.{statement}
@@ -35,7 +35,7 @@ pack-requires c κs =
     record { few = w .few; of-tails = w .tails; of-heads = w .heads; of-capacities = w .capacities; places = omega (arith, length-replicate {A = ℕ} netNumbers 0) }
 
 -- the file holds the network that is packed
-held : (c : tie.After-pack) → parsed (now (read-at (put-at c) .before .before .args .text)) ≡ holds (networkRead (read-at (put-at c) .read .result))
+held : (c : tie.After-pack) → parsed (now (read-at (put-at c) .before .before .args .text)) ≡ holds (networkOfFile (read-at (put-at c) .read .result))
 held c = accepted-holds _ (read-at (put-at c) .read .ensures .result) (c .before .before .enum-told .given .1)
 
 judge-requires : tie.Need-judge-requires

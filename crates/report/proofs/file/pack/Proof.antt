@@ -8,7 +8,7 @@ use borrow.Rule.Slice.PartMut.{putMid}
 use lib.ListN.{length, take}
 use lib.Seq.{length-take-le}
 use Rattle.packed.specs.Packed.{netNumbers, tailsFrom, headsFrom, capacitiesFrom, put}
-use Rattle.packed.proofs.Columns.{column-length, put-length}
+use Rattle.packed.proofs.Columns.{part-length, put-length}
 use Rattle.report.specs.Shown.{shapeOf}
 use Rattle.report.proofs.Packing.{sink-place, packed-length, packed}
 use borrow.Author.Needs.{needs}
@@ -65,7 +65,7 @@ slice-aggregate-copy c = sym (tails-many (c .before .before .before))
 copy-requires : tie.Need-copy-requires
 copy-requires c κs =
     let s = c .before .before .before .before in
-    column-length tailsFrom (m s) (now (s .args .net)) (omega (arith, s .pre .few, s .pre .places)) ∙ sym (tails-many s)
+    part-length tailsFrom (m s) (now (s .args .net)) (omega (arith, s .pre .few, s .pre .places)) ∙ sym (tails-many s)
 
 slice-aggregate-copy-2 : tie.Need-slice-aggregate-copy-2
 slice-aggregate-copy-2 c = sym (heads-many (entry (c .before .before .before .before)))
@@ -74,7 +74,7 @@ copy-requires-2 : tie.Need-copy-requires-2
 copy-requires-2 c κs =
     let t = c .before .before .before .before .before in
     let s = entry t in
-    column-length headsFrom (m s) (tailed t) (omega (arith, s .pre .few, tailed-long t)) ∙ sym (heads-many s)
+    part-length headsFrom (m s) (tailed t) (omega (arith, s .pre .few, tailed-long t)) ∙ sym (heads-many s)
 
 slice-aggregate-copy-3 : tie.Need-slice-aggregate-copy-3
 slice-aggregate-copy-3 c = sym (capacities-many (entry (tails-at (c .before .before .before .before))))
@@ -83,7 +83,7 @@ copy-requires-3 : tie.Need-copy-requires-3
 copy-requires-3 c κs =
     let h = c .before .before .before .before .before in
     let s = entry (tails-at h) in
-    column-length capacitiesFrom (m s) (headed h) (omega (arith, s .pre .few, headed-long h)) ∙ sym (capacities-many s)
+    part-length capacitiesFrom (m s) (headed h) (omega (arith, s .pre .few, headed-long h)) ∙ sym (capacities-many s)
 
 slice-write-net-2 : tie.Need-slice-write-net-2
 slice-write-net-2 c =

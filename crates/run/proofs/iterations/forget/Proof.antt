@@ -7,7 +7,7 @@ use Prim.Native.Nat.{ℕ}
 use native.Mathlib.Omega.{arith}
 use lib.ListN.{replicate}
 use Rattle.packed.specs.Packed.{put}
-use Rattle.packed.proofs.Columns.{column-length}
+use Rattle.packed.proofs.Columns.{part-length}
 use Rattle.run.proofs.iterations.forget.Statement.{statement}
 use Rattle.run.proofs.iterations.forget.Tie as tie
 
@@ -19,7 +19,7 @@ returns c =
     let k = s .args .k in
     rw (f .before .before .if1 .taken)
     (ap (put 0 k old)
-    (f .clear .ensures ∙ ap (λ (i : ℕ). replicate {A = ℕ} i 0) (column-length 0 k old (omega (arith, s .pre .0, s .pre .1)))))
+    (f .clear .ensures ∙ ap (λ (i : ℕ). replicate {A = ℕ} i 0) (part-length 0 k old (omega (arith, s .pre .0, s .pre .1)))))
 
 pub forget-spec : {M : Type 1} → statement M
 forget-spec =

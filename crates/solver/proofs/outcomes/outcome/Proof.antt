@@ -10,7 +10,7 @@ use native.Mathlib.Omega.{arith}
 use lib.ListN.{length}
 use Rattle.network.specs.Network.{Network, arcs}
 use Rattle.packed.specs.Packed.{netIn, lengthsIn, loadsIn, keptIn, loadsFrom, tableNumbers}
-use Rattle.packed.proofs.Columns.{column-length, arcs-is}
+use Rattle.packed.proofs.Columns.{part-length, arcs-is}
 use Rattle.method.specs.Iteration.{initial}
 use Rattle.method.proofs.Guaranteed.{always}
 use Rattle.method.proofs.Reached.{reached-start}
@@ -88,7 +88,7 @@ room c = omega (arith, c .run .kept .1 .1 .1 .1 .1 .0, start-of c .pre .0 .table
 loaded : (c : tie.After-run) → length (loadsIn (start-of c .args .s) (tables c)) ≡ arcs (net (start-of c))
 loaded c =
     let a = start-of c .pre .0 .lent .packed in
-    column-length loadsFrom (start-of c .args .s .arcs) (tables c) (omega (arith, a .few-arcs, room c)) ∙ sym (arcs-is a)
+    part-length loadsFrom (start-of c .args .s .arcs) (tables c) (omega (arith, a .few-arcs, room c)) ∙ sym (arcs-is a)
 
 answer-requires : tie.Need-answer-requires
 answer-requires c κs =
