@@ -75,11 +75,11 @@ while IFS='|' read -r _ file count _; do
         esac
     done
     read_so_far="$read_so_far$file " sum=$((sum + count))
-    if [ "$file" = vithmork/specs/Host.antt ]; then sums=$sum sum=0; fi
+    if [ "$file" = host/specs/Host.antt ]; then sums=$sum sum=0; fi
 done < <(grep -E '^\| `[a-z_]+/specs/[A-Za-z]+\.antt` \| [0-9]+ \|' "$page")
 grep -q "$sums lines for .vithmork_solve. (sections 1 to 5), and $sum more" <(tr '\n' ' ' <"$page") || fault "$page: the sums are $sums and $sum"
 grep -q "Of the $sums, $((sums - named)) are .* the other $named " <(tr '\n' ' ' <"$page") || fault "$page: of the $sums lines $named are added"
-for contract in vithmork/specs/Host dimacs/specs/Result report/specs/Listed records/specs/Records; do
+for contract in host/specs/Host dimacs/specs/Result report/specs/Listed records/specs/Records; do
     case $read_so_far in *" $contract.antt "*) ;; *) fault "$page: lacks $contract" ;; esac
 done
 
