@@ -11,7 +11,7 @@ use Rattle.network.proofs.Paths.{path-some}
 use Rattle.choice.specs.Chose.{Chose}
 use Rattle.choice.specs.Closest.{Closest}
 use Rattle.paths.specs.Far.{far}
-use Rattle.paths.specs.Index.{Out}
+use Rattle.index.specs.Index.{Out}
 use Rattle.choice.specs.Memory.{distanceNumbers}
 use Rattle.choice.specs.Search.{Survey}
 use Rattle.paths.specs.Walked.{Walkable, Walked}

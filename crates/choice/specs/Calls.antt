@@ -6,7 +6,7 @@ use Rattle.bounds.specs.Bounds.{mostNodes}
 use Rattle.network.specs.Network.{Network}
 use Rattle.packed.specs.Packed.{part, netIn, Packed}
 use Rattle.packed.specs.declared.Shape.{Shape}
-use Rattle.paths.specs.Index.{indexNumbers, Into, Out}
+use Rattle.index.specs.Index.{indexNumbers, Into, Out}
 use Rattle.choice.specs.Memory.{Memory}
 use Rattle.choice.specs.Search.{Survey}
 

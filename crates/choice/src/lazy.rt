@@ -7,7 +7,7 @@ use crate::DISTANCES;
 use packed::SINKS;
 use packed::SOURCES;
 use packed::Shape;
-use paths::search::distances;
+use search::distances;
 ghost use Prim.Native.Nat.{_≤_};
 ghost use lib.ListN.{length};
 ghost use Rattle.packed.specs.Packed.{netIn};

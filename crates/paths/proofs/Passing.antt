@@ -13,7 +13,7 @@ use Rattle.network.specs.Network.{Network}
 use Rattle.network.specs.Path.{leads}
 use Rattle.paths.specs.Calls.{Leaving}
 use Rattle.paths.specs.Distances.{over, Way}
-use Rattle.paths.specs.Index.{endsFrom, begins, arcAt, endAt, Place}
+use Rattle.index.specs.Index.{endsFrom, begins, arcAt, endAt, Place}
 use Rattle.paths.specs.Relax.{Relaxing}
 use Rattle.paths.specs.Tight.{Crossing, Tight}
 use Rattle.paths.proofs.Rooms.{relaxing}

@@ -7,7 +7,7 @@ use native.Mathlib.Omega.{arith}
 use Rattle.network.specs.Network.{Network}
 use Rattle.paths.specs.Far.{far}
 use Rattle.paths.specs.Graph.{Table}
-use Rattle.paths.specs.Index.{begins, Into}
+use Rattle.index.specs.Index.{begins, Into}
 use Rattle.paths.specs.Listing.{TakenOut}
 use Rattle.paths.specs.Searching.{Searching, Any, Passed}
 use Rattle.paths.proofs.Labels.{labels-rest}

@@ -14,7 +14,7 @@ use borrow.Author.Tests.{eqb-true, eqb-false}
 use Rattle.network.specs.Network.{Network}
 use Rattle.network.specs.Path.{leads}
 use Rattle.paths.specs.Distances.{over}
-use Rattle.paths.specs.Index.{arcAt, endAt}
+use Rattle.index.specs.Index.{arcAt, endAt}
 use Rattle.paths.specs.Listing.{Enlisted}
 use Rattle.paths.specs.Relax.{shortens, relaxed}
 use Rattle.paths.specs.Searching.{Searching, Passed, Spread}

@@ -4,7 +4,7 @@ use mathlib.Core.List.{List}
 use Prim.Native.Nat.{ℕ, _+_, _≤_}
 use native.Mathlib.Omega.{arith}
 use Rattle.network.specs.Network.{Network}
-use Rattle.paths.specs.Index.{begins, Into}
+use Rattle.index.specs.Index.{begins, Into}
 use Rattle.paths.specs.Searching.{Searching, Any, Passed, Spread}
 use Rattle.paths.proofs.Searches.{searching-all}
 

@@ -12,7 +12,7 @@ use Rattle.network.specs.Network.{Network}
 use Rattle.paths.specs.Calls.{Leaving}
 use Rattle.paths.specs.Distances.{Way}
 use Rattle.paths.specs.Far.{far}
-use Rattle.paths.specs.Index.{arcAt, endAt}
+use Rattle.index.specs.Index.{arcAt, endAt}
 use Rattle.paths.specs.Tight.{Tight}
 use Rattle.paths.specs.Walk.{Walk, stop, step}
 use Rattle.paths.specs.Walked.{Walkable, Walked}

@@ -7,7 +7,7 @@ use Rattle.network.specs.Network.{Network}
 use Rattle.paths.specs.Distances.{Way}
 use Rattle.paths.specs.Far.{far}
 use Rattle.paths.specs.Graph.{Fit, Capped}
-use Rattle.paths.specs.Index.{begins, Into, Out}
+use Rattle.index.specs.Index.{begins, Into, Out}
 use Rattle.paths.specs.Searching.{Searching, Passed}
 
 -- The nearest on a list: there is one, and each has an entry of d.

@@ -3,8 +3,6 @@ pub mod Distances
 pub mod Far
 pub mod Frontier
 pub mod Graph
-pub mod Index
-pub mod Indexing
 pub mod Labels
 pub mod Listing
 pub mod Relax

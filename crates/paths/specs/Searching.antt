@@ -10,7 +10,7 @@ use Rattle.network.specs.Path.{leads}
 use Rattle.paths.specs.Distances.{over}
 use Rattle.paths.specs.Far.{far}
 use Rattle.paths.specs.Graph.{Fit}
-use Rattle.paths.specs.Index.{Place}
+use Rattle.index.specs.Index.{Place}
 use Rattle.paths.specs.Labels.{Labels}
 use Rattle.paths.specs.Listing.{Listing}
 

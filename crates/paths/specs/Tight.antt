@@ -7,7 +7,7 @@ use lib.ListN.{length, getD}
 use Rattle.network.specs.Network.{Network}
 use Rattle.network.specs.Path.{leads}
 use Rattle.paths.specs.Distances.{over, Way}
-use Rattle.paths.specs.Index.{endsFrom, arcAt, endAt}
+use Rattle.index.specs.Index.{endsFrom, arcAt, endAt}
 
 -- The arc at place p has a length, its end an entry of d, and the way over it is a number of 64 bits.
 pub record Crossing (out l d : List ℕ) (p : ℕ) : Type 0 where

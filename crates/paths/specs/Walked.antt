@@ -6,7 +6,7 @@ use Rattle.network.specs.Ends.{Node, Positive}
 use Rattle.network.specs.Network.{Network}
 use Rattle.paths.specs.Far.{far}
 use Rattle.paths.specs.Graph.{Fit, Table}
-use Rattle.paths.specs.Index.{Out}
+use Rattle.index.specs.Index.{Out}
 use Rattle.paths.specs.Walk.{Walk}
 
 -- d has the distances to t, by lengths of at least 1; s is a node with a path to t; out has the arcs from each node; and the table of arcs has a place

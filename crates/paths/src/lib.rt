@@ -1,7 +1,1 @@
-// Distances to a sink, and the walk along them: what the choice of an iteration is found by.
-mod fill;
-mod frontier;
-pub mod greedy;
-pub mod index;
-mod relax;
-pub mod search;
+// Distances to a sink, and the walk along them: definitions and laws. The code is in `search` and `walk`, over the arcs as `index` lays them.

@@ -9,7 +9,7 @@ use Rattle.network.specs.Network.{Network, arcs}
 use Rattle.method.specs.Iteration.{initial, weight}
 use Rattle.method.proofs.Reached.{reached-start}
 use Rattle.method.proofs.Sized.{reached-sizes}
-use Rattle.tables.specs.Calls.{Weighing}
+use Rattle.lengths.specs.Calls.{Weighing}
 use Rattle.tables.specs.Tables.{weightOf}
 use Rattle.step.specs.declared.Progress.{Progress}
 use Rattle.step.specs.Progress.{stateOf, begun, begunWith}

@@ -22,7 +22,7 @@ use Rattle.method.proofs.Arcs.{chosen-some}
 use Rattle.method.proofs.Reached.{Reached, Valid, chosen-at, fair}
 use Rattle.method.proofs.Sized.{reached-sizes, grown-sizes}
 use Rattle.method.proofs.Times.{update-length}
-use Rattle.tables.specs.Calls.{Settling}
+use Rattle.lengths.specs.Calls.{Settling}
 use Rattle.step.specs.Steps.{Stepping}
 use Rattle.run.proofs.Whole.{Whole}
 use Rattle.tables.specs.Tables.{Under, Capacities, longer}

@@ -7,7 +7,7 @@ use lib.ListN.{length}
 use Rattle.network.specs.Network.{Network}
 use Rattle.packed.specs.Packed.{part, put}
 use Rattle.packed.proofs.Columns.{part-length, part-put, part-before, put-length}
-use Rattle.paths.specs.Index.{indexNumbers, Into, Out}
+use Rattle.index.specs.Index.{indexNumbers, Into, Out}
 use Rattle.choice.specs.Calls.{indexesNumbers, Indexed}
 
 module _ (net : Network) (xs a b : List ℕ) (room : indexesNumbers ≤ length xs) (first : length a ≡ length (part 0 indexNumbers xs)) where

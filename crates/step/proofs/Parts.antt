@@ -5,7 +5,8 @@ use Prim.Native.Nat.{ℕ, _*_, _^_, _<_}
 use lib.ListN.{length}
 use Rattle.network.specs.Network.{Network, arcs}
 use Rattle.method.specs.Iteration.{State, weight, draw}
-use Rattle.tables.specs.Calls.{Lengthening, Adding, Loading}
+use Rattle.tables.specs.Calls.{Adding, Loading}
+use Rattle.lengths.specs.Calls.{Lengthening}
 use Rattle.step.specs.Steps.{Stepping, Kept}
 use Rattle.step.specs.declared.Progress.{Progress}
 

@@ -12,8 +12,9 @@ use Rattle.network.specs.Path.{pathLength}
 use Rattle.method.specs.Choice.{choiceOf}
 use Rattle.method.specs.Iteration.{weight, draw, update, grown, settled, advance}
 use Rattle.method.proofs.Times.{update-length}
-use Rattle.tables.specs.declared.lengths.Grown.{Grown}
-use Rattle.tables.specs.Results.{Lengthened, Loaded}
+use Rattle.lengths.specs.declared.Grown.{Grown}
+use Rattle.tables.specs.Results.{Loaded}
+use Rattle.lengths.specs.Results.{Lengthened}
 use Rattle.tables.specs.Tables.{weightOf, longer, atThreshold}
 use Rattle.step.specs.declared.Progress.{Progress}
 use Rattle.step.specs.Progress.{stateOf, counted, halves}

@@ -10,7 +10,8 @@ use Rattle.packed.specs.Packed.{netIn, Packed, tableNumbers}
 use Rattle.packed.specs.declared.Shape.{Shape}
 use Rattle.method.specs.Choice.{choiceOf}
 use Rattle.method.specs.Iteration.{State, weight, draw, advance}
-use Rattle.tables.specs.Calls.{Growing, Settling, Adding, Ending}
+use Rattle.tables.specs.Calls.{Adding, Ending}
+use Rattle.lengths.specs.Calls.{Growing, Settling}
 use Rattle.tables.specs.Tables.{longer, atThreshold}
 use Rattle.step.specs.declared.Progress.{Progress}
 use Rattle.step.specs.Progress.{stateIn, halves}

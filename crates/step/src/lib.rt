@@ -1,12 +1,11 @@
 // One step of the run on the lent tables: what an iteration does once its path is chosen.
+use lengths::Grown;
 use packed::CAPACITIES;
 use packed::KEPT;
 use packed::LENGTHS;
 use packed::LOADS;
 use packed::Shape;
 use tables::draws;
-use tables::lengths;
-use tables::lengths::Grown;
 use tables::loads;
 ghost use mathlib.Core.Path.{_≡_};
 ghost use Prim.Native.Nat.{_+_, _≤_, _<_, _^_};

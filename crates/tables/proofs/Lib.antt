@@ -4,12 +4,8 @@ pub mod Counted
 pub mod Filled
 pub mod Followed
 pub mod Fuller
-pub mod Halved
 pub mod Instances
-pub mod Lengthened
 pub mod Loadings
 pub mod Lowered
 pub mod OnPath
-pub mod Settling
 pub mod Stored
-pub mod Weighed

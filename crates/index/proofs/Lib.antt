@@ -1,0 +1,6 @@
+pub mod Adding
+pub mod Building
+pub mod Counts
+pub mod Indexes
+pub mod Opening
+pub mod Putting

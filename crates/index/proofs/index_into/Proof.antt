@@ -1,0 +1,24 @@
+-- `index::index_into` meets its contract: an arc leads from its tail to its head.
+-- Assumes nothing.
+use borrow.Author.Needs.{needs}
+use Rattle.packed.specs.Packed.{netIn}
+use Rattle.index.proofs.Indexes.{into-indexing, into-index}
+use Rattle.index.proofs.index_into.Statement.{statement}
+use Rattle.index.proofs.index_into.Tie as tie
+
+index-by-requires : tie.Need-index-by-requires
+unfolding netIn
+index-by-requires c κs = into-indexing (c .before .before .before .before .before .pre)
+
+returns : tie.Need-returns
+unfolding netIn
+returns c =
+    into-index
+    (c .before .before .before .before .before .before .before .before .pre)
+    (c .before .before .index-by .ensures)
+
+pub index-into-spec : {M : Type 1} → statement M
+index-into-spec =
+    tie.close (tie.spec (λ c. search needs) (λ c. search needs) (λ c. search needs) (λ c. search needs)
+    (λ c. search needs) (λ c. search needs) (λ c. search needs) (λ c. search needs) index-by-requires
+    (λ c. search needs) returns)

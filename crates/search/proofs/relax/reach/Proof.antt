@@ -1,0 +1,81 @@
+-- `search::relax::reach` meets its contract: where the arc shortens its start is on the list, else nothing has changed.
+-- Assumes nothing.
+use mathlib.Core.Path.{_≡_, refl, sym, _∙_}
+use mathlib.Core.Option.{some}
+use Prim.Native.Nat.{_+_, _<_}
+use native.Mathlib.Omega.{arith}
+use lib.ListN.{length}
+use borrow.Author.Needs.{needs}
+use Rattle.network.specs.Path.{leads}
+use Rattle.packed.specs.Packed.{netIn}
+use Rattle.index.specs.Index.{endsFrom, arcAt, endAt}
+use Rattle.paths.proofs.Leading.{leads-from}
+use Rattle.paths.proofs.Rooms.{relaxing}
+use Rattle.paths.proofs.Spreading.{searching-still, searching-spread}
+use Rattle.search.proofs.relax.reach.Statement.{statement}
+use Rattle.search.proofs.relax.reach.Tie as tie
+
+-- the function's entry, seen from behind the call of `relax`
+abbrev entry : tie.After-relax → tie.Start
+entry c = c .before .before .before .before .before .before .before .before .before .before
+
+-- the place is in the index, and its arc leads to v
+place : (s : tie.Start) → endsFrom + s .args .p < length (s .args .into .now)
+place s = let P = s .pre in omega (arith, P .below, P .index .within (s .args .v) (P .node), P .index .numbers)
+
+arc :
+    (s : tie.Start) →
+    leads (netIn (s .args .s) (s .args .net .now)) (endAt (s .args .into .now) (s .args .p)) (arcAt (s .args .into .now) (s .args .p)) ≡
+    some (s .args .v)
+arc s =
+    let P = s .pre in
+    P .index .sound (s .args .v) (s .args .p) _ _ (P .node) (record { from = P .from; below = P .below; arc = refl; end = refl })
+
+add-e : tie.Need-add-e
+add-e c = let s = c .before .before .before .before .before .before in omega (arith, s .good, place s)
+
+mul-e : tie.Need-mul-e
+mul-e c = let s = c .before .before .before .before .before .before in omega (arith, s .good, place s)
+
+shared-slice-read-e : tie.Need-shared-slice-read-e
+shared-slice-read-e c = omega (arith, place (c .before .before .before .before .before .before .before))
+
+add-u : tie.Need-add-u
+add-u c = let s = c .before .before .before .before .before .before .before in omega (arith, s .good, place s)
+
+mul-u : tie.Need-mul-u
+mul-u c = let s = c .before .before .before .before .before .before .before in omega (arith, s .good, place s)
+
+shared-slice-read-u : tie.Need-shared-slice-read-u
+shared-slice-read-u c = place (c .before .before .before .before .before .before .before .before)
+
+relax-requires : tie.Need-relax-requires
+relax-requires c κs =
+    let s = c .before .before .before .before .before .before .before .before .before in
+    relaxing _ _ _ (s .pre .searching .fit) (s .pre .searching .labels .capped) (arc s)
+
+enlist-requires : tie.Need-enlist-requires
+unfolding netIn
+enlist-requires c κs =
+    let s = entry (c .before .before .before .before .before) in
+    (s .pre .searching .listing, leads-from _ _ _ _ (arc s) (s .pre .searching .fit .ends))
+
+returns : tie.Need-returns
+unfolding netIn
+returns c =
+    let E = c .before .before .before .before .enlist in
+    let t = c .before .before .before .before .before .before .before in
+    let R = t .before .before .before in
+    let s = entry R in
+    searching-spread (s .pre .searching) refl refl (arc s) (sym (R .relax .ensures .told) ∙ t .if1 .taken) (R .relax .ensures .entries) (E .ensures)
+
+returns-2 : tie.Need-returns-2
+returns-2 c =
+    let R = c .before .before .before in
+    let s = entry R in
+    searching-still (s .pre .searching) refl refl (arc s) (sym (R .relax .ensures .told) ∙ c .if1 .left) (R .relax .ensures .entries)
+
+pub reach-spec : {M : Type 1} → statement M
+reach-spec =
+    tie.close (tie.spec add-e mul-e shared-slice-read-e add-u mul-u shared-slice-read-u relax-requires enlist-requires
+    (λ c. search needs) (λ c. search needs) (λ c. search needs) returns (λ c. search needs) returns-2)

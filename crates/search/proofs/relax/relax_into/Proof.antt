@@ -1,0 +1,116 @@
+-- `search::relax::relax_into` meets its contract: the arcs at the places of v before the present one are relaxed.
+-- Assumes nothing.
+use mathlib.Core.Path.{_≡_, refl, _∙_}
+use mathlib.Core.List.{List}
+use Prim.Native.Nat.{ℕ, _+_, _-_, _≤_, _<_}
+use native.Mathlib.Nat.{le-refl}
+use native.Mathlib.Omega.{arith}
+use lib.ListN.{length}
+use Rattle.network.specs.Network.{Network}
+use Rattle.packed.specs.Packed.{netIn}
+use Rattle.index.specs.Index.{begins}
+use Rattle.paths.specs.Searching.{Passed, Spread}
+use Rattle.paths.proofs.Turning.{spread-none, spread-more, spread-all}
+use Rattle.search.proofs.relax.relax_into.Statement.{statement}
+use Rattle.search.proofs.relax.relax_into.Tie as tie
+
+-- the arcs at the places before p are relaxed, in tables as large as at first
+record Relaxing (net : Network) (into l : List ℕ) (t v : ℕ) (dist₀ front₀ listed₀ : List ℕ) (size : ℕ)
+    (dist front listed : List ℕ) (r p : ℕ) : Type 0 where
+  spread : Spread net l t (Passed into v p) dist₀ size dist front listed r
+  from : begins into v ≤ p
+  dists : length dist ≡ length dist₀
+  fronts : length front ≡ length front₀
+  flags : length listed ≡ length listed₀
+
+abbrev Inv-loop : tie.InvT-loop
+Inv-loop s net into lengths sink v dist₀ front₀ listed₀ size count₀ p₀ end dist front listed count p =
+    Relaxing (netIn s net) into lengths sink v dist₀ front₀ listed₀ size dist front listed count p
+
+abbrev μ-loop : tie.MeasureT-loop
+μ-loop s net into lengths sink v dist₀ front₀ listed₀ size count₀ p₀ end dist front listed count p = end - p
+
+-- the function's entry, seen from a turn, and the turn, seen from behind the call of `reach`
+abbrev entry : tie.At-loop Inv-loop μ-loop → tie.Start Inv-loop μ-loop
+entry c = c .before .before .before .before .before .before .before .before .before
+
+abbrev turn : tie.After-reach Inv-loop μ-loop → tie.In-loop Inv-loop μ-loop
+turn c = c .before .before .before .before
+
+-- the index has an entry for the next node
+next : (s : tie.Start Inv-loop μ-loop) → s .args .v + 1 < length (s .args .into .now)
+next s = omega (arith, s .pre .index .numbers, s .pre .index .nodes, s .pre .node)
+
+mul-p : tie.Need-mul-p Inv-loop μ-loop
+mul-p c = let s = c .before .before .before .before .before .before in omega (arith, s .good, next s)
+
+shared-slice-read-p : tie.Need-shared-slice-read-p Inv-loop μ-loop
+shared-slice-read-p c = omega (arith, next (c .before .before .before .before .before .before .before))
+
+add-end : tie.Need-add-end Inv-loop μ-loop
+add-end c = let s = c .before .before .before .before .before .before .before in omega (arith, s .good, next s)
+
+mul-end : tie.Need-mul-end Inv-loop μ-loop
+mul-end c = let s = c .before .before .before .before .before .before .before in omega (arith, s .good, next s)
+
+shared-slice-read-end : tie.Need-shared-slice-read-end Inv-loop μ-loop
+shared-slice-read-end c = next (c .before .before .before .before .before .before .before .before)
+
+loop-holds : tie.Need-loop-holds Inv-loop μ-loop
+loop-holds c =
+    let s = c .before .before .before .before .before .before .before .before in
+    record { spread = spread-none (s .pre .searching); from = le-refl _; dists = refl; fronts = refl; flags = refl }
+
+reach-requires : tie.Need-reach-requires Inv-loop μ-loop
+reach-requires c κs =
+    let t = c .before .before .before in
+    let I = t .before .loop .inv in
+    let s = entry (t .before) in
+    record {
+      searching = I .spread .searching;
+      index = s .pre .index;
+      node = s .pre .node;
+      from = I .from;
+      below = t .loop-test .taken;
+    }
+
+add-p : tie.Need-add-p Inv-loop μ-loop
+add-p c =
+    let t = turn (c .before .before .before .before .before .before) in
+    let s = entry (t .before) in
+    omega (arith, t .loop-test .taken, s .pre .index .within (s .args .v) (s .pre .node))
+
+loop-less : tie.Need-loop-less Inv-loop μ-loop
+loop-less c = omega (arith, turn (c .before .before .before .before .before .before) .loop-test .taken)
+
+loop-again : tie.Need-loop-again Inv-loop μ-loop
+loop-again c =
+    let R = c .before .before .before .before .before .before in
+    let I = turn R .before .loop .inv in
+    let k = R .reach .kept .1 .1 .1 .1 .1 .1 .1 in
+    record {
+      spread = spread-more (I .spread) (R .reach .ensures);
+      from = omega (arith, I .from);
+      dists = k .0 ∙ I .dists;
+      fronts = k .1 .0 ∙ I .fronts;
+      flags = k .1 .1 .0 ∙ I .flags;
+    }
+
+same-length : tie.Need-same-length Inv-loop μ-loop
+same-length c = c .before .loop .inv .dists
+
+same-length-2 : tie.Need-same-length-2 Inv-loop μ-loop
+same-length-2 c = c .before .loop .inv .fronts
+
+same-length-3 : tie.Need-same-length-3 Inv-loop μ-loop
+same-length-3 c = c .before .loop .inv .flags
+
+returns : tie.Need-returns Inv-loop μ-loop
+returns c =
+    let s = entry (c .before) in
+    spread-all (c .before .loop .inv .spread) (s .pre .index) (s .pre .node) (c .loop-test .left)
+
+pub relax-into-spec : {M : Type 1} → statement M
+relax-into-spec =
+    tie.close (tie.spec Inv-loop μ-loop mul-p shared-slice-read-p add-end mul-end shared-slice-read-end loop-holds
+    reach-requires add-p loop-less loop-again same-length same-length-2 same-length-3 returns)
