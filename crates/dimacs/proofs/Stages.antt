@@ -13,7 +13,7 @@ use Rattle.network.specs.declared.Refusal.the-variants.{Nodes, Arcs}
 use Rattle.dimacs.specs.Progress.{begun}
 use Rattle.dimacs.specs.Reading.{Reading, past, down, opening}
 use Rattle.dimacs.specs.Stage.{Tidy, Held, Reached}
-use Rattle.dimacs.specs.declared.Line.the-variants.{Problem}
+use Rattle.lines.specs.declared.Line.the-variants.{Problem}
 use Rattle.dimacs.specs.declared.Stage.{Stage}
 use Rattle.dimacs.specs.declared.Stage.the-variants.{Down}
 
