@@ -10,11 +10,11 @@ use Rattle.network.specs.Refusal.{refusalCode}
 use Rattle.network.specs.Verdict.{outside}
 use Rattle.lines.specs.Meaning.{shaped, given, problemLine, sourceOrSink, terminalLine, arcLine, lettered, meaning}
 use Rattle.lines.specs.Number.{digit, every, fromDigits, numberOf}
-use Rattle.dimacs.specs.File.{File, holds, refused, networkRead, complete, closing, parsed}
 use Rattle.lines.specs.Pieces.{lead, pieces, lineFeed, linesOf, blank, filled, wordsOf}
+use Rattle.lines.specs.Text.{bytes}
+use Rattle.dimacs.specs.File.{File, holds, refused, networkRead, complete, closing, parsed}
 use Rattle.dimacs.specs.Progress.{begun, withSource, withSink, withArc}
 use Rattle.dimacs.specs.Reading.{opening, once, following, next, readLines}
-use Rattle.lines.specs.Text.{bytes}
 
 -- An outcome in numbers: 0, the nodes, source, sink, tails, heads and capacities; or a refusal's number and place.
 answer : File → List ℕ
