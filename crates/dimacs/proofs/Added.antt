@@ -7,12 +7,12 @@ use native.Mathlib.Omega.{arith}
 use lib.ListN.{set}
 use borrow.Author.Tests.{lt-ltb, le-ltb}
 use Rattle.network.specs.declared.Refusal.the-variants.{Layout}
+use Rattle.lines.specs.declared.Line.{Line}
+use Rattle.lines.specs.declared.Line.the-variants.{Source, Sink, Arc}
+use Rattle.lines.specs.declared.Maybe.the-variants.{Missing, Given}
 use Rattle.dimacs.specs.Progress.{withSource, withSink, withArc}
 use Rattle.dimacs.specs.Reading.{down, once, following}
 use Rattle.dimacs.specs.Stage.{progressOf, Held, Reached}
-use Rattle.dimacs.specs.declared.Line.{Line}
-use Rattle.dimacs.specs.declared.Line.the-variants.{Source, Sink, Arc}
-use Rattle.dimacs.specs.declared.Maybe.the-variants.{Missing, Given}
 use Rattle.dimacs.specs.declared.Stage.the-variants.{Past}
 use Rattle.dimacs.specs.declared.Tally.{Tally}
 use Rattle.dimacs.proofs.Entries.{entries, entries-set, tidy-set}

@@ -8,10 +8,10 @@ use lib.ListN.{take, take-append-drop}
 use borrow.Author.Tests.{eq-eqb, ne-eqb}
 use Rattle.network.specs.declared.Refusal.the-variants.{Layout}
 use Rattle.network.specs.declared.Verdict.the-variants.{Accepted}
+use Rattle.lines.specs.declared.Maybe.the-variants.{Missing, Given}
 use Rattle.dimacs.specs.File.{refused, networkRead, complete, closing}
 use Rattle.dimacs.specs.Result.{padded, resultOf}
 use Rattle.dimacs.specs.Stage.{readingOf, Tidy, Held}
-use Rattle.dimacs.specs.declared.Maybe.the-variants.{Missing, Given}
 use Rattle.dimacs.specs.declared.Parsed.{Parsed}
 use Rattle.dimacs.specs.declared.Stage.{Stage}
 use Rattle.dimacs.specs.declared.Stage.the-variants.{Past}

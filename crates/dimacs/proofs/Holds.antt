@@ -13,12 +13,12 @@ use Rattle.network.specs.Network.{Network}
 use Rattle.network.specs.Refusal.{refusalCode}
 use Rattle.network.specs.declared.Refusal.{Refusal}
 use Rattle.network.specs.declared.Refusal.the-variants.{Layout, LongFile}
+use Rattle.lines.specs.Pieces.{lineFeed, linesOf}
+use Rattle.lines.proofs.Pieces.{few-pieces}
 use Rattle.dimacs.specs.File.{File, holds, refused, networkRead, complete, closing, parsed}
 use Rattle.dimacs.specs.OneCommodity.{OneCommodity}
-use Rattle.dimacs.specs.Pieces.{lineFeed, linesOf}
 use Rattle.dimacs.specs.Progress.{Progress}
 use Rattle.dimacs.specs.Reading.{Reading, before, past, down, readLines}
-use Rattle.dimacs.proofs.Pieces.{few-pieces}
 use Rattle.dimacs.proofs.Sized.{Kept, Sized, lines-sized}
 
 abbrev Bounded : File → Type 0

@@ -1,17 +1,10 @@
 pub mod Added
-pub mod Bytes
 pub mod Closed
-pub mod Counted
-pub mod Digits
 pub mod Entries
 pub mod Examples
 pub mod Handed
 pub mod Holds
 pub mod LineByLine
-pub mod Meant
-pub mod Pieces
 pub mod Sized
-pub mod Split
 pub mod Stages
 pub mod Whole
-pub mod WordFront

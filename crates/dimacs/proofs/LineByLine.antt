@@ -10,15 +10,15 @@ use lib.Seq.{drop-drop}
 use borrow.Author.Tests.{lt-ltb, le-ltb}
 use Rattle.arith.specs.Scan.{until, scan}
 use Rattle.network.specs.declared.Refusal.the-variants.{LongFile}
-use Rattle.dimacs.specs.Meaning.{meaning}
-use Rattle.dimacs.specs.Pieces.{lineFeed, linesOf, pieces}
+use Rattle.lines.specs.Meaning.{meaning}
+use Rattle.lines.specs.Pieces.{lineFeed, linesOf, pieces}
+use Rattle.lines.specs.declared.Line.{Line}
+use Rattle.lines.proofs.Pieces.{first-piece}
 use Rattle.dimacs.specs.File.{closing, refused, parsed}
 use Rattle.dimacs.specs.Reading.{before, next, readLines}
 use Rattle.dimacs.specs.Stage.{readingOf, Tidy, Held, Reached}
-use Rattle.dimacs.specs.declared.Line.{Line}
 use Rattle.dimacs.specs.declared.Stage.{Stage}
 use Rattle.dimacs.specs.declared.Stage.the-variants.{Before}
-use Rattle.dimacs.proofs.Pieces.{first-piece}
 
 -- Lines 1 to place - 1 end before byte `at`, and the stage and the tables hold what they came to.
 pub record ReadTo (text : List ℕ) (at place : ℕ) (s : Stage) (ts hs cs : List ℕ) : Type 0 where

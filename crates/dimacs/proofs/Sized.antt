@@ -13,11 +13,11 @@ use Rattle.network.specs.Sound.{Within}
 use Rattle.network.specs.Verdict.{outside}
 use Rattle.network.specs.declared.Refusal.the-variants.{Nodes, Arcs, Layout}
 use Rattle.network.proofs.Bounds.{within}
-use Rattle.dimacs.specs.Meaning.{meaning}
+use Rattle.lines.specs.Meaning.{meaning}
+use Rattle.lines.specs.declared.Line.{Line}
+use Rattle.lines.specs.declared.Line.the-variants.{Comment, Problem, Source, Sink, Arc, Broken}
 use Rattle.dimacs.specs.Progress.{Progress, begun, withSource, withSink, withArc}
 use Rattle.dimacs.specs.Reading.{Reading, before, past, down, opening, once, following, next, readLines}
-use Rattle.dimacs.specs.declared.Line.{Line}
-use Rattle.dimacs.specs.declared.Line.the-variants.{Comment, Problem, Source, Sink, Arc, Broken}
 
 -- Past the p line: its counts are within bounds, and each arc so far has its three numbers.
 pub record Kept (p : Progress) : Type 0 where

@@ -9,7 +9,7 @@ use Rattle.bounds.specs.Bounds.{mostBytes}
 use Rattle.network.specs.Network.{Network}
 use Rattle.network.specs.declared.Refusal.{Refusal}
 use Rattle.network.specs.declared.Refusal.the-variants.{Layout, LongFile}
-use Rattle.dimacs.specs.Pieces.{linesOf}
+use Rattle.lines.specs.Pieces.{linesOf}
 use Rattle.dimacs.specs.Progress.{Progress}
 use Rattle.dimacs.specs.Reading.{Reading, before, past, down, readLines}
 

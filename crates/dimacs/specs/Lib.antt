@@ -1,11 +1,6 @@
 pub mod File
-pub mod Meaning
-pub mod Number
 pub mod OneCommodity
-pub mod Pieces
 pub mod Progress
 pub mod Reading
 pub mod Result
-pub mod Scan
 pub mod Stage
-pub mod Text

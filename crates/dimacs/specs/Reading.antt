@@ -9,10 +9,10 @@ use Rattle.bounds.specs.Bounds.{leastNodes, mostNodes, mostArcs}
 use Rattle.network.specs.Verdict.{outside}
 use Rattle.network.specs.declared.Refusal.{Refusal}
 use Rattle.network.specs.declared.Refusal.the-variants.{Nodes, Arcs, Layout}
-use Rattle.dimacs.specs.Meaning.{meaning}
+use Rattle.lines.specs.Meaning.{meaning}
+use Rattle.lines.specs.declared.Line.{Line}
+use Rattle.lines.specs.declared.Line.the-variants.{Comment, Problem, Source, Sink, Arc, Broken}
 use Rattle.dimacs.specs.Progress.{Progress, begun, withSource, withSink, withArc}
-use Rattle.dimacs.specs.declared.Line.{Line}
-use Rattle.dimacs.specs.declared.Line.the-variants.{Comment, Problem, Source, Sink, Arc, Broken}
 
 -- How far the reading is: before the p line, past it, or turned down.
 pub data Reading : Type 0 where

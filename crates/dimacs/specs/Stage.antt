@@ -4,9 +4,9 @@ use mathlib.Core.List.{List}
 use Prim.Native.Nat.{ℕ, _-_, _≤_}
 use lib.ListN.{length, take, drop, replicate}
 use Rattle.bounds.specs.Bounds.{mostArcs}
+use Rattle.lines.specs.Scan.{optionOf}
 use Rattle.dimacs.specs.Progress.{Progress}
 use Rattle.dimacs.specs.Reading.{Reading, before, past, down}
-use Rattle.dimacs.specs.Scan.{optionOf}
 use Rattle.dimacs.specs.declared.Stage.{Stage}
 use Rattle.dimacs.specs.declared.Stage.the-variants.{Before, Past, Down}
 use Rattle.dimacs.specs.declared.Tally.{Tally}

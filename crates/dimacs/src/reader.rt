@@ -1,17 +1,17 @@
 // The lines of a file one after the other.
-use crate::Line;
-use crate::Maybe;
 use crate::Parsed;
 use crate::Stage;
-use crate::Stop;
 use crate::Tally;
-use crate::lines::meaning;
-use crate::words::scan;
 use bounds::LEAST_NODES;
 use bounds::MOST_ARCS;
 use bounds::MOST_BYTES;
 use bounds::MOST_NODES;
 use checks::sizes::outside;
+use lines::Line;
+use lines::Maybe;
+use lines::Stop;
+use lines::meaning;
+use lines::scan;
 use network::Refusal;
 use network::Verdict;
 ghost use mathlib.Core.Path.{_≡_};

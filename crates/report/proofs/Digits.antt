@@ -9,8 +9,8 @@ use native.Mathlib.Omega.{arith}
 use borrow.Author.Tests.{ltb-true, ltb-false}
 use lib.Dec.{ltb}
 use lib.ListN.{length, getD, length-append}
-use Rattle.dimacs.specs.Number.{digit, every, fromDigits}
-use Rattle.dimacs.proofs.Digits.{digit-in}
+use Rattle.lines.specs.Number.{digit, every, fromDigits}
+use Rattle.lines.proofs.Digits.{digit-in}
 use Rattle.report.specs.Decimal.{digits, decimal}
 
 -- What holds of no digits, of one digit, and of digits with one more behind them, holds of the digits of every number.

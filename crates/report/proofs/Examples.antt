@@ -17,16 +17,16 @@ use Rattle.method.specs.Answer.{fullest, amounts, unjoined, outcomeOf, outcome}
 use Rattle.method.specs.Choice.{words, endsAt, paths, candidates, sooner, least, choice}
 use Rattle.method.specs.Iteration.{initial, weight, lowest, draw, update, grown, settled, advance, iteration}
 use Rattle.method.specs.Run.{ended, runs, run}
-use Rattle.dimacs.specs.Meaning.{shaped, given, problemLine, sourceOrSink, terminalLine, arcLine, lettered, meaning}
-use Rattle.dimacs.specs.Number.{digit, every, fromDigits, numberOf}
+use Rattle.lines.specs.Meaning.{shaped, given, problemLine, sourceOrSink, terminalLine, arcLine, lettered, meaning}
+use Rattle.lines.specs.Number.{digit, every, fromDigits, numberOf}
 use Rattle.dimacs.specs.File.{networkRead, complete, closing, parsed}
-use Rattle.dimacs.specs.Pieces.{lead, pieces, lineFeed, linesOf, blank, filled, wordsOf}
+use Rattle.lines.specs.Pieces.{lead, pieces, lineFeed, linesOf, blank, filled, wordsOf}
 use Rattle.dimacs.specs.Progress.{begun, withSource, withSink, withArc}
 use Rattle.dimacs.specs.Reading.{opening, once, following, next, readLines}
 use Rattle.report.specs.Decimal.{digits, decimal}
 use Rattle.report.specs.Listing.{answerRows, beltRow, outcomeRows, refusalRow, verdictRows, fileRows, listing}
 use Rattle.report.specs.Row.{delimited, row, header}
-use Rattle.dimacs.specs.Text.{bytes}
+use Rattle.lines.specs.Text.{bytes}
 
 -- A file, and what the program writes for it.
 pub record Case : Type 0 where

@@ -7,7 +7,7 @@ use Rattle.method.specs.declared.Answer.{Answer}
 use Rattle.report.specs.Decimal.{decimal}
 use Rattle.report.specs.Listing.{answerRows}
 use Rattle.report.specs.Row.{delimited, row}
-use Rattle.dimacs.specs.Text.{bytes}
+use Rattle.lines.specs.Text.{bytes}
 use Rattle.report.proofs.Digits.{decimal-short}
 
 -- two numbers, a comma, carriage return and line feed

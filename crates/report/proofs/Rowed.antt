@@ -10,7 +10,7 @@ use Rattle.arith.specs.Lists.{upFrom, upTo, flat}
 use Rattle.report.specs.Decimal.{decimal}
 use Rattle.report.specs.Put.{Put}
 use Rattle.report.specs.Shown.{beltOf}
-use Rattle.dimacs.specs.Text.{bytes}
+use Rattle.lines.specs.Text.{bytes}
 use Rattle.report.proofs.Belts.{flat-more}
 use Rattle.report.proofs.Digits.{decimal-short}
 use Rattle.report.proofs.Lengths.{row-length}

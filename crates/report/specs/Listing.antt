@@ -14,7 +14,7 @@ use Rattle.method.specs.declared.Answer.{Answer}
 use Rattle.dimacs.specs.File.{File, holds, refused, parsed}
 use Rattle.report.specs.Decimal.{decimal}
 use Rattle.report.specs.Row.{row, header}
-use Rattle.dimacs.specs.Text.{bytes}
+use Rattle.lines.specs.Text.{bytes}
 
 -- "The total is F × c(b) over Y(b), the bound D over alpha"; "the steps row holds the count of choices and which choice gave the bound".
 unfoldable pub answerRows : Answer → List ℕ

@@ -3,7 +3,7 @@
 use mathlib.Core.List.{List, [], _∷_, _++_}
 use Prim.Native.Nat.{ℕ}
 use Rattle.report.specs.Decimal.{decimal}
-use Rattle.dimacs.specs.Text.{bytes}
+use Rattle.lines.specs.Text.{bytes}
 
 -- A field, each further field after a comma (byte 44), then carriage return and line feed (bytes 13 and 10).
 unfoldable pub delimited : List ℕ → List (List ℕ) → List ℕ

@@ -18,7 +18,7 @@ use Rattle.report.specs.Decimal.{decimal}
 use Rattle.report.specs.Listing.{verdictRows}
 use Rattle.report.specs.Put.{Put}
 use Rattle.report.specs.Row.{row}
-use Rattle.dimacs.specs.Text.{bytes}
+use Rattle.lines.specs.Text.{bytes}
 
 -- The row of arc e, whose load times a is written over y.
 abbrev pub beltOf : List ℕ → List ℕ → List ℕ → ℕ → ℕ → ℕ → List ℕ

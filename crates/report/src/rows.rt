@@ -11,7 +11,7 @@ ghost use Rattle.report.specs.Decimal.{decimal};
 ghost use Rattle.report.specs.Listing.{answerRows, refusalRow};
 ghost use Rattle.report.specs.Put.{Put};
 ghost use Rattle.report.specs.Row.{delimited, row};
-ghost use Rattle.dimacs.specs.Text.{bytes};
+ghost use Rattle.lines.specs.Text.{bytes};
 
 // The last two fields and the end of a row.
 fn put_fraction(out: &mut [u8], at: usize, upper: u64, lower: u64) -> usize

@@ -1,0 +1,5 @@
+pub mod Meaning
+pub mod Number
+pub mod Pieces
+pub mod Scan
+pub mod Text
