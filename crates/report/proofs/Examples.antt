@@ -23,10 +23,11 @@ use Rattle.dimacs.specs.File.{networkRead, complete, closing, parsed}
 use Rattle.lines.specs.Pieces.{lead, pieces, lineFeed, linesOf, blank, filled, wordsOf}
 use Rattle.dimacs.specs.Progress.{begun, withSource, withSink, withArc}
 use Rattle.dimacs.specs.Reading.{opening, once, following, next, readLines}
-use Rattle.report.specs.Decimal.{digits, decimal}
-use Rattle.report.specs.Listing.{answerRows, beltRow, outcomeRows, refusalRow, verdictRows, fileRows, listing}
-use Rattle.report.specs.Row.{delimited, row, header}
 use Rattle.lines.specs.Text.{bytes}
+use Rattle.rows.specs.Decimal.{digits, decimal}
+use Rattle.rows.specs.Row.{delimited, row, header}
+use Rattle.rows.specs.Rows.{answerRows, refusalRow}
+use Rattle.report.specs.Listing.{beltRow, outcomeRows, verdictRows, fileRows, listing}
 
 -- A file, and what the program writes for it.
 pub record Case : Type 0 where

@@ -1,13 +1,7 @@
 pub mod Belts
-pub mod Decimals
-pub mod Digits
 pub mod Examples
 pub mod Judged
-pub mod Lengths
-pub mod Numbers
 pub mod Packing
-pub mod Puts
-pub mod Putting
 pub mod Rowed
 pub mod Showing
 pub mod Written

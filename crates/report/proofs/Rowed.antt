@@ -7,14 +7,14 @@ use native.Mathlib.Numerals.{add-one}
 use native.Mathlib.Omega.{arith}
 use lib.ListN.{length, getD, length-append, take-append-drop}
 use Rattle.arith.specs.Lists.{upFrom, upTo, flat}
-use Rattle.report.specs.Decimal.{decimal}
-use Rattle.report.specs.Put.{Put}
-use Rattle.report.specs.Shown.{beltOf}
 use Rattle.lines.specs.Text.{bytes}
+use Rattle.rows.specs.Decimal.{decimal}
+use Rattle.rows.specs.Put.{Put}
+use Rattle.rows.proofs.Digits.{decimal-short}
+use Rattle.rows.proofs.Lengths.{row-length}
+use Rattle.rows.proofs.Puts.{put-next}
+use Rattle.report.specs.Shown.{beltOf}
 use Rattle.report.proofs.Belts.{flat-more}
-use Rattle.report.proofs.Digits.{decimal-short}
-use Rattle.report.proofs.Lengths.{row-length}
-use Rattle.report.proofs.Puts.{put-next}
 
 -- The first e rows are put, each of at most 90 bytes.
 pub record Rowed (f : ℕ → List ℕ) (e : ℕ) (out : List ℕ) (at : ℕ) (out' : List ℕ) (end : ℕ) : Type 0 where

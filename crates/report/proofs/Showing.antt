@@ -13,11 +13,12 @@ use Rattle.packed.specs.Packed.{netIn}
 use Rattle.packed.specs.declared.Shape.{Shape}
 use Rattle.packed.proofs.Columns.{arcs-is, heads-length}
 use Rattle.solver.specs.Solved.{Solved}
-use Rattle.report.specs.Listing.{answerRows, outcomeRows, verdictRows}
-use Rattle.report.specs.Put.{Put}
+use Rattle.rows.specs.Put.{Put}
+use Rattle.rows.specs.Rows.{answerRows}
+use Rattle.rows.proofs.Puts.{put-next}
+use Rattle.report.specs.Listing.{outcomeRows, verdictRows}
 use Rattle.report.specs.Shown.{beltsOf, Belted, Ready, Shown}
 use Rattle.report.proofs.Belts.{one-load, same-rows}
-use Rattle.report.proofs.Puts.{put-next}
 
 module _ {s : Shape} {xs : List ℕ} {at room : ℕ} (ready : Ready s xs at room) where
   abbrev net : Network

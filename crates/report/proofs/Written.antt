@@ -10,12 +10,13 @@ use Rattle.network.proofs.Decided.{no-refusal}
 use Rattle.method.specs.Answer.{outcome}
 use Rattle.method.specs.Guarantee.{Guarantee}
 use Rattle.dimacs.specs.File.{holds, refused, parsed}
+use Rattle.rows.specs.Put.{Put}
+use Rattle.rows.specs.Row.{header}
+use Rattle.rows.specs.Rows.{refusalRow}
+use Rattle.rows.proofs.Puts.{put-length, put-next, put-after}
 use Rattle.report.specs.Listed.{Listed}
-use Rattle.report.specs.Listing.{refusalRow, verdictHeld, verdictRows, fileRows, listing}
-use Rattle.report.specs.Put.{Put}
-use Rattle.report.specs.Row.{header}
+use Rattle.report.specs.Listing.{verdictHeld, verdictRows, fileRows, listing}
 use Rattle.report.specs.Shown.{Shown}
-use Rattle.report.proofs.Puts.{put-length, put-next, put-after}
 
 module _ (net : Network) {out out' : List ℕ} {at end : ℕ} where
   -- A refused network.

@@ -1,6 +1,3 @@
-pub mod Decimal
 pub mod Listed
 pub mod Listing
-pub mod Put
-pub mod Row
 pub mod Shown

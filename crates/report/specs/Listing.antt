@@ -1,27 +1,18 @@
--- What the program writes for a file. Document 01, "File and listing"; its belt is here an arc, and its choice an iteration.
+-- What the program writes for a file. Document 01, "File and listing"; its belt is here an arc.
 use mathlib.Core.List.{List, [], _++_}
 use Prim.Native.Nat.{ℕ, _*_}
 use Rattle.arith.specs.Lists.{upTo, flat}
 use Rattle.network.specs.Flow.{loadOf}
 use Rattle.network.specs.Network.{Network, arcs, tail, head}
-use Rattle.network.specs.Refusal.{refusalCode}
 use Rattle.network.specs.Verdict.{verdictOn}
-use Rattle.network.specs.declared.Refusal.{Refusal}
 use Rattle.network.specs.declared.Verdict.{Verdict}
 use Rattle.network.specs.declared.Verdict.the-variants.{Accepted, Refused}
 use Rattle.method.specs.Answer.{Outcome, amounts, outcome}
-use Rattle.method.specs.declared.Answer.{Answer}
 use Rattle.dimacs.specs.File.{File, holds, refused, parsed}
-use Rattle.report.specs.Decimal.{decimal}
-use Rattle.report.specs.Row.{row, header}
 use Rattle.lines.specs.Text.{bytes}
-
--- "The total is F × c(b) over Y(b), the bound D over alpha"; "the steps row holds the count of choices and which choice gave the bound".
-unfoldable pub answerRows : Answer → List ℕ
-answerRows a =
-    row (bytes "total") [] [] (a .total * a .capacity) (a .load) ++
-    (row (bytes "bound") [] [] (a .bound) (a .alpha) ++
-    row (bytes "steps") [] [] (a .count) (a .best))
+use Rattle.rows.specs.Decimal.{decimal}
+use Rattle.rows.specs.Row.{row, header}
+use Rattle.rows.specs.Rows.{answerRows, refusalRow}
 
 -- "a belt Y × c(b) over Y(b)", with its tail and head: arc e, whose load Y is that of the flow table over all commodities.
 unfoldable pub beltRow : Network → Outcome → ℕ → List ℕ
@@ -32,10 +23,6 @@ beltRow net o e =
 -- "Header, total, bound and steps come first, then the belts in order."
 unfoldable pub outcomeRows : Network → Outcome → List ℕ
 outcomeRows net o = answerRows (o .answer) ++ flat (beltRow net o) (upTo (arcs net))
-
--- "A refusal is the header and refused,,,number,place."
-unfoldable pub refusalRow : Refusal → List ℕ
-refusalRow r = row (bytes "refused") [] [] (refusalCode r .number) (refusalCode r .place)
 
 -- The verdict on a network that a file holds: the program "takes q = 4", has room enough, and counts nothing between files.
 abbrev pub verdictHeld : Network → Verdict

@@ -14,11 +14,11 @@ use Rattle.packed.specs.Packed.{netIn, Packed, Lent, netNumbers, tableNumbers}
 use Rattle.packed.specs.declared.Shape.{Shape}
 use Rattle.dimacs.specs.OneCommodity.{OneCommodity}
 use Rattle.dimacs.specs.declared.Parsed.{Parsed}
-use Rattle.report.specs.Decimal.{decimal}
-use Rattle.report.specs.Listing.{verdictRows}
-use Rattle.report.specs.Put.{Put}
-use Rattle.report.specs.Row.{row}
 use Rattle.lines.specs.Text.{bytes}
+use Rattle.rows.specs.Decimal.{decimal}
+use Rattle.rows.specs.Put.{Put}
+use Rattle.rows.specs.Row.{row}
+use Rattle.report.specs.Listing.{verdictRows}
 
 -- The row of arc e, whose load times a is written over y.
 abbrev pub beltOf : List ℕ → List ℕ → List ℕ → ℕ → ℕ → ℕ → List ℕ

@@ -1,6 +1,4 @@
 // A file read, packed, judged and listed.
-use crate::put::put;
-use crate::rows::put_refusal;
 use crate::solved::show;
 use checks::items::check_items;
 use dimacs::Parsed;
@@ -12,6 +10,8 @@ use packed::SINKS;
 use packed::SOURCES;
 use packed::Shape;
 use packed::TAILS;
+use rows::put::put;
+use rows::put_refusal;
 use tables::loads::copy;
 ghost use mathlib.Core.Path.{_≡_};
 ghost use lib.ListN.{length};

@@ -1,8 +1,6 @@
 // The listing of a file: from the bytes of a file in the DIMACS layout to the bytes of the rows that the program writes.
 // Document 01, "File and listing".
 mod file;
-mod put;
-mod rows;
 mod solved;
 
 pub use file::listing;

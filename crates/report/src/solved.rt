@@ -1,16 +1,16 @@
 // The rows of an accepted network: it is solved, and its outcome written.
-use crate::rows::put_answer;
-use crate::rows::put_belt;
 use bounds::LEAST_PRECISION;
 use bounds::MOST_ARCS;
 use packed::HEADS;
 use packed::Shape;
 use packed::TABLE_NUMBERS;
 use packed::TAILS;
+use rows::put_answer;
+use rows::put_belt;
 ghost use lib.ListN.{length};
 ghost use Rattle.network.specs.declared.Verdict.the-variants.{Accepted};
 ghost use Rattle.packed.specs.Packed.{netIn};
-ghost use Rattle.report.specs.Put.{Put};
+ghost use Rattle.rows.specs.Put.{Put};
 ghost use Rattle.report.specs.Shown.{beltsOf, Belted, Ready, Showing, Shown};
 
 // The rows of the arcs in order: each load times a, over y.

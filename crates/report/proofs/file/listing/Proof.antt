@@ -9,7 +9,7 @@ use Rattle.dimacs.proofs.Handed.{accepted-holds, refused-why}
 use Rattle.dimacs.proofs.Holds.{network-sizes}
 use Rattle.dimacs.proofs.Whole.{whole}
 use Rattle.dimacs.specs.File.{holds, parsed}
-use Rattle.report.specs.Row.{delimited, header}
+use Rattle.rows.specs.Row.{delimited, header}
 use Rattle.report.specs.Shown.{networkOfFile}
 use Rattle.report.proofs.Written.{listed-refused, listed-held}
 use borrow.Author.Needs.{needs}

@@ -4,8 +4,8 @@ use Prim.Native.Nat.{_-_, _≤_}
 use native.Mathlib.Omega.{arith}
 use denote.Ref.{now}
 use lib.ListN.{length}
+use Rattle.rows.proofs.Puts.{put-length}
 use Rattle.report.specs.Shown.{beltOf}
-use Rattle.report.proofs.Puts.{put-length}
 use Rattle.report.proofs.Rowed.{Rowed, none-rowed, one-rowed, all-rowed, belt-length}
 use Rattle.report.proofs.solved.put_belts.Statement.{statement}
 use Rattle.report.proofs.solved.put_belts.Tie as tie

@@ -2,8 +2,8 @@
 use mathlib.Core.Path.{_∙_}
 use native.Mathlib.Omega.{arith}
 use Rattle.packed.specs.Packed.{netIn}
-use Rattle.report.proofs.Lengths.{answer-length}
-use Rattle.report.proofs.Puts.{put-within}
+use Rattle.rows.proofs.Lengths.{answer-length}
+use Rattle.rows.proofs.Puts.{put-within}
 use Rattle.report.proofs.Showing.{one-row, total-small, belted, shown}
 use borrow.Author.Needs.{needs}
 use Rattle.report.proofs.solved.show_in.Statement.{statement}

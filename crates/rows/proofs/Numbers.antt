@@ -4,10 +4,10 @@ use mathlib.Core.List.{List, [], _∷_}
 use Prim.Native.Nat.{ℕ, _+_, _/_, _%_, _^_, _≤_, _<_}
 use native.Mathlib.Omega.{arith}
 use lib.ListN.{length, set, length-append}
-use Rattle.report.specs.Decimal.{decimal}
-use Rattle.report.specs.Put.{Put}
-use Rattle.report.proofs.Decimals.{decimal-one, decimal-more}
-use Rattle.report.proofs.Puts.{put-length, put-one, put-next}
+use Rattle.rows.specs.Decimal.{decimal}
+use Rattle.rows.specs.Put.{Put}
+use Rattle.rows.proofs.Decimals.{decimal-one, decimal-more}
+use Rattle.rows.proofs.Puts.{put-length, put-one, put-next}
 
 -- The last digit takes one byte.
 pub one-digit : (x : ℕ) → x < 10 → length (decimal x) ≡ 1

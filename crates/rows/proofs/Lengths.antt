@@ -4,11 +4,11 @@ use Prim.Native.Nat.{ℕ, _+_, _*_, _≤_}
 use native.Mathlib.Omega.{arith}
 use lib.ListN.{length, length-append}
 use Rattle.method.specs.declared.Answer.{Answer}
-use Rattle.report.specs.Decimal.{decimal}
-use Rattle.report.specs.Listing.{answerRows}
-use Rattle.report.specs.Row.{delimited, row}
 use Rattle.lines.specs.Text.{bytes}
-use Rattle.report.proofs.Digits.{decimal-short}
+use Rattle.rows.specs.Decimal.{decimal}
+use Rattle.rows.specs.Rows.{answerRows}
+use Rattle.rows.specs.Row.{delimited, row}
+use Rattle.rows.proofs.Digits.{decimal-short}
 
 -- two numbers, a comma, carriage return and line feed
 pub fraction-length : (upper lower : ℕ) → length (delimited (decimal upper) (decimal lower ∷ [])) ≤ 43

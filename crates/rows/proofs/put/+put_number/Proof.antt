@@ -3,16 +3,16 @@
 use mathlib.Core.Path.{_∙_}
 use native.Mathlib.Omega.{arith}
 use lib.ListN.{length, length-set}
-use Rattle.report.proofs.Numbers.{one-digit, last-digit, one-put, last-put}
+use Rattle.rows.proofs.Numbers.{one-digit, last-digit, one-put, last-put}
 use Prim.Native.Nat.{ℕ, _<_}
 use borrow.Fn.Kinds.{In}
 use borrow.Fn.PlainCycle.{Measures, is, falls, and}
-use Rattle.report.proofs.put.put_number.Reads as put-number
-use Rattle.report.proofs.put.put_number.Kinds as put-number-kinds
-use Rattle.report.proofs.put.+put_number.Lts-put_number as put-number-lts
-use Rattle.report.proofs.put.digit.Reads as digit-reads
-use Rattle.report.proofs.put.+put_number.{statement}
-use Rattle.report.proofs.put.+put_number.Tie.{close}
+use Rattle.rows.proofs.put.put_number.Reads as put-number
+use Rattle.rows.proofs.put.put_number.Kinds as put-number-kinds
+use Rattle.rows.proofs.put.+put_number.Lts-put_number as put-number-lts
+use Rattle.rows.proofs.put.digit.Reads as digit-reads
+use Rattle.rows.proofs.put.+put_number.{statement}
+use Rattle.rows.proofs.put.+put_number.Tie.{close}
 
 abbrev μ-put-number : Measures 1 put-number-kinds.ps ℕ
 μ-put-number κs a = a .1 .1 .0

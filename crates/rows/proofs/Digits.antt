@@ -11,7 +11,7 @@ use lib.Dec.{ltb}
 use lib.ListN.{length, getD, length-append}
 use Rattle.lines.specs.Number.{digit, every, fromDigits}
 use Rattle.lines.proofs.Digits.{digit-in}
-use Rattle.report.specs.Decimal.{digits, decimal}
+use Rattle.rows.specs.Decimal.{digits, decimal}
 
 -- What holds of no digits, of one digit, and of digits with one more behind them, holds of the digits of every number.
 module _ (P : ℕ → ℕ → List ℕ → Type 0) (none : (n : ℕ) → P 0 n []) (one : (k n : ℕ) → n < 10 → P (suc k) n ((48 + n) ∷ []))

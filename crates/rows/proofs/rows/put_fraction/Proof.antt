@@ -1,11 +1,11 @@
--- `report::rows::put_fraction` meets its contract. Assumes nothing.
+-- `rows::rows::put_fraction` meets its contract. Assumes nothing.
 use native.Mathlib.Omega.{arith}
-use Rattle.report.specs.Row.{delimited}
-use Rattle.report.proofs.Digits.{decimal-short}
-use Rattle.report.proofs.Puts.{put-next}
+use Rattle.rows.specs.Row.{delimited}
+use Rattle.rows.proofs.Digits.{decimal-short}
+use Rattle.rows.proofs.Puts.{put-next}
 use borrow.Author.Needs.{needs}
-use Rattle.report.proofs.rows.put_fraction.Statement.{statement}
-use Rattle.report.proofs.rows.put_fraction.Tie as tie
+use Rattle.rows.proofs.rows.put_fraction.Statement.{statement}
+use Rattle.rows.proofs.rows.put_fraction.Tie as tie
 
 put-number-requires : tie.Need-put-number-requires
 put-number-requires c κs = omega (arith, decimal-short (c .before .before .args .upper))

@@ -1,14 +1,14 @@
--- `report::rows::put_belt` meets its contract. Assumes nothing.
+-- `rows::rows::put_belt` meets its contract. Assumes nothing.
 use Prim.Native.Nat.{_+_, _≤_}
 use native.Mathlib.Omega.{arith}
 use lib.ListN.{length}
-use Rattle.report.specs.Decimal.{decimal}
-use Rattle.report.specs.Row.{delimited, row}
-use Rattle.report.proofs.Digits.{decimal-short}
-use Rattle.report.proofs.Puts.{put-next}
+use Rattle.rows.specs.Decimal.{decimal}
+use Rattle.rows.specs.Row.{delimited, row}
+use Rattle.rows.proofs.Digits.{decimal-short}
+use Rattle.rows.proofs.Puts.{put-next}
 use borrow.Author.Needs.{needs}
-use Rattle.report.proofs.rows.put_belt.Statement.{statement}
-use Rattle.report.proofs.rows.put_belt.Tie as tie
+use Rattle.rows.proofs.rows.put_belt.Statement.{statement}
+use Rattle.rows.proofs.rows.put_belt.Tie as tie
 
 -- from each call back to the one before it, and from the first to the function's entry
 abbrev entry : tie.After-put → tie.Start

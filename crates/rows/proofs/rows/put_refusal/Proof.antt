@@ -1,8 +1,8 @@
--- `report::rows::put_refusal` meets its contract. Assumes nothing.
-use Rattle.report.specs.Listing.{refusalRow}
+-- `rows::rows::put_refusal` meets its contract. Assumes nothing.
+use Rattle.rows.specs.Rows.{refusalRow}
 use borrow.Author.Needs.{needs}
-use Rattle.report.proofs.rows.put_refusal.Statement.{statement}
-use Rattle.report.proofs.rows.put_refusal.Tie as tie
+use Rattle.rows.proofs.rows.put_refusal.Statement.{statement}
+use Rattle.rows.proofs.rows.put_refusal.Tie as tie
 
 returns : tie.Need-returns
 unfolding refusalRow

@@ -1,11 +1,11 @@
--- `report::rows::put_answer` meets its contract: each of its three rows has at most 53 bytes. Assumes nothing.
+-- `rows::rows::put_answer` meets its contract: each of its three rows has at most 53 bytes. Assumes nothing.
 use native.Mathlib.Omega.{arith}
-use Rattle.report.specs.Listing.{answerRows}
-use Rattle.report.proofs.Lengths.{row-length}
-use Rattle.report.proofs.Puts.{put-next, put-within}
+use Rattle.rows.specs.Rows.{answerRows}
+use Rattle.rows.proofs.Lengths.{row-length}
+use Rattle.rows.proofs.Puts.{put-next, put-within}
 use borrow.Author.Needs.{needs}
-use Rattle.report.proofs.rows.put_answer.Statement.{statement}
-use Rattle.report.proofs.rows.put_answer.Tie as tie
+use Rattle.rows.proofs.rows.put_answer.Statement.{statement}
+use Rattle.rows.proofs.rows.put_answer.Tie as tie
 
 put-row-requires-2 : tie.Need-put-row-requires-2
 put-row-requires-2 c κs = omega (arith, put-within (c .before .before .before .before .put-row .ensures) (row-length _ _ _ _ _))

@@ -1,9 +1,9 @@
--- `report::rows::put_row` meets its contract. Assumes nothing.
-use Rattle.report.specs.Row.{delimited, row}
-use Rattle.report.proofs.Puts.{put-next}
+-- `rows::rows::put_row` meets its contract. Assumes nothing.
+use Rattle.rows.specs.Row.{delimited, row}
+use Rattle.rows.proofs.Puts.{put-next}
 use borrow.Author.Needs.{needs}
-use Rattle.report.proofs.rows.put_row.Statement.{statement}
-use Rattle.report.proofs.rows.put_row.Tie as tie
+use Rattle.rows.proofs.rows.put_row.Statement.{statement}
+use Rattle.rows.proofs.rows.put_row.Tie as tie
 
 returns : tie.Need-returns
 unfolding row delimited

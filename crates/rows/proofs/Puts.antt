@@ -12,7 +12,7 @@ use Rattle.method.specs.Answer.{overlaid}
 use Rattle.numbers.specs.Parts.{splice}
 use Rattle.numbers.proofs.Over.{length-over}
 use Rattle.numbers.proofs.Splices.{splice-is-over, splice-after}
-use Rattle.report.specs.Put.{Put}
+use Rattle.rows.specs.Put.{Put}
 
 splices : (s : List ℕ) (p : ℕ) (xs ys : List ℕ) → p ≤ length s → splice (splice s p xs) (p + length xs) ys ≡ splice s p (xs ++ ys)
 splices s p xs ys h =

@@ -2,8 +2,8 @@
 ghost use mathlib.Core.Path.{_≡_};
 ghost use Prim.Native.Nat.{_+_, _≤_, _<_};
 ghost use lib.ListN.{length};
-ghost use Rattle.report.specs.Decimal.{decimal};
-ghost use Rattle.report.specs.Put.{Put};
+ghost use Rattle.rows.specs.Decimal.{decimal};
+ghost use Rattle.rows.specs.Put.{Put};
 
 // The bytes xs, from place at on.
 pub fn put(out: &mut [u8], at: usize, xs: &[u8]) -> usize

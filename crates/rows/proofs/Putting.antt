@@ -7,8 +7,8 @@ use native.Mathlib.Numerals.{add-one}
 use native.Mathlib.Omega.{arith}
 use lib.ListN.{length, take, getD, set, take-append-drop}
 use lib.Seq.{take-all, take-suc}
-use Rattle.report.specs.Put.{Put}
-use Rattle.report.proofs.Puts.{put-length, put-one, put-next}
+use Rattle.rows.specs.Put.{Put}
+use Rattle.rows.proofs.Puts.{put-length, put-one, put-next}
 
 -- The first i bytes of xs are put, and there is room for all.
 pub record Putting (xs : List ℕ) (i : ℕ) (out : List ℕ) (at : ℕ) (out' : List ℕ) : Type 0 where

@@ -1,12 +1,12 @@
--- `report::put::put` meets its contract. The loop's invariant: the first i bytes are put. The measure is what is left of them.
+-- `rows::put::put` meets its contract. The loop's invariant: the first i bytes are put. The measure is what is left of them.
 -- Assumes nothing.
 use Prim.Native.Nat.{_-_}
 use native.Mathlib.Omega.{arith}
 use lib.ListN.{length}
-use Rattle.report.proofs.Puts.{put-length}
-use Rattle.report.proofs.Putting.{Putting, none-put, one-put, all-put}
-use Rattle.report.proofs.put.put.Statement.{statement}
-use Rattle.report.proofs.put.put.Tie as tie
+use Rattle.rows.proofs.Puts.{put-length}
+use Rattle.rows.proofs.Putting.{Putting, none-put, one-put, all-put}
+use Rattle.rows.proofs.put.put.Statement.{statement}
+use Rattle.rows.proofs.put.put.Tie as tie
 
 abbrev Inv-loop : tie.InvT-loop
 Inv-loop out₀ at xs i₀ out i = Putting xs i out₀ at out

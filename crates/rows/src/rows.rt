@@ -7,10 +7,10 @@ use network::Refusal;
 ghost use mathlib.Core.List.{[], _∷_};
 ghost use Prim.Native.Nat.{_+_, _*_, _^_, _≤_, _<_};
 ghost use lib.ListN.{length};
-ghost use Rattle.report.specs.Decimal.{decimal};
-ghost use Rattle.report.specs.Listing.{answerRows, refusalRow};
-ghost use Rattle.report.specs.Put.{Put};
-ghost use Rattle.report.specs.Row.{delimited, row};
+ghost use Rattle.rows.specs.Decimal.{decimal};
+ghost use Rattle.rows.specs.Rows.{answerRows, refusalRow};
+ghost use Rattle.rows.specs.Put.{Put};
+ghost use Rattle.rows.specs.Row.{delimited, row};
 ghost use Rattle.lines.specs.Text.{bytes};
 
 // The last two fields and the end of a row.
