@@ -7,21 +7,23 @@ use Rattle.packed.specs.Packed.{part}
 use Rattle.packed.specs.declared.Shape.{Shape}
 use Rattle.choice.specs.Below.{Below}
 
--- Where the distances begin, behind the bounds, how many they are and how many numbers they all take, as src/lib.rt names them.
+-- The bounds come first,
+abbrev pub boundsIn : Shape → List ℕ → List ℕ
+boundsIn s memory = part 0 (s .commodities) memory
+
+-- then, from the place that src/lib.rt names, the distances, from node 0 on.
 abbrev pub distancesFrom : ℕ
 distancesFrom = 32
 
 abbrev pub distanceNumbers : ℕ
 distanceNumbers = 65
 
-abbrev pub memoryNumbers : ℕ
-memoryNumbers = 97
-
-abbrev pub boundsIn : Shape → List ℕ → List ℕ
-boundsIn s memory = part 0 (s .commodities) memory
-
 abbrev pub distancesIn : List ℕ → List ℕ
 distancesIn memory = part distancesFrom distanceNumbers memory
+
+-- They take so many numbers.
+abbrev pub memoryNumbers : ℕ
+memoryNumbers = 97
 
 -- There is a place for each, and the bounds are below the distances by the lengths l.
 pub record Memory (s : Shape) (net : Network) (l memory : List ℕ) : Type 0 where

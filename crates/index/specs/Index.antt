@@ -9,12 +9,23 @@ use Rattle.bounds.specs.Bounds.{mostNodes}
 use Rattle.network.specs.Network.{Network}
 use Rattle.network.specs.Path.{leads}
 
--- Where the arcs of the places stand, and where their other ends do.
+-- Where the arcs of node v begin; they go on until those of the next node begin.
+abbrev pub begins : List ℕ → ℕ → ℕ
+begins ix v = getD ix v 0
+
+-- Behind these stand the arcs of the places: the arc at place p.
 abbrev pub arcsFrom : ℕ
 arcsFrom = 66
 
+abbrev pub arcAt : List ℕ → ℕ → ℕ
+arcAt ix p = getD ix (arcsFrom + p) 0
+
+-- Behind them, their other ends.
 abbrev pub endsFrom : ℕ
 endsFrom = 578
+
+abbrev pub endAt : List ℕ → ℕ → ℕ
+endAt ix p = getD ix (endsFrom + p) 0
 
 -- How many places for arcs an index has, twice the most arcs, and how many numbers it takes in all.
 abbrev pub mostPlaces : ℕ
@@ -22,17 +33,6 @@ mostPlaces = 512
 
 abbrev pub indexNumbers : ℕ
 indexNumbers = 1090
-
--- Where the arcs of node v begin; they go on until those of the next node begin.
-abbrev pub begins : List ℕ → ℕ → ℕ
-begins ix v = getD ix v 0
-
--- The arc at place p, and its other end.
-abbrev pub arcAt : List ℕ → ℕ → ℕ
-arcAt ix p = getD ix (arcsFrom + p) 0
-
-abbrev pub endAt : List ℕ → ℕ → ℕ
-endAt ix p = getD ix (endsFrom + p) 0
 
 -- Place p is one of v's, and has arc e with the other end w.
 pub record Place (ix : List ℕ) (v p e w : ℕ) : Type 0 where

@@ -58,24 +58,27 @@ pub record Lent (s : Shape) (q : ℕ) (xs : List ℕ) : Type 0 where
   pub sound : Sound (netIn s xs) q
   pub packed : Packed s xs
 
--- The tables of the arcs stand in one slice in the same way: where they begin, and how many numbers they take.
+-- The tables of the arcs stand in one slice in the same way: their lengths,
 abbrev pub lengthsFrom : ℕ
 lengthsFrom = 0
-
-abbrev pub loadsFrom : ℕ
-loadsFrom = 256
-
-abbrev pub keptFrom : ℕ
-keptFrom = 512
-
-abbrev pub tableNumbers : ℕ
-tableNumbers = 768
 
 abbrev pub lengthsIn : Shape → List ℕ → List ℕ
 lengthsIn s xs = part lengthsFrom (s .arcs) xs
 
+-- their loads,
+abbrev pub loadsFrom : ℕ
+loadsFrom = 256
+
 abbrev pub loadsIn : Shape → List ℕ → List ℕ
 loadsIn s xs = part loadsFrom (s .arcs) xs
 
+-- and the lengths that are kept;
+abbrev pub keptFrom : ℕ
+keptFrom = 512
+
 abbrev pub keptIn : Shape → List ℕ → List ℕ
 keptIn s xs = part keptFrom (s .arcs) xs
+
+-- and so many numbers they take.
+abbrev pub tableNumbers : ℕ
+tableNumbers = 768

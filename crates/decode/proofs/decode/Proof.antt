@@ -22,10 +22,8 @@ sources-at c = c .before .before .before .before
 
 same-length : tie.Need-same-length
 same-length c =
-    let sinks = c .before .before in
-    let sources = sources-at sinks in
-    let capacities = capacities-at sources in
-    let heads = heads-at capacities in
+    let sinks = c .before .before in let sources = sources-at sinks in
+    let capacities = capacities-at sources in let heads = heads-at capacities in
     let tails = tails-at heads in
     decoded-size (entry tails .pre) (fills _ _ _ _ _ _ _ (tails .read-column .kept .1 .1 .1 .1 .0) (tails .read-column .ensures))
     (fills _ _ _ _ _ _ _ (heads .read-column2 .kept .1 .1 .1 .1 .0) (heads .read-column2 .ensures))
@@ -35,10 +33,8 @@ same-length c =
 
 returns : tie.Need-returns
 returns c =
-    let sinks = c .before .before in
-    let sources = sources-at sinks in
-    let capacities = capacities-at sources in
-    let heads = heads-at capacities in
+    let sinks = c .before .before in let sources = sources-at sinks in
+    let capacities = capacities-at sources in let heads = heads-at capacities in
     let tails = tails-at heads in
     decoded (entry tails .pre) (fills _ _ _ _ _ _ _ (tails .read-column .kept .1 .1 .1 .1 .0) (tails .read-column .ensures))
     (fills _ _ _ _ _ _ _ (heads .read-column2 .kept .1 .1 .1 .1 .0) (heads .read-column2 .ensures))

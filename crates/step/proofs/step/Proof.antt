@@ -83,40 +83,32 @@ mul-add c =
 add-requires : tie.Need-add-requires
 unfolding netIn
 add-requires c κs =
-    let f = draw-at (c .before .before .before) in
-    let s = entry f in
+    let f = draw-at (c .before .before .before) in let s = entry f in
     adding (s .pre .stepping) (s .pre .kept) (f .draw .ensures) (sym (arcs-is (s .pre .packed)))
 
 load-requires : tie.Need-load-requires
 unfolding netIn
 load-requires c κs =
-    let k = keep-at (c .before .before .before) in
-    let s = entry (draw-at k) in
+    let k = keep-at (c .before .before .before) in let s = entry (draw-at k) in
     loading (s .pre .stepping) (s .pre .kept) (draw-at k .draw .ensures) (kept k .loads)
 
 lengthen-requires : tie.Need-lengthen-requires
 unfolding netIn
 lengthen-requires c κs =
-    let f = c .before .before .before in
-    let s = start-of f in
+    let f = c .before .before .before in let s = start-of f in
     lengthening (s .pre .stepping) (s .pre .kept) (drawn f) (capacities-length (s .pre .packed)) (loaded f .lengths)
 
 count-requires : tie.Need-count-requires
 unfolding netIn
 count-requires c κs =
-    let f = load-at (c .before .before) in
-    let p = start-of f .pre .stepping in
+    let f = load-at (c .before .before) in let p = start-of f .pre .stepping in
     omega (arith, p .total, p .count, drawn f, p .loads .small)
 
 returns : tie.Need-returns
 unfolding netIn
 returns c =
-    let long = lengthen-at c in
-    let load = load-at long in
-    let add = add-at load in
-    let keep = keep-at add in
-    let s = start-of load in
-    let z = s .args in
+    let long = lengthen-at c in let load = load-at long in let add = add-at load in
+    let keep = keep-at add in let s = start-of load in let z = s .args in
     in-slice (lengthened long)
     (λ L′ Y′ K′. Stepped (netIn (z .s) (now (z .net))) (z .q) (z .threshold) (z .commodity) (now (z .path)) (stateIn (z .s) (now (z .flow)) (now (z .tables)) (z .p)) (stateOf L′ (add .add .last .0) Y′ K′ (c .count .result)) (c .count .result))
     (put-together (netIn (z .s) (now (z .net))) (z .q) (z .threshold) (z .commodity) (now (z .path)) (L s) (now (z .flow)) (Y s) (part keptFrom (m s) (now (z .tables))) (z .p)

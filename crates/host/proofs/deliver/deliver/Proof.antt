@@ -43,11 +43,8 @@ raise-count-requires c κs =
 
 returns : tie.Need-returns
 returns c =
-    let k = c .before .before in
-    let a = answer-at k in
-    let t = tables-at a in
-    let s = entry t in
-    let r = t .write-tables .ensures in
+    let k = c .before .before in let a = answer-at k in let t = tables-at a in
+    let s = entry t in let r = t .write-tables .ensures in
     record {
       flow = r .flows;
       lengths = r .bests;

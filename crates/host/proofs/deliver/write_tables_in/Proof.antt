@@ -41,11 +41,8 @@ write-all-requires c κs =
 
 returns : tie.Need-returns
 returns c =
-    let l = c .before .before in
-    let f = flow-at l in
-    let v = solve-at f in
-    let s = entry v in
-    let r = v .solve .ensures in
+    let l = c .before .before in let f = flow-at l in let v = solve-at f in
+    let s = entry v in let r = v .solve .ensures in
     record {
       answers = r .answers;
       flows = f .write-all .ensures ∙ ap (written (now (s .args .flow))) (take-length (v .solve .last .1 .1 .1 .0) ∙ r .flows);

@@ -54,8 +54,7 @@ tailed-long c =
 
 headed-long : (c : tie.After-copy2) → netNumbers ≤ length (headed c)
 headed-long c =
-    let t = tails-at c in
-    let s = entry t in
+    let t = tails-at c in let s = entry t in
     let e = put-length headsFrom (m s) (tailed t) (c .copy2 .last .1 .0) (omega (arith, s .pre .few, tailed-long t)) (ap length (c .copy2 .ensures) ∙ heads-many s) in
     omega (arith, e, tailed-long t)
 
@@ -72,8 +71,7 @@ slice-aggregate-copy-2 c = sym (heads-many (entry (c .before .before .before .be
 
 copy-requires-2 : tie.Need-copy-requires-2
 copy-requires-2 c κs =
-    let t = c .before .before .before .before .before in
-    let s = entry t in
+    let t = c .before .before .before .before .before in let s = entry t in
     part-length headsFrom (m s) (tailed t) (omega (arith, s .pre .few, tailed-long t)) ∙ sym (heads-many s)
 
 slice-aggregate-copy-3 : tie.Need-slice-aggregate-copy-3
@@ -81,33 +79,26 @@ slice-aggregate-copy-3 c = sym (capacities-many (entry (tails-at (c .before .bef
 
 copy-requires-3 : tie.Need-copy-requires-3
 copy-requires-3 c κs =
-    let h = c .before .before .before .before .before in
-    let s = entry (tails-at h) in
+    let h = c .before .before .before .before .before in let s = entry (tails-at h) in
     part-length capacitiesFrom (m s) (headed h) (omega (arith, s .pre .few, headed-long h)) ∙ sym (capacities-many s)
 
 slice-write-net-2 : tie.Need-slice-write-net-2
 slice-write-net-2 c =
-    let f = c .before .before in
-    let h = heads-at f in
-    let t = tails-at h in
+    let f = c .before .before in let h = heads-at f in let t = tails-at h in
     let s = entry t in
     sink-place (shapeOf (s .args .file)) (s .pre .few) (now (s .args .net)) (s .pre .places) (t .copy .ensures) (h .copy2 .ensures)
     (f .copy3 .ensures) (s .args .file .source) (s .args .file .sink) (tails-many s) (heads-many s) (capacities-many s)
 
 same-length : tie.Need-same-length
 same-length c =
-    let f = c .before .before in
-    let h = heads-at f in
-    let t = tails-at h in
+    let f = c .before .before in let h = heads-at f in let t = tails-at h in
     let s = entry t in
     packed-length (shapeOf (s .args .file)) (s .pre .few) (now (s .args .net)) (s .pre .places) (t .copy .ensures) (h .copy2 .ensures)
     (f .copy3 .ensures) _ _ (tails-many s) (heads-many s) (capacities-many s)
 
 returns : tie.Need-returns
 returns c =
-    let f = c .before .before in
-    let h = heads-at f in
-    let t = tails-at h in
+    let f = c .before .before in let h = heads-at f in let t = tails-at h in
     let s = entry t in
     packed (shapeOf (s .args .file)) (s .pre .few) (now (s .args .net)) (s .pre .places) (t .copy .ensures) (h .copy2 .ensures) (f .copy3 .ensures)
     (s .args .file .source) (s .args .file .sink) (tails-many s) (heads-many s) (capacities-many s) refl

@@ -68,8 +68,7 @@ slice-aggregate-step c =
 
 step-requires : tie.Need-step-requires
 step-requires c κs =
-    let f = c .before .before .before .before .before .before .before in
-    let s = entry f in
+    let f = c .before .before .before .before .before .before .before in let s = entry f in
     record {
       packed = s .pre .0 .lent .packed;
       places = s .pre .0 .tables;
@@ -91,12 +90,8 @@ forget-requires c κs =
 
 returns : tie.Need-returns
 returns c =
-    let g = c .before .before in
-    let t = step-at g in
-    let f = choose-at t in
-    let s = entry f in
-    let z = s .args in
-    let i = f .choose .result .commodity in
+    let g = c .before .before in let t = step-at g in let f = choose-at t in
+    let s = entry f in let z = s .args in let i = f .choose .result .commodity in
     let packed = s .pre .0 .lent .packed in
     record {
       iterated =

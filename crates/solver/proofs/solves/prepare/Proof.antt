@@ -40,8 +40,7 @@ m s = s .args .s .arcs
 start-requires : tie.Need-start-requires
 unfolding netIn
 start-requires c κs =
-    let s = c .before .before .before .before .before .before in
-    let a = s .pre .lent in
+    let s = c .before .before .before .before .before .before in let a = s .pre .lent in
     let full : length (part capacitiesFrom (m s) (now (s .args .net))) ≡ m s = capacities-length (a .packed) ∙ arcs-is (a .packed) in (
       part-length lengthsFrom (m s) (now (s .args .tables)) (omega (arith, a .packed .few-arcs, s .pre .tabled)) ∙ sym full,
       record {
@@ -69,15 +68,9 @@ cleared c = with-kept (unloaded (loads-at c)) (c .clear2 .last .0) (c .clear2 .k
 returns : tie.Need-returns
 unfolding netIn
 returns c =
-    let last = c .before .before in
-    let flow = flow-at last in
-    let kept = kept-at flow in
-    let loads = loads-at kept in
-    let start = start-at loads in
-    let s = entry start in
-    let z = s .args in
-    let p = s .pre in
-    let net = netIn (z .s) (now (z .net)) in
+    let last = c .before .before in let flow = flow-at last in let kept = kept-at flow in
+    let loads = loads-at kept in let start = start-at loads in let s = entry start in
+    let z = s .args in let p = s .pre in let net = netIn (z .s) (now (z .net)) in
     record {
       state =
           in-slice (cleared kept) (λ L Y K. stateOf L (flow .clear3 .last .0) Y K begun ≡ initial net)
