@@ -8,8 +8,8 @@ use native.Mathlib.Omega.{arith}
 use lib.Dec.{eqb}
 use lib.ListN.{length, getD}
 use Rattle.arith.specs.Times.{times}
-use Rattle.tables.proofs.Instances.{alone, capacities}
-use Rattle.lengths.specs.Calls.{Growing, Weighing, Settling}
+use Rattle.tables.proofs.Instances.{alone, some-capacity}
+use Rattle.lengths.specs.Calls.{Capacities, Growing, Weighing, Settling}
 
 at-most-one : (b : Bool) → cond b 1 0 + 0 ≤ 1
 at-most-one true = omega arith
@@ -18,6 +18,9 @@ at-most-one false = omega arith
 one-arc : (e : ℕ) → times e (0 ∷ []) ≤ 1
 unfolding times
 one-arc e = at-most-one (eqb 0 e)
+
+capacities : Capacities (5 ∷ [])
+capacities = record { least = λ e l. omega (arith, alone (λ x. 1 ≤ x) 5 (omega arith) e l); most = some-capacity }
 
 length-seven : (e : ℕ) → e < length {A = ℕ} (7 ∷ []) → getD {A = ℕ} (7 ∷ []) e 0 ≤ 7
 length-seven = alone (λ x. x ≤ 7) 7 (omega arith)

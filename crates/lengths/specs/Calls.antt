@@ -6,7 +6,12 @@ use Prim.Native.Nat.{ℕ, _^_, _≤_, _<_}
 use lib.ListN.{length, getD}
 use Rattle.arith.specs.Times.{times}
 use Rattle.bounds.specs.Bounds.{mostNodes, mostArcs, mostCapacity, leastPrecision, mostPrecision}
-use Rattle.tables.specs.Tables.{Under, NoneAbove, Capacities, weightOf, longer}
+use Rattle.tables.specs.Tables.{Under, NoneAbove, weightOf, longer}
+
+-- "capacity 1 to 1,000" (document 01, "The floor and its flow")
+pub record Capacities (capacities : List ℕ) : Type 0 where
+  pub least : (e : ℕ) → e < length capacities → 1 ≤ getD capacities e 0
+  pub most : NoneAbove mostCapacity capacities
 
 -- Growth along a path at precision q by the draw g, no more than the capacities on it. The path has no arc twice, so that each length is below
 -- the mark, document 01's 2^40, when it grows.

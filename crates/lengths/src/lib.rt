@@ -6,8 +6,8 @@ ghost use Prim.Native.Nat.{_^_, _<_};
 ghost use lib.ListN.{length, getD};
 ghost use Rattle.arith.specs.Lists.{upTo};
 ghost use Rattle.length.specs.Length.{start, halving};
-ghost use Rattle.tables.specs.Tables.{Under, Capacities, weightOf};
-ghost use Rattle.lengths.specs.Calls.{Growing, Weighing, Settling, Lengthening};
+ghost use Rattle.tables.specs.Tables.{Under, weightOf};
+ghost use Rattle.lengths.specs.Calls.{Capacities, Growing, Weighing, Settling, Lengthening};
 ghost use Rattle.lengths.specs.Results.{Grew, Settled, Lengthened};
 
 // Every length at its arc's start.

@@ -22,10 +22,10 @@ use Rattle.method.proofs.Arcs.{chosen-some}
 use Rattle.method.proofs.Reached.{Reached, Valid, chosen-at, fair}
 use Rattle.method.proofs.Sized.{reached-sizes, grown-sizes}
 use Rattle.method.proofs.Times.{update-length}
-use Rattle.lengths.specs.Calls.{Settling}
+use Rattle.lengths.specs.Calls.{Capacities, Settling}
 use Rattle.step.specs.Steps.{Stepping}
 use Rattle.run.proofs.Whole.{Whole}
-use Rattle.tables.specs.Tables.{Under, Capacities, longer}
+use Rattle.tables.specs.Tables.{Under, longer}
 use Rattle.tables.proofs.OnPath.{draw-at, draw-most, below-under}
 
 module _ (net : Network) (q : ℕ) (lent : Whole net q) (s : State) (r : Reached net q s) (i : ℕ) (p : List ℕ)

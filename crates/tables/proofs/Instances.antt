@@ -7,7 +7,8 @@ use native.Mathlib.Nat.{le-of-suc-le-suc, not-suc-le-zero}
 use native.Mathlib.Omega.{arith}
 use lib.ListN.{length, getD}
 use Rattle.arith.specs.Lists.{exists}
-use Rattle.tables.specs.Tables.{Capacities}
+use Rattle.bounds.specs.Bounds.{mostCapacity}
+use Rattle.tables.specs.Tables.{NoneAbove}
 use Rattle.tables.specs.Calls.{Adding, Ending, Loading, Ranking}
 
 -- What holds of x holds at every place of the list of x alone.
@@ -15,8 +16,8 @@ pub alone : (P : ℕ → Type 0) (x : ℕ) → P x → (j : ℕ) → j < length 
 alone P x p zero l = p
 alone P x p (suc j) l = absurd (not-suc-le-zero (le-of-suc-le-suc l))
 
-pub capacities : Capacities (5 ∷ [])
-capacities = record { least = λ e l. omega (arith, alone (λ x. 1 ≤ x) 5 (omega arith) e l); most = alone (λ x. x ≤ 1000) 5 (omega arith) }
+pub some-capacity : NoneAbove mostCapacity (5 ∷ [])
+some-capacity = alone (λ x. x ≤ mostCapacity) 5 (omega arith)
 
 pub adding : Adding (3 ∷ []) 0 (0 ∷ []) 5
 adding =
@@ -28,7 +29,7 @@ adding =
     }
 
 pub ending : Ending (3 ∷ []) (5 ∷ []) 4
-ending = record { same = refl; small = omega arith; sizes = capacities .most }
+ending = record { same = refl; small = omega arith; sizes = some-capacity }
 
 -- 3 is below 4 times 5.
 pub loading : Loading (3 ∷ []) (5 ∷ []) 4 (0 ∷ []) 5
@@ -36,4 +37,4 @@ unfolding exists
 loading = record { adding = adding; ending = ending; none = refl }
 
 pub ranking : Ranking (3 ∷ []) (5 ∷ [])
-ranking = record { some = omega arith; same = refl; amounts = alone (λ x. x < 2 ^ 32) 3 (omega arith); sizes = capacities .most }
+ranking = record { some = omega arith; same = refl; amounts = alone (λ x. x < 2 ^ 32) 3 (omega arith); sizes = some-capacity }

@@ -5,7 +5,6 @@ use mathlib.Core.List.{List}
 use Prim.Native.Nat.{ℕ, _*_, _≤_, _<_}
 use lib.Dec.{leb}
 use lib.ListN.{length, getD}
-use Rattle.bounds.specs.Bounds.{mostCapacity}
 use Rattle.arith.specs.Lists.{exists}
 use Rattle.arith.specs.Sum.{sum}
 use Rattle.length.specs.Length.{mark, growth}
@@ -18,11 +17,6 @@ Under b xs = (e : ℕ) → e < length xs → getD xs e 0 < b
 -- Every number of the table is at most b.
 abbrev pub NoneAbove : ℕ → List ℕ → Type 0
 NoneAbove b xs = (e : ℕ) → e < length xs → getD xs e 0 ≤ b
-
--- "capacity 1 to 1,000" (document 01, "The floor and its flow")
-pub record Capacities (capacities : List ℕ) : Type 0 where
-  pub least : (e : ℕ) → e < length capacities → 1 ≤ getD capacities e 0
-  pub most : NoneAbove mostCapacity capacities
 
 -- D: the sum over all arcs of capacity times length.
 abbrev pub weightOf : List ℕ → List ℕ → ℕ
