@@ -9,7 +9,7 @@ use lib.Dec.{eqb}
 use lib.ListN.{length, getD}
 use Rattle.arith.specs.Times.{times}
 use Rattle.tables.proofs.Instances.{alone, some-capacity}
-use Rattle.lengths.specs.Calls.{Capacities, Growing, Weighing, Settling}
+use Rattle.lengths.specs.Calls.{Capacities, Startable, Growing, Settling}
 
 at-most-one : (b : Bool) → cond b 1 0 + 0 ≤ 1
 at-most-one true = omega arith
@@ -40,8 +40,8 @@ growing =
       short = λ e l. omega (arith, length-seven e l);
     }
 
-pub weighing : Weighing (5 ∷ []) (7 ∷ [])
-weighing = record { same = refl; few = omega arith; sizes = capacities .most; short = λ e l. omega (arith, length-seven e l) }
+pub startable : Startable (5 ∷ []) (7 ∷ [])
+startable = record { same = refl; arcs = omega arith; sizes = capacities }
 
 pub settling : Settling (5 ∷ []) (7 ∷ [])
 settling = record { same = refl; arcs = omega arith; sizes = capacities .most; grown = λ e l. omega (arith, length-seven e l) }

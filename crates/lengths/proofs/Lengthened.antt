@@ -13,13 +13,13 @@ use Rattle.arith.proofs.Exists.{none-exists}
 use Rattle.length.specs.Length.{mark, growth}
 use Rattle.length.proofs.Size.{growth-least, growth-fits}
 use Rattle.lengths.specs.declared.Grown.{Grown}
-use Rattle.lengths.specs.Calls.{Growing, Weighing}
+use Rattle.lengths.specs.Calls.{Growing}
 use Rattle.lengths.specs.Results.{Grew}
 use Rattle.tables.specs.Tables.{weightOf, atMark}
 use Rattle.tables.proofs.Followed.{Following, follow-none, follow-more, follow-all}
 use Rattle.tables.proofs.OnPath.{follow-next}
 use Rattle.tables.proofs.Stored.{set-weight, set-exists}
-use Rattle.lengths.proofs.Weighed.{sum-most}
+use Rattle.lengths.proofs.Weighed.{Weighable, sum-most}
 
 -- Of the lengths ys, with the first j arcs of the path p grown: d is their D, which each arc raised by at most 2^51, and b is the test of the
 -- mark.
@@ -30,8 +30,8 @@ pub record Lengthened (caps xs : List ℕ) (q g : ℕ) (p : List ℕ) (j : ℕ) 
   pub marked : b ≡ atMark ys
 
 module _ {xs caps : List ℕ} {q g : ℕ} {p : List ℕ} (w : Growing xs caps q g p) where
-  weighing : Weighing caps xs
-  weighing = record { same = w .same; few = omega (arith, w .arcs); sizes = w .sizes .most; short = λ e l. omega (arith, w .short e l) }
+  weighable : Weighable caps xs
+  weighable = record { same = w .same; few = omega (arith, w .arcs); sizes = w .sizes .most; short = λ e l. omega (arith, w .short e l) }
 
   -- No arc has grown, and no length is at the mark.
   pub lengthen-none : (d : ℕ) → d ≡ weightOf caps xs → Lengthened caps xs q g p 0 xs d false
@@ -40,7 +40,7 @@ module _ {xs caps : List ℕ} {q g : ℕ} {p : List ℕ} (w : Growing xs caps q 
       record {
         follow = follow-none _ p xs;
         weight = h;
-        most = omega (arith, sum-most weighing (length caps) (omega arith));
+        most = omega (arith, sum-most weighable (length caps) (omega arith));
         marked = sym (none-exists (length xs) (λ e. leb mark (getD xs e 0)) (λ e l. lt-leb mark (getD xs e 0) (omega (arith, w .short e l))));
       }
 

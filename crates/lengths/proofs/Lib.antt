@@ -1,5 +1,5 @@
-pub mod Halved
 pub mod Instances
 pub mod Lengthened
 pub mod Settling
+pub mod Weighable
 pub mod Weighed

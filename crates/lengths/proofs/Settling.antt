@@ -5,7 +5,7 @@ use mathlib.Core.List.{List, map}
 use Prim.Native.Nat.{ℕ}
 use Rattle.length.specs.Length.{halving}
 use Rattle.lengths.specs.Calls.{Settling, Lengthening}
-use Rattle.lengths.specs.Results.{Grew, Settled, Lengthened}
+use Rattle.lengths.specs.Results.{Weighed, Grew, Lengthened}
 use Rattle.tables.specs.Tables.{atMark}
 use Rattle.lengths.specs.declared.Grown.{Grown}
 
@@ -13,7 +13,9 @@ module _ {old caps : List ℕ} {q g : ℕ} {path new : List ℕ} {r : Grown} (gr
   pub grown-settling : {d : ℕ} → Lengthening old caps q g path d → Settling caps new
   grown-settling p = rw (grew .lengths) (p .grown)
 
-  pub lengthened : {last : List ℕ} {d : ℕ} → Settled new caps (r .marked) last d → Lengthened old caps q g path last (record { weight = d; marked = r .marked })
+  pub lengthened :
+      {last : List ℕ} {d : ℕ} → Weighed (cond (r .marked) (map halving new) new) caps last d →
+      Lengthened old caps q g path last (record { weight = d; marked = r .marked })
   lengthened settled =
       record {
         marked = grew .marked ∙ ap atMark (grew .lengths);

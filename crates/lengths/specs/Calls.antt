@@ -13,6 +13,12 @@ pub record Capacities (capacities : List ℕ) : Type 0 where
   pub least : (e : ℕ) → e < length capacities → 1 ≤ getD capacities e 0
   pub most : NoneAbove mostCapacity capacities
 
+-- A length for each arc, to be set to its start.
+pub record Startable (capacities lengths : List ℕ) : Type 0 where
+  pub same : length lengths ≡ length capacities
+  pub arcs : length capacities ≤ mostArcs
+  pub sizes : Capacities capacities
+
 -- Growth along a path at precision q by the draw g, no more than the capacities on it. The path has no arc twice, so that each length is below
 -- the mark, document 01's 2^40, when it grows.
 pub record Growing (lengths capacities : List ℕ) (q g : ℕ) (path : List ℕ) : Type 0 where
@@ -26,13 +32,6 @@ pub record Growing (lengths capacities : List ℕ) (q g : ℕ) (path : List ℕ)
   pub arcs : length capacities ≤ mostArcs
   pub sizes : Capacities capacities
   pub short : Under (2 ^ 40) lengths
-
--- D's sum over all arcs.
-pub record Weighing (capacities lengths : List ℕ) : Type 0 where
-  pub same : length lengths ≡ length capacities
-  pub few : length capacities ≤ mostArcs
-  pub sizes : NoneAbove mostCapacity capacities
-  pub short : NoneAbove (2 ^ 40) lengths
 
 -- Grown lengths, to be halved if one is at the mark.
 pub record Settling (capacities lengths : List ℕ) : Type 0 where

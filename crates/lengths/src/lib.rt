@@ -1,25 +1,29 @@
-// The lengths of all arcs: their start, their growth along a path, their halving, and the bound's D.
+// The lengths of all arcs: their start, their growth along a path and their halving. Each hands back the bound's D of what it leaves, so that
+// none is summed apart.
 use length::Length;
 ghost use mathlib.Core.Path.{_≡_};
+ghost use mathlib.Core.Bool.{cond};
 ghost use mathlib.Core.List.{map};
-ghost use Prim.Native.Nat.{_^_, _<_};
-ghost use lib.ListN.{length, getD};
-ghost use Rattle.arith.specs.Lists.{upTo};
-ghost use Rattle.length.specs.Length.{start, halving};
-ghost use Rattle.tables.specs.Tables.{Under, weightOf};
-ghost use Rattle.lengths.specs.Calls.{Capacities, Growing, Weighing, Settling, Lengthening};
-ghost use Rattle.lengths.specs.Results.{Grew, Settled, Lengthened};
+ghost use Rattle.length.specs.Length.{halving};
+ghost use Rattle.tables.specs.Tables.{weightOf};
+ghost use Rattle.lengths.specs.Calls.{Startable, Growing, Settling, Lengthening};
+ghost use Rattle.lengths.specs.Results.{firstLengths, Weighed, Grew, Lengthened};
 
-// Every length at its arc's start.
-pub fn start(capacities: &[u64], lengths: &mut [u64])
-    requires { ⌜ (length (now lengths) ≡ length (now capacities)) × Capacities (now capacities) ⌝ }
-    ensures { λ _. ⌜ now (lengths .exit) ≡ map (λ e. start (getD (now (capacities .entry)) e 0)) (upTo (length (now (capacities .entry)))) ⌝ }
+// Every length at its arc's start; D of these.
+pub fn start(capacities: &[u64], lengths: &mut [u64]) -> u64
+    requires { ⌜ Startable (now capacities) (now lengths) ⌝ }
+    ensures { λ r. ⌜ Weighed (firstLengths (now (capacities .entry))) (now (capacities .entry)) (now (lengths .exit)) r ⌝ }
 {
+    let mut d = 0;
     let mut e = 0;
     while e < capacities.len() {
-        lengths[e] = Length::start(capacities[e]).value;
+        let capacity = capacities[e];
+        let first = Length::start(capacity).value;
+        lengths[e] = first;
+        d += capacity * first;
         e += 1;
     }
+    d
 }
 
 // D of grown lengths, and whether some length is at the mark.
@@ -55,42 +59,32 @@ fn grow(lengths: &mut [u64], capacities: &[u64], q: u64, g: u64, path: &[u64], w
     Grown { weight: d, marked }
 }
 
-// Every length halved.
-fn halve(lengths: &mut [u64])
-    requires { ⌜ Under (2 ^ 41) (now lengths) ⌝ }
-    ensures { λ _. ⌜ now (lengths .exit) ≡ map halving (now (lengths .entry)) ⌝ }
-{
-    let mut e = 0;
-    while e < lengths.len() {
-        let l = Length { value: lengths[e] };
-        lengths[e] = l.halving().value;
-        e += 1;
-    }
-}
-
-// D: the sum over all arcs of capacity times length.
-pub fn weight(capacities: &[u64], lengths: &[u64]) -> u64
-    requires { ⌜ Weighing (now capacities) (now lengths) ⌝ }
-    ensures { λ r. ⌜ (r ≡ weightOf (now (capacities .entry)) (now (lengths .entry))) × (r < 2 ^ 58) ⌝ }
+// Every length halved; D of what they are then.
+fn halve(lengths: &mut [u64], capacities: &[u64]) -> u64
+    requires { ⌜ Settling (now capacities) (now lengths) ⌝ }
+    ensures { λ r. ⌜ Weighed (map halving (now (lengths .entry))) (now (capacities .entry)) (now (lengths .exit)) r ⌝ }
 {
     let mut d = 0;
     let mut e = 0;
-    while e < capacities.len() {
-        d += capacities[e] * lengths[e];
+    while e < lengths.len() {
+        let old = lengths[e];
+        let l = Length { value: old };
+        let half = l.halving().value;
+        lengths[e] = half;
+        d += capacities[e] * half;
         e += 1;
     }
     d
 }
 
-// Every length halved if one has grown to the mark; D, summed anew only then.
+// Every length halved if one has grown to the mark; D of what they are then.
 fn settle(lengths: &mut [u64], capacities: &[u64], grown: Grown) -> u64
     requires settling { ⌜ Settling (now capacities) (now lengths) ⌝ }
     requires weight { ⌜ grown .weight ≡ weightOf (now capacities) (now lengths) ⌝ }
-    ensures { λ r. ⌜ Settled (now (lengths .entry)) (now (capacities .entry)) (grown .marked) (now (lengths .exit)) r ⌝ }
+    ensures { λ r. ⌜ Weighed (cond (grown .marked) (map halving (now (lengths .entry))) (now (lengths .entry))) (now (capacities .entry)) (now (lengths .exit)) r ⌝ }
 {
     if grown.marked {
-        halve(lengths);
-        weight(capacities, lengths)
+        halve(lengths, capacities)
     } else {
         grown.weight
     }

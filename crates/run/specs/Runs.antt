@@ -8,7 +8,7 @@ use Rattle.network.specs.Network.{Network}
 use Rattle.packed.specs.Packed.{netIn, Lent, tableNumbers}
 use Rattle.packed.specs.declared.Shape.{Shape}
 use Rattle.method.specs.Choice.{Choice, choice}
-use Rattle.method.specs.Iteration.{State, initial}
+use Rattle.method.specs.Iteration.{State, initial, weight}
 use Rattle.choice.specs.Calls.{Indexed}
 use Rattle.choice.specs.Memory.{Memory}
 
@@ -24,8 +24,9 @@ pub record Space (s : Shape) (q : ℕ) (net indexes : List ℕ) (numbers places 
 abbrev pub Chooses : Network → Type 0
 Chooses net = (l : List ℕ) → (c : Choice) × (choice net l ≡ some c)
 
--- What the run asks of its start.
-pub record Starting (s : Shape) (net : Network) (memory : List ℕ) (first : State) : Type 0 where
+-- What the run asks of its start, where D is d.
+pub record Starting (s : Shape) (net : Network) (memory : List ℕ) (first : State) (d : ℕ) : Type 0 where
   pub memory-of : Memory s net (first .lengths) memory
   pub chooses : Chooses net
   pub start : first ≡ initial net
+  pub weight : d ≡ weight net (first .lengths)

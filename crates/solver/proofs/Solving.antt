@@ -1,29 +1,25 @@
 -- The cleared tables are the definition's start, and the two outcomes. Assumes nothing.
 use mathlib.Core.Path.{_≡_, refl, sym, ap, _∙_}
 use mathlib.Core.Option.{none, some}
-use mathlib.Core.List.{List, map}
+use mathlib.Core.List.{List}
 use Prim.Native.Nat.{ℕ, _*_, _-_}
 use native.Mathlib.Omega.{arith}
 use lib.ListN.{length, getD, replicate}
-use Rattle.arith.specs.Lists.{upTo}
-use Rattle.length.specs.Length.{start}
 use Rattle.network.specs.Network.{Network, arcs, commodities}
 use Rattle.method.specs.Answer.{fullest, outcome, outcomeOf, unjoined}
 use Rattle.method.specs.Choice.{Choice, choice}
-use Rattle.method.specs.Iteration.{initial}
+use Rattle.method.specs.Iteration.{initial, weight}
 use Rattle.method.specs.Run.{run}
 use Rattle.method.proofs.Ends.{final-sizes}
 use Rattle.method.proofs.Guaranteed.{guarantee}
 use Rattle.tables.specs.Calls.{Ranking}
+use Rattle.tables.specs.Tables.{weightOf}
+use Rattle.lengths.specs.Results.{firstLengths}
 use Rattle.step.specs.declared.Progress.{Progress}
 use Rattle.step.specs.Progress.{stateOf, begun}
 use Rattle.run.specs.Runs.{Chooses}
 use Rattle.run.proofs.Whole.{Whole}
 use Rattle.solver.specs.Solved.{Solved, answerOf, noAnswer}
-
--- The lengths that the start leaves.
-abbrev pub firstLengths : List ℕ → List ℕ
-firstLengths capacities = map (λ e. start (getD capacities e 0)) (upTo (length capacities))
 
 -- The tables once they are cleared are those of the definition's start.
 pub initial-is :
@@ -31,6 +27,11 @@ pub initial-is :
     K ≡ replicate k 0 → F ≡ replicate f 0 → m ≡ arcs net → y ≡ m → k ≡ m → f ≡ commodities net * arcs net → stateOf L F Y K begun ≡ initial net
 unfolding initial
 initial-is whole started unloaded nothing empty em ey ek ef = rw (started, unloaded, nothing, empty, ey, ek, ef, em, whole .capacities) refl
+
+-- D of them is the definition's.
+pub weight-is : {net : Network} {q : ℕ} → Whole net q → (L : List ℕ) {d : ℕ} → d ≡ weightOf (net .capacities) L → d ≡ weight net L
+unfolding weight
+weight-is whole L h = rw (whole .capacities) at h
 
 pub outcome-some : (net : Network) (q : ℕ) (c : Choice) → choice net (initial net .lengths) ≡ some c → outcome net q ≡ outcomeOf net (run net q)
 unfolding outcome

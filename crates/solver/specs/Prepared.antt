@@ -7,15 +7,16 @@ use Rattle.bounds.specs.Bounds.{mostNodes}
 use Rattle.network.specs.Network.{Network, arcs, commodities}
 use Rattle.packed.specs.Packed.{netIn, Lent, tableNumbers}
 use Rattle.packed.specs.declared.Shape.{Shape}
-use Rattle.method.specs.Iteration.{initial}
+use Rattle.method.specs.Iteration.{initial, weight}
 use Rattle.choice.specs.Calls.{indexesNumbers}
 use Rattle.choice.specs.Memory.{memoryNumbers, Memory}
 use Rattle.step.specs.Progress.{stateIn, begun}
 
--- The tables are those of the method's start, and the memory holds by its lengths.
-pub record Cleared (s : Shape) (net : Network) (flow tables memory : List ℕ) : Type 0 where
+-- The tables are those of the method's start, the memory holds by its lengths, and d is their D.
+pub record Cleared (s : Shape) (net : Network) (flow tables memory : List ℕ) (d : ℕ) : Type 0 where
   pub state : stateIn s flow tables begun ≡ initial net
   pub memory-of : Memory s net (stateIn s flow tables begun .lengths) memory
+  pub weight : d ≡ weight net (stateIn s flow tables begun .lengths)
 
 -- The sizes of the tables, for an accepted network.
 pub record Preparing (s : Shape) (q : ℕ) (net flow tables memory : List ℕ) : Type 0 where

@@ -51,7 +51,7 @@ fn unjoined() -> Answer
     }
 }
 
-// The first choice, and the run where there is one.
+// The first choice, and the run where there is one. D of the first lengths is at hand.
 pub fn outcome(
     s: Shape,
     q: u64,
@@ -61,9 +61,10 @@ pub fn outcome(
     tables: &mut [u64],
     memory: &mut [u64],
     path: &mut [u64],
+    weight: u64,
 ) -> Answer
     requires room { ⌜ Space s q (now net) (now indexes) (length (now tables)) (length (now path)) ⌝ }
-    requires cleared { ⌜ Cleared s (netIn s (now net)) (now flow) (now tables) (now memory) ⌝ }
+    requires cleared { ⌜ Cleared s (netIn s (now net)) (now flow) (now tables) (now memory) weight ⌝ }
     ensures { λ r. ⌜ Solved (netIn s (now (net .entry))) q r (now (flow .exit)) (keptIn s (now (tables .exit))) ⌝ }
 {
     let m = s.arcs;
@@ -71,6 +72,6 @@ pub fn outcome(
     if first.distance >= FAR {
         return unjoined();
     }
-    let p = runs::run(s, q, net, indexes, flow, tables, memory, path);
+    let p = runs::run(s, q, net, indexes, flow, tables, memory, path, weight);
     answer(s, net, tables, p)
 }

@@ -29,14 +29,21 @@ fn index_both(s: Shape, net: &[u64], indexes: &mut [u64])
     index::index_out(s, net, &mut indexes[OUT..OUT + INDEX_NUMBERS]);
 }
 
-// The tables before the first choice: lengths at their start, zeros in the others. q is taken for the contract.
-fn prepare(s: Shape, q: u64, net: &[u64], flow: &mut [u64], tables: &mut [u64], memory: &mut [u64])
+// The tables before the first choice: lengths at their start, zeros in the others; D of the lengths. q is taken for the contract.
+fn prepare(
+    s: Shape,
+    q: u64,
+    net: &[u64],
+    flow: &mut [u64],
+    tables: &mut [u64],
+    memory: &mut [u64],
+) -> u64
     requires { ⌜ Preparing s q (now net) (now flow) (now tables) (now memory) ⌝ }
-    ensures { λ _. ⌜ Cleared s (netIn s (now (net .entry))) (now (flow .exit)) (now (tables .exit)) (now (memory .exit)) ⌝ }
+    ensures { λ r. ⌜ Cleared s (netIn s (now (net .entry))) (now (flow .exit)) (now (tables .exit)) (now (memory .exit)) r ⌝ }
 {
     let m = s.arcs;
     let k = s.commodities;
-    lengths::start(
+    let weight = lengths::start(
         &net[CAPACITIES..CAPACITIES + m],
         &mut tables[LENGTHS..LENGTHS + m],
     );
@@ -44,6 +51,7 @@ fn prepare(s: Shape, q: u64, net: &[u64], flow: &mut [u64], tables: &mut [u64], 
     loads::clear(&mut tables[KEPT..KEPT + m]);
     loads::clear(flow);
     loads::clear(&mut memory[BOUNDS..BOUNDS + k]);
+    weight
 }
 
 // The outcome, with work space lent: the indexes are made once.
@@ -61,6 +69,6 @@ pub fn solve_in(
     ensures { λ r. ⌜ Solved (netIn s (now (net .entry))) q r (now (flow .exit)) (keptIn s (now (tables .exit))) ⌝ }
 {
     index_both(s, net, indexes);
-    prepare(s, q, net, flow, tables, memory);
-    outcome(s, q, net, indexes, flow, tables, memory, path)
+    let weight = prepare(s, q, net, flow, tables, memory);
+    outcome(s, q, net, indexes, flow, tables, memory, path, weight)
 }

@@ -11,7 +11,7 @@ use Rattle.method.specs.Iteration.{State}
 use Rattle.choice.specs.Memory.{Memory}
 use Rattle.step.specs.Progress.{stateIn}
 use Rattle.run.specs.Noted.{Noted, Iterated}
-use Rattle.run.proofs.Begun.{begin-weighing, begin-noted, begin-running}
+use Rattle.run.proofs.Begun.{begin-noted, begin-running}
 use Rattle.run.proofs.Onward.{onward-less, onward-last, onward-running, onward-noted}
 use Rattle.run.proofs.Running.{left, Running}
 use Rattle.run.proofs.Same.{Same}
@@ -20,13 +20,13 @@ use Rattle.run.proofs.runs.run.Statement.{statement}
 use Rattle.run.proofs.runs.run.Tie as tie
 
 abbrev Inv-loop : tie.InvT-loop
-Inv-loop s q net indexes flow₀ tables₀ memory₀ path₀ m threshold p₀ flow tables memory path p =
+Inv-loop s q net indexes flow₀ tables₀ memory₀ path₀ weight m threshold p₀ flow tables memory path p =
     Running (netIn s net) q (stateIn s flow tables p) ×
     (Noted (netIn s net) q threshold (stateIn s flow tables p .lengths) p ×
     (Memory s (netIn s net) (stateIn s flow tables p .lengths) memory × Same flow₀ tables₀ memory₀ path₀ flow tables memory path))
 
 abbrev μ-loop : tie.MeasureT-loop
-μ-loop s q net indexes flow₀ tables₀ memory₀ path₀ m threshold p₀ flow tables memory path p = left (netIn s net) q (stateIn s flow tables p)
+μ-loop s q net indexes flow₀ tables₀ memory₀ path₀ weight m threshold p₀ flow tables memory path p = left (netIn s net) q (stateIn s flow tables p)
 
 -- the network at entry
 abbrev net : tie.Start Inv-loop μ-loop → Network
@@ -39,28 +39,20 @@ threshold-requires c κs =
     let m = arcs-is (a .packed) in
     (omega (arith, k .of-arcs .least, m), omega (arith, k .of-arcs .most, m), k .precision .least, k .precision .most)
 
-begin-requires : tie.Need-begin-requires Inv-loop μ-loop
-unfolding netIn
-begin-requires c κs =
-    let s = c .before .before .before .before .before .before .before .before .before .before in
-    begin-weighing (whole (s .pre .0 .lent)) (s .pre .1 .start)
-
 loop-holds : tie.Need-loop-holds Inv-loop μ-loop
-unfolding netIn
 loop-holds c =
-    let s = c .before .before .before .before .before .before .before .before .before .before .before in
-    let a = whole (s .pre .0 .lent) in
-    let start = s .pre .1 .start in (
-      begin-running a start (c .begin .ensures) (s .pre .1 .chooses),
+    let s = c .before .before .before .before .before .before .before .before in
+    let a = s .pre .0 .lent in (
+      begin-running (c .begin .ensures) (whole a) (s .pre .1 .start) (s .pre .1 .chooses),
       (
-        begin-noted a start (c .begin .ensures) (rw (arcs-is (s .pre .0 .lent .packed)) (c .before .before .before .before .threshold .ensures)),
+        begin-noted (c .begin .ensures) (s .pre .1 .weight) (rw (arcs-is (a .packed)) (c .before .threshold .ensures)),
         (s .pre .1 .memory-of, record { flows = refl; tabled = refl; memorised = refl; paths = refl }),
       ),
     )
 
 -- from the loop's beginning to the function's entry
 abbrev entry : tie.At-loop Inv-loop μ-loop → tie.Start Inv-loop μ-loop
-entry c = c .before .before .before .before .before .before .before .before .before .before .before .before
+entry c = c .before .before .before .before .before .before .before .before .before
 
 iterate-requires : tie.Need-iterate-requires Inv-loop μ-loop
 iterate-requires c κs =
@@ -136,6 +128,5 @@ returns c =
 
 pub run-spec : {M : Type 1} → statement M
 run-spec =
-    tie.close (tie.spec Inv-loop μ-loop threshold-requires (λ c. search needs) (λ c. search needs) (λ c. search needs)
-    (λ c. search needs) (λ c. search needs) (λ c. search needs) (λ c. search needs) (λ c. search needs) begin-requires
-    loop-holds iterate-requires loop-less loop-again (λ c. sizes (ended-at c) .flows) (λ c. sizes (ended-at c) .tabled) (λ c. sizes (ended-at c) .memorised) (λ c. sizes (ended-at c) .paths) returns)
+    tie.close (tie.spec Inv-loop μ-loop threshold-requires (λ c κs. search needs) loop-holds iterate-requires loop-less loop-again
+    (λ c. sizes (ended-at c) .flows) (λ c. sizes (ended-at c) .tabled) (λ c. sizes (ended-at c) .memorised) (λ c. sizes (ended-at c) .paths) returns)

@@ -69,7 +69,7 @@ run-requires c κs =
     let f = search-at t in
     let p = entry f .pre in (
       record { lent = p .0 .lent; indexed = p .0 .indexed; tables = p .0 .tables; path = omega (arith, f .choose .kept .1 .1 .1 .1 .1 .0, p .0 .path) },
-      record { memory-of = f .choose .ensures .memory-of; chooses = chooses t; start = p .1 .state },
+      record { memory-of = f .choose .ensures .memory-of; chooses = chooses t; start = p .1 .state; weight = p .1 .weight },
     )
 
 -- behind the run: the entry, and the tables of the arcs
@@ -111,9 +111,15 @@ returns-2 c =
     (solved-some (net s) (s .args .q) (whole (s .pre .0 .lent)) _ (picked (choice-at f) .chosen) (f .run .last .1 .1 .1 .1 .0) (keptIn (s .args .s) (tables f))
     (loadsIn (s .args .s) (tables f)) (lengthsIn (s .args .s) (tables f)) (f .run .result) (f .run .ensures))
 
+-- memory and path keep their size in the search and in the run
+same-length-6 : tie.Need-same-length-6
+same-length-6 c = let f = run-at c in f .run .kept .1 .1 .1 .1 .1 .1 .0 ∙ search-at (choice-at f) .choose .kept .1 .1 .1 .1 .0
+
+same-length-7 : tie.Need-same-length-7
+same-length-7 c = let f = run-at c in f .run .kept .1 .1 .1 .1 .1 .1 .1 .0 ∙ search-at (choice-at f) .choose .kept .1 .1 .1 .1 .1 .0
+
 pub outcome-spec : {M : Type 1} → statement M
 outcome-spec =
     tie.close (tie.spec (λ c. search needs) (λ c. search needs) (λ c. search needs) (λ c. search needs)
     choose-requires (λ c κs. search needs) (λ c. search needs) (λ c. search needs) (λ c. search needs) returns
-    run-requires answer-requires (λ c. search needs) (λ c. search needs) (λ c. search needs) (λ c. search needs)
-    returns-2)
+    run-requires answer-requires (λ c. search needs) (λ c. search needs) same-length-6 same-length-7 returns-2)

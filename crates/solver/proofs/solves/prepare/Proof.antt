@@ -6,7 +6,7 @@ use mathlib.Core.List.{List}
 use Prim.Native.Nat.{ℕ, _≤_}
 use native.Mathlib.Omega.{arith}
 use lib.ListN.{length, replicate}
-use Rattle.method.specs.Iteration.{initial}
+use Rattle.method.specs.Iteration.{initial, weight}
 use Rattle.packed.specs.Packed.{part, put, netIn, capacitiesFrom, lengthsFrom, loadsFrom, keptFrom}
 use Rattle.packed.proofs.Columns.{part-length, arcs-is, capacities-length, commodities-is}
 use Rattle.choice.specs.Memory.{Memory}
@@ -14,7 +14,7 @@ use Rattle.choice.proofs.Memories.{memory-zero}
 use Rattle.step.specs.Progress.{stateOf, begun}
 use Rattle.step.proofs.Tabled.{Tabled, tabled, part-size, with-lengths, with-loads, with-kept, in-slice}
 use Rattle.run.proofs.Whole.{whole}
-use Rattle.solver.proofs.Solving.{initial-is}
+use Rattle.solver.proofs.Solving.{initial-is, weight-is}
 use Rattle.solver.proofs.solves.prepare.Statement.{statement}
 use Rattle.solver.proofs.solves.prepare.Tie as tie
 
@@ -41,13 +41,16 @@ start-requires : tie.Need-start-requires
 unfolding netIn
 start-requires c κs =
     let s = c .before .before .before .before .before .before in let a = s .pre .lent in
-    let full : length (part capacitiesFrom (m s) (now (s .args .net))) ≡ m s = capacities-length (a .packed) ∙ arcs-is (a .packed) in (
-      part-length lengthsFrom (m s) (now (s .args .tables)) (omega (arith, a .packed .few-arcs, s .pre .tabled)) ∙ sym full,
-      record {
-        least = λ e l. a .sound .arc-capacity e (omega (arith, capacities-length (a .packed))) .least;
-        most = λ e l. a .sound .arc-capacity e (omega (arith, capacities-length (a .packed))) .most;
-      },
-    )
+    let full : length (part capacitiesFrom (m s) (now (s .args .net))) ≡ m s = capacities-length (a .packed) ∙ arcs-is (a .packed) in
+    record {
+      same = part-length lengthsFrom (m s) (now (s .args .tables)) (omega (arith, a .packed .few-arcs, s .pre .tabled)) ∙ sym full;
+      arcs = omega (arith, a .packed .few-arcs, full);
+      sizes =
+          record {
+            least = λ e l. a .sound .arc-capacity e (omega (arith, capacities-length (a .packed))) .least;
+            most = λ e l. a .sound .arc-capacity e (omega (arith, capacities-length (a .packed))) .most;
+          };
+    }
 
 -- the tables of the arcs after each call that changes them
 started : (c : tie.After-start) → let s = entry c in let T = now (s .args .tables) in
@@ -74,12 +77,14 @@ returns c =
     record {
       state =
           in-slice (cleared kept) (λ L Y K. stateOf L (flow .clear3 .last .0) Y K begun ≡ initial net)
-          (initial-is (whole (p .lent)) (start .start .ensures) (loads .clear .ensures) (kept .clear2 .ensures) (flow .clear3 .ensures)
+          (initial-is (whole (p .lent)) (start .start .ensures .lengths) (loads .clear .ensures) (kept .clear2 .ensures) (flow .clear3 .ensures)
           (sym (arcs-is (p .lent .packed))) (part-size (started start) loadsFrom (omega arith)) (part-size (unloaded loads) keptFrom (omega arith)) (p .flows));
       memory-of =
           memory-zero (now (z .memory)) (last .clear4 .last .0) (p .lent .packed .few-commodities) (sym (commodities-is (p .lent .packed))) (p .memorised)
           (last .clear4 .ensures ∙
           ap (λ (i : ℕ). replicate {A = ℕ} i 0) (part-length 0 (z .s .commodities) (now (z .memory)) (omega (arith, p .lent .packed .few-commodities, p .memorised)))) _;
+      weight =
+          in-slice (cleared kept) (λ L Y K. start .start .result ≡ weight net L) (weight-is (whole (p .lent)) (start .start .last .1 .0) (start .start .ensures .weight));
     }
 
 pub prepare-spec : {M : Type 1} → statement M
