@@ -1,7 +1,7 @@
 #!/usr/bin/env bash
 # The pages agree with the tree: links lead to files; a name with its file in brackets stands in that file; and docs/READING.md has every
 # definition file that the contracts rest on, after those that it uses, with its number of lines and the sums. Listings and output that a page
-# quotes are those that other tests hold to the programs.
+# quotes are those that other tests hold to the programs. The notes of docs/changes say what was so when they were written: README leads to each.
 set -u
 cd "$(dirname "$0")/.." || exit 2
 faults=0
@@ -41,6 +41,10 @@ for page in README.md docs/*.md; do
             fault "$page: $file states no $name"
         fi
     done < <(mentions "$page" | sort -u)
+done
+
+for note in docs/changes/*.md; do
+    grep -qF "]($note)" README.md || fault "README.md: does not lead to $note"
 done
 
 # every line of a file stands in the page, by itself

@@ -19,7 +19,7 @@ use Rattle.tables.specs.Tables.{weightOf, atMark}
 use Rattle.tables.proofs.Followed.{Following, follow-none, follow-more, follow-all}
 use Rattle.tables.proofs.OnPath.{follow-next}
 use Rattle.tables.proofs.Stored.{set-weight, set-exists}
-use Rattle.lengths.proofs.Weighed.{Weighable, sum-most}
+use Rattle.lengths.proofs.Weighable.{Weighable, sum-most}
 
 -- Of the lengths ys, with the first j arcs of the path p grown: d is their D, which each arc raised by at most 2^51, and b is the test of the
 -- mark.

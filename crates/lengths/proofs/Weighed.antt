@@ -1,22 +1,16 @@
--- D, added up arc by arc as a pass over all arcs sets their lengths: what is known on the way, at the end, and that it stays below 2^58.
+-- D, added up arc by arc as a loop over all arcs sets their lengths: what is known on the way and at the end.
 -- Assumes nothing.
 use mathlib.Core.Path.{_≡_, refl, sym, ap, _∙_}
 use mathlib.Core.List.{List}
 use Prim.Native.Nat.{ℕ, _+_, _*_, _^_, _≤_, _<_}
-use native.Mathlib.Nat.{mul-le-mul, le-antisymm}
 use native.Mathlib.Numerals.{add-one}
 use native.Mathlib.Omega.{arith}
 use lib.ListN.{length, getD, set}
 use Rattle.arith.specs.Sum.{sum}
-use Rattle.arith.proofs.Sums.{sum-le, sum-const}
-use Rattle.bounds.specs.Bounds.{mostArcs, mostCapacity}
 use Rattle.lengths.specs.Results.{Weighed}
-use Rattle.tables.specs.Tables.{NoneAbove, weightOf}
+use Rattle.tables.specs.Tables.{weightOf}
 use Rattle.tables.proofs.Filled.{Filling, fill-none, fill-more, fill-all}
-
--- capacity times length of arc e
-abbrev term : List ℕ → List ℕ → ℕ → ℕ
-term capacities lengths e = getD capacities e 0 * getD lengths e 0
+use Rattle.lengths.proofs.Weighable.{term, Weighable, sum-most}
 
 -- The first n arcs have the lengths wanted, and d is their part of D.
 pub record Weighing (wanted capacities old : List ℕ) (n : ℕ) (new : List ℕ) (d : ℕ) : Type 0 where
@@ -44,22 +38,8 @@ weigh-all {wanted} {capacities} {old} {n} {new} h l long same =
     let all : n ≡ length capacities = omega (arith, h .filling .within) in
     record { lengths = done; weight = h .weight ∙ (ap (λ i. sum i (term capacities wanted)) all ∙ ap (weightOf capacities) (sym done)) }
 
--- Lengths of which D can be summed.
-pub record Weighable (capacities lengths : List ℕ) : Type 0 where
-  pub same : length lengths ≡ length capacities
-  pub few : length capacities ≤ mostArcs
-  pub sizes : NoneAbove mostCapacity capacities
-  pub short : NoneAbove (2 ^ 40) lengths
-
--- Each term is at most 1,000 * 2^40, and up to 256 of them together are below 2^58.
-module _ {capacities lengths : List ℕ} (w : Weighable capacities lengths) where
-  term-most : (e : ℕ) → e < length capacities → term capacities lengths e ≤ 1000 * 2 ^ 40
-  term-most e l = mul-le-mul {n₂ = 1000} {m₂ = 2 ^ 40} (w .sizes e l) (omega (arith, w .short e (omega (arith, w .same))))
-
-  pub sum-most : (n : ℕ) → n ≤ length capacities → sum n (term capacities lengths) < 2 ^ 58
-  sum-most n l =
-      let each = sum-le n (term capacities lengths) (λ e. 1000 * 2 ^ 40) (λ e h. term-most e (omega arith)) in
-      omega (arith, each, sum-const n (1000 * 2 ^ 40), w .few)
-
-  pub weighing-most : {old : List ℕ} {n : ℕ} {new : List ℕ} {d : ℕ} → Weighing lengths capacities old n new d → n < length capacities → d < 2 ^ 58
-  weighing-most {n = n} h l = rw (h .weight) (sum-most n (omega arith))
+-- On the way D fits a word.
+pub weighing-most :
+    {wanted capacities old : List ℕ} {n : ℕ} {new : List ℕ} {d : ℕ} → Weighable capacities wanted → Weighing wanted capacities old n new d →
+    n < length capacities → d < 2 ^ 58
+weighing-most {n = n} w h l = rw (h .weight) (sum-most w n (omega arith))

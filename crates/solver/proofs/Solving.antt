@@ -6,7 +6,7 @@ use Prim.Native.Nat.{ℕ, _*_, _-_}
 use native.Mathlib.Omega.{arith}
 use lib.ListN.{length, getD, replicate}
 use Rattle.network.specs.Network.{Network, arcs, commodities}
-use Rattle.method.specs.Answer.{fullest, outcome, outcomeOf, unjoined}
+use Rattle.method.specs.Answer.{outcome, outcomeOf, unjoined}
 use Rattle.method.specs.Choice.{Choice, choice}
 use Rattle.method.specs.Iteration.{initial, weight}
 use Rattle.method.specs.Run.{run}

@@ -1,9 +1,7 @@
 -- `solver::solves::index_both` meets its contract. Assumes nothing.
 use borrow.Author.Needs.{needs}
 use denote.Ref.{now}
-use native.Mathlib.Omega.{arith}
 use Rattle.packed.specs.Packed.{netIn}
-use Rattle.packed.proofs.Columns.{part-length}
 use Rattle.solver.proofs.Indexes.{both}
 use Rattle.solver.proofs.solves.index_both.Statement.{statement}
 use Rattle.solver.proofs.solves.index_both.Tie as tie

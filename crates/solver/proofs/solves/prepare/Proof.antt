@@ -2,14 +2,12 @@
 use borrow.Author.Needs.{needs}
 use denote.Ref.{now}
 use mathlib.Core.Path.{_≡_, sym, ap, _∙_}
-use mathlib.Core.List.{List}
-use Prim.Native.Nat.{ℕ, _≤_}
+use Prim.Native.Nat.{ℕ}
 use native.Mathlib.Omega.{arith}
 use lib.ListN.{length, replicate}
 use Rattle.method.specs.Iteration.{initial, weight}
 use Rattle.packed.specs.Packed.{part, put, netIn, capacitiesFrom, lengthsFrom, loadsFrom, keptFrom}
 use Rattle.packed.proofs.Columns.{part-length, arcs-is, capacities-length, commodities-is}
-use Rattle.choice.specs.Memory.{Memory}
 use Rattle.choice.proofs.Memories.{memory-zero}
 use Rattle.step.specs.Progress.{stateOf, begun}
 use Rattle.step.proofs.Tabled.{Tabled, tabled, part-size, with-lengths, with-loads, with-kept, in-slice}
