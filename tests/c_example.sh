@@ -1,7 +1,7 @@
 #!/usr/bin/env bash
 # Compiles the header as C99 and as C++17, compares what each C example prints with
-# tests/NAME.expected, whose figures are the second solver's (tests/second), not the
-# library's, meets every refusal from C (tests/refusals.c) and tries what the header
+# tests/NAME.expected, which is what the second solver says it should print
+# (tests/second), meets every refusal from C (tests/refusals.c) and tries what the header
 # adds to the call (tests/helpers.c). The header's times are those of docs/SPEED.md.
 set -eu
 cd "$(dirname "$0")/.."
@@ -12,8 +12,10 @@ archive=target/staticlib/libvithmork.a
 strict=(-Wall -Wextra -Wpedantic -Werror -Iinclude)
 echo '#include "vithmork.h"' >"$made/header.cpp"
 c++ -std=c++17 "${strict[@]}" -c -o "$made/header.o" "$made/header.cpp"
+rustc --edition 2021 -O -C overflow-checks=on -o "$made/expected" tests/second/expected.rs
 for program in examples/*.c; do
     name=$(basename "$program" .c)
+    "$made/expected" "$name" | diff "tests/$name.expected" -
     cc -std=c99 "${strict[@]}" -o "$made/$name" "$program" "$archive"
     "$made/$name" | diff "tests/$name.expected" -
 done

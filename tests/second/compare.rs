@@ -19,32 +19,41 @@ mod search;
 mod shapes;
 mod solver;
 mod tally;
+mod ties;
 
 use call::{numbers, Call};
 use floors::{Capacities, CAPACITIES, PRECISIONS};
-use network::Solution;
+use network::{Network, Solution};
 use random::Random;
 use shapes::{Shape, FULL_SIZE, SHAPES};
 use std::process::ExitCode;
 use std::time::Instant;
 use tally::{holds, Tally};
 
-/// How much is compared: every `levels`-th number of belts, so many small,
-/// medium and damaged floors, rounds of full-size ones, and up to which
-/// precision the plain form is tried on these, as it takes minutes at 16.
+/// How much is compared: every `levels`-th number of belts, so many damaged
+/// floors, floors with ties, small and medium ones, rounds of full-size ones, and
+/// up to which precision the plain form is tried on these, as it takes minutes at 16.
 struct Amounts {
     levels: usize,
     damaged: u64,
+    ties: u64,
     small: u64,
     medium: u64,
     full: usize,
     plain: u64,
 }
 
-const WHOLE: Amounts =
-    Amounts { levels: 1, damaged: 20_000, small: 39_000, medium: 130, full: 5, plain: 4 };
+const WHOLE: Amounts = Amounts {
+    levels: 1,
+    damaged: 20_000,
+    ties: 2_600,
+    small: 39_000,
+    medium: 130,
+    full: 5,
+    plain: 4,
+};
 const QUICK: Amounts =
-    Amounts { levels: 51, damaged: 1_000, small: 390, medium: 13, full: 0, plain: 0 };
+    Amounts { levels: 51, damaged: 1_000, ties: 260, small: 390, medium: 13, full: 0, plain: 0 };
 
 fn main() -> ExitCode {
     let Some((amounts, seed)) = options(std::env::args().skip(1)) else {
@@ -60,6 +69,9 @@ fn main() -> ExitCode {
         compare_random_damage(tally, amounts.damaged, &mut Random::new(seed))
     });
     timed("load marks", &mut tally, |tally| compare_levels(tally, amounts.levels));
+    timed("floors with ties", &mut tally, |tally| {
+        compare_ties(tally, amounts.ties, &mut Random::new(seed + 4))
+    });
     timed("small floors", &mut tally, |tally| {
         compare_small(tally, amounts.small, &mut Random::new(seed + 1))
     });
@@ -139,6 +151,35 @@ fn compare_levels(tally: &mut Tally, every: usize) {
             tally.compare(&format!("load mark, m {m}, q {q}"), &Call::new(&net, q), fast::solve);
         }
     }
+}
+
+/// Every form of the second solver has its say, at every choice. Each wrong rule for
+/// ties has to come out otherwise on some floor: else they show nothing about it.
+fn compare_ties(tally: &mut Tally, amount: u64, random: &mut Random) {
+    let wrong = [literal::dictionary_first, literal::most_arcs, literal::fewest_of_all];
+    let mut otherwise = [0; 3];
+    let stated = ties::stated().into_iter().map(|(name, net, q)| (String::from(name), net, q));
+    let generated = (0..amount)
+        .zip(PRECISIONS.cycle())
+        .map(|(i, q)| (format!("floor with ties {i}"), ties::at_random(random), q));
+    let floors: Vec<(String, Network, u64)> = stated.chain(generated).collect();
+    for (name, net, q) in &floors {
+        let call = floors::lent(net, *q, random);
+        let plain = solver::solve_by(literal::as_searched, net, *q);
+        tally.judge(name, Some(&call), agree(&plain, &fast::solve(net, *q)));
+        tally.compare_with(name, &call, (0, call.written(&plain)));
+        for (rule, seen) in wrong.iter().zip(&mut otherwise) {
+            *seen += u64::from(solver::solve_by(*rule, net, *q) != plain);
+        }
+    }
+    let [dictionary, most, all] = otherwise;
+    println!(
+        "of {} floors with ties other answers: {dictionary} by dictionary order at once, {most} \
+         by most belts, {all} by fewest belts between pairs too",
+        floors.len()
+    );
+    let told = otherwise.iter().all(|seen| *seen > 0);
+    tally.judge("floors with ties", None, holds(told, "some wrong rule gives the same answers"));
 }
 
 fn compare_small(tally: &mut Tally, amount: u64, random: &mut Random) {

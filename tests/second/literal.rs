@@ -1,27 +1,68 @@
-//! Document 01's choice word for word, by listing every path: slow, and free of
-//! the thought behind distances, so that it can judge the searches.
+//! The choice word for word, of document 01 with the tie rule of request C-16, by
+//! listing every path: slow, and free of the thought behind distances, so that it
+//! can judge the searches. Tie rules that are wrong stand beside the right one.
 
 use crate::network::Network;
-use crate::solver::Choice;
+use crate::solver::{self, Choice};
+
+/// Whether a choice goes before one that was listed earlier. Listed are commodity
+/// by commodity its paths in dictionary order.
+type Rule = fn(&Choice, &Choice) -> bool;
 
 struct Listing<'a> {
     net: &'a Network,
     lengths: &'a [u64],
+    before: Rule,
     commodity: usize,
     path: Vec<usize>,
-    least: Option<Choice>,
+    first: Option<Choice>,
 }
 
-/// The first path of least length, commodity by commodity, each one's paths in
-/// dictionary order. A path that meets a node twice is longer than some other,
-/// as lengths are at least 1, and is not listed.
+/// Shorter, or of the same commodity, as short and of fewer arcs.
 pub fn choose(net: &Network, lengths: &[u64]) -> Option<Choice> {
-    let mut listing = Listing { net, lengths, commodity: 0, path: Vec::new(), least: None };
+    by_rule(net, lengths, |new, old| {
+        new.alpha < old.alpha || tied(new, old) && new.path.len() < old.path.len()
+    })
+}
+
+/// The plain form's choice, which has to be this one.
+pub fn as_searched(net: &Network, lengths: &[u64]) -> Option<Choice> {
+    let searched = solver::choose(net, lengths);
+    assert_eq!(searched, choose(net, lengths), "the second solver chooses by two rules");
+    searched
+}
+
+/// Wrong: dictionary order decides at once.
+pub fn dictionary_first(net: &Network, lengths: &[u64]) -> Option<Choice> {
+    by_rule(net, lengths, |new, old| new.alpha < old.alpha)
+}
+
+/// Wrong: most arcs come first.
+pub fn most_arcs(net: &Network, lengths: &[u64]) -> Option<Choice> {
+    by_rule(net, lengths, |new, old| {
+        new.alpha < old.alpha || tied(new, old) && new.path.len() > old.path.len()
+    })
+}
+
+/// Wrong: fewer arcs decide between commodities too.
+pub fn fewest_of_all(net: &Network, lengths: &[u64]) -> Option<Choice> {
+    by_rule(net, lengths, |new, old| (new.alpha, new.path.len()) < (old.alpha, old.path.len()))
+}
+
+fn tied(new: &Choice, old: &Choice) -> bool {
+    (new.alpha, new.commodity) == (old.alpha, old.commodity)
+}
+
+/// A path that meets a node twice is longer than some other, as lengths are at
+/// least 1, and is not listed.
+fn by_rule(net: &Network, lengths: &[u64], before: Rule) -> Option<Choice> {
+    let (path, first) = (Vec::new(), None);
+    let mut listing = Listing { net, lengths, before, commodity: 0, path, first };
     for (i, commodity) in net.commodities.iter().enumerate() {
         listing.commodity = i;
         listing.extend(commodity.source, 0);
     }
-    listing.least
+    listing.first
 }
 
 impl Listing<'_> {
@@ -45,9 +86,9 @@ impl Listing<'_> {
     }
 
     fn offer(&mut self, alpha: u64) {
-        if self.least.as_ref().is_none_or(|least| alpha < least.alpha) {
-            let path = self.path.clone();
-            self.least = Some(Choice { commodity: self.commodity, path, alpha });
+        let new = Choice { commodity: self.commodity, path: self.path.clone(), alpha };
+        if self.first.as_ref().is_none_or(|first| (self.before)(&new, first)) {
+            self.first = Some(new);
         }
     }
 }

@@ -47,7 +47,7 @@ impl Plan {
 
     fn check_unjoined(&self) -> Result<(), &'static str> {
         let ones = vec![1; self.net.arcs.len()];
-        holds(self.alpha(&ones) == UNREACHED, "said to be unjoined, and a pair is joined")?;
+        holds(self.alpha(&ones) == UNREACHED.length, "said to be unjoined, and a pair is joined")?;
         holds(self.answer[..7] == [0, 1, 1, 0, 1, 0, 0], "an unjoined answer has other numbers")?;
         let zeros = self.flow.iter().chain(&self.lengths).all(|number| *number == 0);
         holds(zeros, "an unjoined plan is not zero")
@@ -86,8 +86,9 @@ impl Plan {
     }
 
     fn alpha(&self, lengths: &[u64]) -> u64 {
-        let of = |pair: &Commodity| distances(&self.net, lengths, pair.sink)[pair.source as usize];
-        self.net.commodities.iter().map(of).min().unwrap_or(UNREACHED)
+        let to = |pair: &Commodity| distances(&self.net, lengths, pair.sink);
+        let of = |pair: &Commodity| to(pair)[pair.source as usize].length;
+        self.net.commodities.iter().map(of).min().unwrap_or(UNREACHED.length)
     }
 
     /// What leaves a node less what enters it, of one commodity.

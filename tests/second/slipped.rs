@@ -41,8 +41,7 @@ pub struct Run<'a> {
     pub last: Met,
 }
 
-/// For joined floors without a circle of arcs: over lengths of 0 the walk along
-/// a shortest path could run round one for ever.
+/// For joined floors. Lengths of 0 do no harm: each arc of a walk counts too.
 pub fn run(net: &Network, q: u64, slip: Slip) -> Run<'_> {
     let mut run = Run::new(net, q, slip);
     while !run.ended() {

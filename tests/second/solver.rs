@@ -1,15 +1,32 @@
-//! The second solver, plain form: written from document 01, step by step, with
-//! a Bellman-Ford search for every commodity at every iteration.
+//! The second solver, plain form: written from document 01 and the tie rule of
+//! request C-16, step by step, with a Bellman-Ford search for every commodity at
+//! every iteration.
 
 use crate::method::{
     fraction_below, fullest, grown, halved, start, threshold, weight, Bound, MARK,
 };
 use crate::network::{Network, Solution};
 
-pub const UNREACHED: u64 = u64::MAX;
+/// How far a node is from a sink: the least length of a path, and of the paths as
+/// short the fewest arcs. They are compared in this order.
+#[derive(Clone, Copy, PartialEq, Eq, PartialOrd, Ord)]
+pub struct Distance {
+    pub length: u64,
+    pub arcs: u64,
+}
+
+pub const HERE: Distance = Distance { length: 0, arcs: 0 };
+pub const UNREACHED: Distance = Distance { length: u64::MAX, arcs: u64::MAX };
+
+impl Distance {
+    /// With one arc of this length before it.
+    pub fn after(self, length: u64) -> Distance {
+        Distance { length: self.length + length, arcs: self.arcs + 1 }
+    }
+}
 
 /// Distances to one sink, by node.
-pub type Distances = [u64; 65];
+pub type Distances = [Distance; 65];
 
 /// The chosen commodity, its path as arc indices, and alpha.
 #[derive(Debug, PartialEq)]
@@ -47,13 +64,14 @@ pub fn solve_by(choose: fn(&Network, &[u64]) -> Option<Choice>, net: &Network, q
     run.solution()
 }
 
-/// The lowest-numbered commodity of least distance, and its first shortest path.
+/// The lowest-numbered commodity with a shortest path, by length alone; of its
+/// shortest paths those of fewest arcs, and of these the first.
 pub fn choose(net: &Network, lengths: &[u64]) -> Option<Choice> {
     let mut best: Option<(usize, Distances, u64)> = None;
     for (i, commodity) in net.commodities.iter().enumerate() {
         let distances = distances(net, lengths, commodity.sink);
-        let found = distances[commodity.source as usize];
-        let least = best.as_ref().map_or(UNREACHED, |(_, _, alpha)| *alpha);
+        let found = distances[commodity.source as usize].length;
+        let least = best.as_ref().map_or(UNREACHED.length, |(_, _, alpha)| *alpha);
         if found < least {
             best = Some((i, distances, found));
         }
@@ -63,10 +81,10 @@ pub fn choose(net: &Network, lengths: &[u64]) -> Option<Choice> {
     Some(Choice { commodity, path, alpha })
 }
 
-/// The least length of any path from each node to the sink, by Bellman-Ford.
+/// The distance from each node to the sink, by Bellman-Ford.
 pub fn distances(net: &Network, lengths: &[u64], sink: u64) -> Distances {
     let mut distances = [UNREACHED; 65];
-    distances[sink as usize] = 0;
+    distances[sink as usize] = HERE;
     while relax_all(net, lengths, &mut distances) {}
     distances
 }
@@ -76,16 +94,16 @@ fn relax_all(net: &Network, lengths: &[u64], distances: &mut Distances) -> bool 
     for (arc, length) in net.arcs.iter().zip(lengths) {
         let onward = distances[arc.head as usize];
         let tail = &mut distances[arc.tail as usize];
-        if onward != UNREACHED && length + onward < *tail {
-            *tail = length + onward;
+        if onward != UNREACHED && onward.after(*length) < *tail {
+            *tail = onward.after(*length);
             changed = true;
         }
     }
     changed
 }
 
-/// Taking the lowest-numbered arc that lies on some shortest path, node after
-/// node, gives the path whose arc numbers come first in dictionary order.
+/// Taking the lowest-numbered arc that lies on some shortest path of fewest arcs,
+/// node after node, gives the one whose arc numbers come first in dictionary order.
 fn first_path(net: &Network, lengths: &[u64], distances: &Distances, i: usize) -> Vec<usize> {
     let mut path = Vec::new();
     let mut node = net.commodities[i].source;
@@ -102,7 +120,7 @@ fn tight(net: &Network, lengths: &[u64], distances: &Distances, node: u64, e: us
     let onward = distances[net.arcs[e].head as usize];
     net.arcs[e].tail == node
         && onward != UNREACHED
-        && lengths[e] + onward == distances[node as usize]
+        && onward.after(lengths[e]) == distances[node as usize]
 }
 
 impl<'a> Run<'a> {

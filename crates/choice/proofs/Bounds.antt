@@ -1,4 +1,4 @@
--- Bounds below distances: they stay so while lengths grow, and they rise to the distances that are searched for.
+-- Bounds below the lengths of paths: they stay so while lengths grow, and they rise to the lengths in the distances that are searched for.
 -- Assumes nothing.
 use mathlib.Core.Path.{_≡_, refl, _∙_}
 use mathlib.Core.Bool.{Bool, true, false}
@@ -12,16 +12,14 @@ use lib.Dec.{eqb}
 use lib.ListN.{getD, replicate, length-replicate}
 use Rattle.arith.proofs.Lists.{all-replicate}
 use Rattle.arith.proofs.Order.{le-or-lt}
-use Rattle.network.specs.Ends.{Ends, Positive}
+use Rattle.network.specs.Ends.{Ends}
 use Rattle.network.specs.Network.{Network, commodities, source, sink}
 use Rattle.network.specs.Path.{Path, pathLength}
 use Rattle.choice.specs.Below.{Below}
-use Rattle.paths.specs.Far.{far}
+use Rattle.paths.specs.Far.{farLength, far}
 use Rattle.paths.specs.Graph.{Table}
+use Rattle.paths.specs.Key.{lengthOf}
 use Rattle.choice.specs.Raised.{Raised}
-use Rattle.paths.proofs.Descent.{distance-path}
-use Rattle.paths.proofs.Lower.{distance-lower}
-use Rattle.paths.proofs.Walks.{walk-path, walk-length}
 
 -- A path is no shorter by greater lengths.
 pathLength-grown : (l m : List ℕ) → ((e : ℕ) → getD l e 0 ≤ getD m e 0) → (p : List ℕ) → pathLength l p ≤ pathLength m p
@@ -39,30 +37,25 @@ pub below-zero : (net : Network) (l : List ℕ) {n : ℕ} → n ≡ commodities 
 below-zero net l {n} q =
     record {
       each = length-replicate n 0 ∙ q;
-      capped = λ i b. all-replicate (λ x. x ≤ far) 0 n (omega arith) i;
+      capped = λ i b. all-replicate (λ x. x ≤ farLength) 0 n (omega arith) i;
       lower = λ i b p r. all-replicate (λ x. x ≤ pathLength l p) 0 n (omega arith) i;
     }
 
-module _ {net : Network} {l d old new : List ℕ} {t : ℕ} (ends : Ends net) (pos : Positive net l) (T : Table net l d t far)
+module _ {net : Network} {l d old new : List ℕ} {t : ℕ} (ends : Ends net) (T : Table net l d t far)
     (B : Below net l old) (R : Raised (net .sources) (net .sinks) t d old new (commodities net)) where
-  -- A distance is not below the bound: below the cap it is the length of a path, and at the cap no bound is above it.
-  bound-le : (i : ℕ) → i < commodities net → sink net i ≡ t → getD old i 0 ≤ getD d (source net i) 0
+  -- The length in a distance is not below the bound: below the cap it is that of a path, and at the cap no bound is above it.
+  bound-le : (i : ℕ) → i < commodities net → sink net i ≡ t → getD old i 0 ≤ lengthOf (getD d (source net i) 0)
   bound-le i b q =
       ⊎-elim
       (λ (h : far ≤ getD d (source net i) 0). omega (arith, B .capped i b))
       (λ (h : getD d (source net i) 0 < far).
-      let D = T .distances in
-      let w = distance-path ends D pos (source net i) (ends .sources i b) h in
-      omega (
-        arith,
-        B .lower i b (w .0) (rw q (walk-path (w .1))),
-        walk-length (D .sink) (w .1),
-      ))
+      let w = T .tells (source net i) (ends .sources i b) .some-path h in
+      omega (arith, B .lower i b (w .0) (rw q (w .1)), w .2))
       (le-or-lt far (getD d (source net i) 0))
 
-  -- A bound is raised to the distance where the sink is shared, and left where it is not.
+  -- A bound is raised to that length where the sink is shared, and left where it is not.
   by-sink :
-      (P : ℕ → ℕ → Type 0) → ((i : ℕ) → i < commodities net → sink net i ≡ t → P i (getD d (source net i) 0)) →
+      (P : ℕ → ℕ → Type 0) → ((i : ℕ) → i < commodities net → sink net i ≡ t → P i (lengthOf (getD d (source net i) 0))) →
       ((i : ℕ) → i < commodities net → P i (getD old i 0)) → (i : ℕ) → i < commodities net → P i (getD new i 0)
   by-sink P shared other i b = by-test (eqb (sink net i) t) refl
     where
@@ -74,12 +67,12 @@ module _ {net : Network} {l d old new : List ℕ} {t : ℕ} (ends : Ends net) (p
   pub bounds-rise : (i : ℕ) → i < commodities net → getD old i 0 ≤ getD new i 0
   bounds-rise = by-sink (λ i x. getD old i 0 ≤ x) bound-le (λ i b. le-refl (getD old i 0))
 
-  -- and they are still below the distances.
+  -- and they are still below the lengths of the paths.
   pub below-raised : Below net l new
   below-raised =
       record {
         each = R .size ∙ B .each;
-        capped = by-sink (λ i x. x ≤ far) (λ i b q. T .capped (source net i) (ends .sources i b .1)) (B .capped);
+        capped = by-sink (λ i x. x ≤ farLength) (λ i b q. omega (arith, T .capped (source net i) (ends .sources i b .1))) (B .capped);
         lower = by-sink (λ i x. (p : List ℕ) → Path net (source net i) (sink net i) p → x ≤ pathLength l p)
-            (λ i b q p r. distance-lower (T .distances) (source net i) p (rw q at r)) (B .lower);
+            (λ i b q p r. T .tells (source net i) (ends .sources i b) .shortest p (rw q at r)) (B .lower);
       }

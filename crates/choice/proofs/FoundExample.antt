@@ -17,11 +17,13 @@ use Rattle.network.proofs.Accepted.{accepted-sound}
 use Rattle.network.proofs.Sounds.{sound-ends}
 use Rattle.method.specs.Choice.{choiceOf, choice}
 use Rattle.choice.specs.Closest.{Closest}
-use Rattle.paths.specs.Far.{far}
+use Rattle.paths.specs.Far.{farLength, far}
+use Rattle.paths.specs.Key.{lengthOf}
 use Rattle.paths.specs.Graph.{Table}
 use Rattle.choice.specs.Raised.{Raised}
 use Rattle.choice.proofs.Bounds.{below-zero, below-raised}
 use Rattle.choice.proofs.Found.{closest-none, closest-choice}
+use Rattle.paths.proofs.Telling.{distance-tells}
 use Rattle.paths.proofs.WalkExample.{floor, lengths, near, away, bounded, to-3, to-1, walk}
 
 -- Twice the commodity from 1 to 3.
@@ -54,6 +56,7 @@ table-3 : Table twice lengths near 3 far
 table-3 =
     record {
       distances = to-3 _ _;
+      tells = distance-tells (ends twice (accepted .0)) (omega arith) (to-3 _ _);
       capped = λ v b. four (λ v. getD near v 0 ≤ far) (omega arith) (omega arith) (omega arith) (omega arith) v (omega arith);
     }
 
@@ -61,6 +64,7 @@ table-1 : Table parted lengths away 1 far
 table-1 =
     record {
       distances = to-1 _ _;
+      tells = distance-tells (ends parted (accepted .1)) (omega arith) (to-1 _ _);
       capped = λ v b. four (λ v. getD away v 0 ≤ far) (omega arith) (omega arith) (omega arith) (omega arith) v (omega arith);
     }
 
@@ -69,7 +73,7 @@ raised-3 : Raised (1 ∷ 1 ∷ []) (3 ∷ 3 ∷ []) 3 near (0 ∷ 0 ∷ []) (2 �
 raised-3 =
     record {
       size = refl;
-      shared = two (λ i. _≡_ {A = ℕ} (getD (3 ∷ 3 ∷ []) i 0) 3 → _≡_ {A = ℕ} (getD (2 ∷ 2 ∷ []) i 0) (getD near (getD (1 ∷ 1 ∷ []) i 0) 0)) (λ q. refl) (λ q. refl);
+      shared = two (λ i. _≡_ {A = ℕ} (getD (3 ∷ 3 ∷ []) i 0) 3 → _≡_ {A = ℕ} (getD (2 ∷ 2 ∷ []) i 0) (lengthOf (getD near (getD (1 ∷ 1 ∷ []) i 0) 0))) (λ q. refl) (λ q. refl);
       others = others;
     }
   where
@@ -78,15 +82,15 @@ raised-3 =
     others (suc zero) n = absurd (n refl)
     others (suc (suc i)) n = refl
 
-raised-1 : Raised (3 ∷ []) (1 ∷ []) 1 away (0 ∷ []) (far ∷ []) 1
+raised-1 : Raised (3 ∷ []) (1 ∷ []) 1 away (0 ∷ []) (farLength ∷ []) 1
 raised-1 =
     record {
       size = refl;
-      shared = one (λ i. _≡_ {A = ℕ} (getD (1 ∷ []) i 0) 1 → _≡_ {A = ℕ} (getD (far ∷ []) i 0) (getD away (getD (3 ∷ []) i 0) 0)) (λ q. refl);
+      shared = one (λ i. _≡_ {A = ℕ} (getD (1 ∷ []) i 0) 1 → _≡_ {A = ℕ} (getD (farLength ∷ []) i 0) (lengthOf (getD away (getD (3 ∷ []) i 0) 0))) (λ q. refl);
       others = others;
     }
   where
-    others : (i : ℕ) → (_≡_ {A = ℕ} (getD (1 ∷ []) i 0) 1 → ⊥) → _≡_ {A = ℕ} (getD (far ∷ []) i 0) (getD (0 ∷ []) i 0)
+    others : (i : ℕ) → (_≡_ {A = ℕ} (getD (1 ∷ []) i 0) 1 → ⊥) → _≡_ {A = ℕ} (getD (farLength ∷ []) i 0) (getD (0 ∷ []) i 0)
     others zero n = absurd (n refl)
     others (suc i) n = refl
 
@@ -100,26 +104,26 @@ closest =
             least = two (λ j. 2 ≤ getD (2 ∷ 2 ∷ []) j 0) (omega arith) (omega arith);
             lowest = λ j b. absurd (omega arith);
           };
-      below = below-raised (ends twice (accepted .0)) (λ e b. bounded e b .0) table-3 (below-zero twice lengths {n = 2} refl) raised-3;
+      below = below-raised (ends twice (accepted .0)) table-3 (below-zero twice lengths {n = 2} refl) raised-3;
       table = table-3;
       own = refl;
     }
 
--- and it is chosen, with the path whose first arc is lower.
-found : (choice twice lengths ≡ some (choiceOf 0 (0 ∷ 1 ∷ []))) × (pathLength lengths (0 ∷ 1 ∷ []) ≡ 2)
-found = closest-choice closest (ends twice (accepted .0)) (λ e b. bounded e b .0) (walk _ _)
+-- and it is chosen, with the path of one arc.
+found : (choice twice lengths ≡ some (choiceOf 0 (2 ∷ []))) × (pathLength lengths (2 ∷ []) ≡ 2)
+found = closest-choice closest (ends twice (accepted .0)) (omega arith) (walk _ _)
 
 -- The only bound is far,
-alone : Closest parted lengths (far ∷ []) away 0
+alone : Closest parted lengths (farLength ∷ []) away 0
 alone =
     record {
       least =
-          record { among = omega arith; least = one (λ j. far ≤ getD (far ∷ []) j 0) (omega arith); lowest = λ j b. absurd (omega arith) };
-      below = below-raised (ends parted (accepted .1)) (λ e b. bounded e b .0) table-1 (below-zero parted lengths {n = 1} refl) raised-1;
+          record { among = omega arith; least = one (λ j. farLength ≤ getD (farLength ∷ []) j 0) (omega arith); lowest = λ j b. absurd (omega arith) };
+      below = below-raised (ends parted (accepted .1)) table-1 (below-zero parted lengths {n = 1} refl) raised-1;
       table = table-1;
       own = refl;
     }
 
 -- so nothing is chosen.
 not-found : choice parted lengths ≡ none
-not-found = closest-none alone (ends parted (accepted .1)) bounded (omega arith) (omega arith)
+not-found = closest-none alone (ends parted (accepted .1)) (omega arith) bounded (omega arith)

@@ -9,6 +9,7 @@ use Rattle.bounds.specs.Bounds.{mostCommodities}
 use Rattle.network.specs.Network.{Network, commodities}
 use Rattle.packed.specs.Packed.{part, put}
 use Rattle.packed.specs.declared.Shape.{Shape}
+use Rattle.paths.specs.Key.{lengthOf}
 use Rattle.packed.proofs.Columns.{part-at, part-length, part-put, part-before, put-length}
 use Rattle.choice.specs.Memory.{distancesFrom, distanceNumbers, memoryNumbers, distancesIn, Memory}
 use Rattle.choice.specs.Raised.{Raised, RaisedIn, Raising}
@@ -36,9 +37,9 @@ module _ {sources sinks : List ℕ} {t : ℕ} {old : List ℕ} where
 
     pub raised-in-shared :
         Raising sources sinks old → getD sinks i 0 ≡ t →
-        RaisedIn sources sinks t old (set new (0 + i) (getD new (distancesFrom + getD sources i 0) 0)) (i + 1)
+        RaisedIn sources sinks t old (set new (0 + i) (lengthOf (getD new (distancesFrom + getD sources i 0) 0))) (i + 1)
     raised-in-shared A q =
-        let x : ℕ = getD new (distancesFrom + getD sources i 0) 0 in
+        let x : ℕ = lengthOf (getD new (distancesFrom + getD sources i 0) 0) in
         let place : 0 + i ≡ i = omega arith in
         rw place (record {
           bounds =

@@ -7,6 +7,7 @@ use native.Mathlib.Omega.{arith}
 use borrow.Author.Count.{below-more}
 use lib.ListN.{length, getD, set, length-set}
 use lib.Seq.{getD-set-same, getD-set-other}
+use Rattle.paths.specs.Key.{lengthOf}
 use Rattle.choice.specs.Raised.{Raised}
 
 module _ {sources sinks : List ℕ} {t : ℕ} {d old : List ℕ} where
@@ -15,13 +16,13 @@ module _ {sources sinks : List ℕ} {t : ℕ} {d old : List ℕ} where
 
   -- Of the first k + 1 what is said of the first k, and of commodity k.
   module _ {new : List ℕ} {k : ℕ} (R : Raised sources sinks t d old new k) where
-    pub raised-shared : k < length new → getD sinks k 0 ≡ t → Raised sources sinks t d old (set new k (getD d (getD sources k 0) 0)) (k + 1)
+    pub raised-shared : k < length new → getD sinks k 0 ≡ t → Raised sources sinks t d old (set new k (lengthOf (getD d (getD sources k 0) 0))) (k + 1)
     raised-shared b q =
-        let x : ℕ = getD d (getD sources k 0) 0 in
+        let x : ℕ = lengthOf (getD d (getD sources k 0) 0) in
         record {
           size = length-set new k x ∙ R .size;
           shared =
-              below-more (λ i. getD sinks i 0 ≡ t → getD (set new k x) i 0 ≡ getD d (getD sources i 0) 0) k
+              below-more (λ i. getD sinks i 0 ≡ t → getD (set new k x) i 0 ≡ lengthOf (getD d (getD sources i 0) 0)) k
               (λ i c e. getD-set-other new k i x 0 (λ (s : i ≡ k). omega arith) ∙ R .shared i c e)
               (λ e. getD-set-same new k x 0 b);
           others = λ i n. getD-set-other new k i x 0 (λ (s : i ≡ k). n (rw s q)) ∙ R .others i n;
@@ -32,6 +33,6 @@ module _ {sources sinks : List ℕ} {t : ℕ} {d old : List ℕ} where
         record {
           size = R .size;
           shared =
-              below-more (λ i. getD sinks i 0 ≡ t → getD new i 0 ≡ getD d (getD sources i 0) 0) k (R .shared) (λ e. absurd (n e));
+              below-more (λ i. getD sinks i 0 ≡ t → getD new i 0 ≡ lengthOf (getD d (getD sources i 0) 0)) k (R .shared) (λ e. absurd (n e));
           others = R .others;
         }

@@ -17,8 +17,7 @@ use Rattle.choice.specs.Search.{Survey}
 pub sound-survey : {net : Network} {q : ℕ} {l : List ℕ} → Sound net q → Bounded net l → arcs net ≤ length l → Survey net l
 sound-survey {net} {q} sound bounds long =
     record {
-      fit = record { ends = sound-ends net q sound; lengths = long; small = λ e h. bounds e h .1; room = omega (arith, sound .counts .of-nodes .most) };
-      positive = λ e h. bounds e h .0;
+      fit = record { ends = sound-ends net q sound; lengths = long; small = bounds; room = omega (arith, sound .counts .of-nodes .most) };
       few = sound .counts .of-nodes .most;
       some = sound .counts .of-commodities .least;
     }
@@ -50,7 +49,6 @@ pair-survey =
             small = only (λ e. getD (1 ∷ []) e 0 < 2 ^ 40) (omega arith);
             room = omega arith;
           };
-      positive = only (λ e. 1 ≤ getD (1 ∷ []) e 0) (omega arith);
       few = omega arith;
       some = omega arith;
     }

@@ -10,7 +10,8 @@ use Rattle.network.specs.Network.{Network, source, sink}
 use Rattle.network.proofs.Paths.{path-some}
 use Rattle.choice.specs.Chose.{Chose}
 use Rattle.choice.specs.Closest.{Closest}
-use Rattle.paths.specs.Far.{far}
+use Rattle.paths.specs.Far.{farLength}
+use Rattle.paths.specs.Key.{arcsOf}
 use Rattle.index.specs.Index.{Out}
 use Rattle.choice.specs.Memory.{distanceNumbers}
 use Rattle.choice.specs.Search.{Survey}
@@ -19,29 +20,28 @@ use Rattle.choice.specs.declared.Selected.{Selected}
 use Rattle.choice.proofs.Found.{closest-none, closest-choice}
 use Rattle.paths.proofs.Walks.{walk-path}
 
--- What is selected: commodity i, r arcs, the distance x.
+-- What is selected: commodity i, r arcs, the length x.
 abbrev pub selected : ℕ → ℕ → ℕ → Selected
-selected i r x = record { commodity = i; arcs = r; distance = x }
+selected i r x = record { commodity = i; arcs = r; alpha = x }
 
 -- x is the least bound.
 module _ {net : Network} {l bounds d : List ℕ} {i x : ℕ} (H : Survey net l) (C : Closest net l bounds d i) (own : x ≡ getD bounds i 0) where
   -- Where the nearest is far, nothing is chosen.
-  pub selects-nothing : (r : ℕ) (path : List ℕ) → far ≤ x → Chose net l (selected i r x) path
+  pub selects-nothing : (r : ℕ) (path : List ℕ) → farLength ≤ x → Chose net l (selected i r x) path
   selects-nothing r path b =
       record {
         capped = rw own (C .below .capped i (C .least .among));
-        nothing = λ q. closest-none C (H .fit .ends) (λ e c. (H .positive e c, H .fit .small e c)) (H .few) (rw own at b);
+        nothing = λ q. closest-none C (H .fit .ends) (H .few) (H .fit .small) (rw own at b);
         something = λ c. absurd (omega arith);
       }
 
-  module _ (b : x < far) {u w : ℕ} (from : u ≡ source net i) (to : w ≡ sink net i) where
+  module _ (b : x < farLength) {u w : ℕ} (from : u ≡ source net i) (to : w ≡ sink net i) where
     -- Else the walk of the nearest can be taken, from its source u to its sink w,
     pub selects-walkable : {out : List ℕ} {room : ℕ} → length d ≡ distanceNumbers → Out net out → mostNodes ≤ room → Walkable net out l d u w room
     selects-walkable q index room =
         rw (from, to)
         (record {
           fit = rw q (H .fit);
-          positive = H .positive;
           table = C .table;
           index = index;
           source = H .fit .ends .sources i (C .least .among);
@@ -49,12 +49,12 @@ module _ {net : Network} {l bounds d : List ℕ} {i x : ℕ} (H : Survey net l) 
           places = omega (arith, room, H .few);
         })
 
-    -- and it is the choice.
-    pub selects-walk : (r : ℕ) (path : List ℕ) → Walked net l d u w r path → Chose net l (selected i r x) path
-    selects-walk r path walked =
+    -- and it is the choice, with the arcs that the distance of u tells.
+    pub selects-walk : (r : ℕ) (path : List ℕ) → r ≡ arcsOf (getD d u 0) → Walked net l d u w path → Chose net l (selected i r x) path
+    selects-walk r path count walked =
         let ends = H .fit .ends in
-        let walk = rw (from, to) at (walked .walk) in
-        let found = closest-choice C ends (H .positive) walk in
+        let walk = rw (← count, from, to) at walked in
+        let found = closest-choice C ends (H .few) walk in
         let arc = path-some net (source net i) (sink net i) (take r path) (ends .apart i (C .least .among)) (walk-path walk) in
         record {
           capped = rw own (C .below .capped i (C .least .among));
@@ -63,6 +63,6 @@ module _ {net : Network} {l bounds d : List ℕ} {i x : ℕ} (H : Survey net l) 
             chosen = found .0;
             alpha = found .1 ∙ sym own;
             some-arc = omega (arith, arc, length-take r path);
-            few-arcs = omega (arith, walked .few, H .few);
+            few-arcs = omega (arith, count);
           };
         }

@@ -9,13 +9,13 @@ use native.Mathlib.Omega.{arith}
 use lib.ListN.{getD}
 use Rattle.arith.specs.Sum.{sum}
 use Rattle.arith.proofs.Sums.{sum-lt}
-use Rattle.paths.specs.Far.{far}
+use Rattle.paths.specs.Far.{farLength}
 use Rattle.choice.specs.Least.{Least}
 use Rattle.choice.proofs.Leasts.{least-unique}
 
 -- How far the first k bounds are below the cap, in all.
 unfoldable pub slack : ℕ → List ℕ → ℕ
-slack k bounds = sum k (λ i. far - getD bounds i 0)
+slack k bounds = sum k (λ i. farLength - getD bounds i 0)
 
 module _ {old new : List ℕ} {k i : ℕ} (L : Least old k i) (rise : (j : ℕ) → j < k → getD old j 0 ≤ getD new j 0) where
   -- A least bound that has not risen is still the lowest of the least.
@@ -36,8 +36,8 @@ module _ {old new : List ℕ} {k i : ℕ} (L : Least old k i) (rise : (j : ℕ) 
       (eq-or-lt-of-le (rise i (L .among)))
 
   pub slack-falls :
-      {j : ℕ} → Least new k j → (j ≡ i → ⊥) → ((x : ℕ) → x < k → getD new x 0 ≤ far) → slack k new < slack k old
+      {j : ℕ} → Least new k j → (j ≡ i → ⊥) → ((x : ℕ) → x < k → getD new x 0 ≤ farLength) → slack k new < slack k old
   unfolding slack
   slack-falls J apart capped =
-      sum-lt k (λ x. far - getD new x 0) (λ x. far - getD old x 0) i (L .among) (λ x b. omega (arith, rise x b))
+      sum-lt k (λ x. farLength - getD new x 0) (λ x. farLength - getD old x 0) i (L .among) (λ x b. omega (arith, rise x b))
       (omega (arith, least-rises J apart, capped i (L .among)))

@@ -26,7 +26,7 @@ turned B L = record { below = B; least = rw (B .each) at L }
 module _ {net : Network} {l old new d : List ℕ} {i j : ℕ} (lent : Survey net l) (S : Turn net l old i)
     (T : Table net l d (sink net i) far) (R : Raised (net .sources) (net .sinks) (sink net i) d old new (commodities net)) where
   pub turn-next : Least new (length new) j → Turn net l new j
-  turn-next J = turned (below-raised (lent .fit .ends) (lent .positive) T (S .below) R) J
+  turn-next J = turned (below-raised (lent .fit .ends) T (S .below) R) J
 
   -- A commodity with the sink that was searched is of least bound: it is the nearest.
   pub turn-last : Least new (length new) j → sink net j ≡ sink net i → Closest net l new d j
@@ -45,7 +45,7 @@ module _ {net : Network} {l old new d : List ℕ} {i j : ℕ} (lent : Survey net
       let next = turn-next J in
       slack-falls
       (S .least)
-      (bounds-rise (lent .fit .ends) (lent .positive) T (S .below) R)
+      (bounds-rise (lent .fit .ends) T (S .below) R)
       (next .least)
       (λ e. apart (ap (sink net) e))
       (next .below .capped)

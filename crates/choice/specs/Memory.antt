@@ -25,7 +25,7 @@ distancesIn memory = part distancesFrom distanceNumbers memory
 abbrev pub memoryNumbers : ℕ
 memoryNumbers = 97
 
--- There is a place for each, and the bounds are below the distances by the lengths l.
+-- There is a place for each, and the bounds are below the paths by the lengths l.
 pub record Memory (s : Shape) (net : Network) (l memory : List ℕ) : Type 0 where
   pub places : memoryNumbers ≤ length memory
   pub below : Below net l (boundsIn s memory)

@@ -1,16 +1,17 @@
--- Bounds raised to the distances to one node: what that asks, and what it leaves.
+-- Bounds raised to the lengths in the distances to one node: what that asks, and what it leaves.
 use mathlib.Core.Path.{_≡_}
 use mathlib.Core.List.{List}
 use Prim.Native.Nat.{ℕ, _≤_, _<_}
 use lib.ListN.{length, getD}
 use Rattle.bounds.specs.Bounds.{mostNodes, mostCommodities}
 use Rattle.packed.specs.Packed.{part}
+use Rattle.paths.specs.Key.{lengthOf}
 use Rattle.choice.specs.Memory.{distancesIn, memoryNumbers}
 
--- Of the first k commodities those with sink t have the distance of their source as their bound; no other bound has changed.
+-- Of the first k commodities those with sink t have the length in the distance of their source as their bound; no other bound has changed.
 pub record Raised (sources sinks : List ℕ) (t : ℕ) (d old new : List ℕ) (k : ℕ) : Type 0 where
   pub size : length new ≡ length old
-  pub shared : (i : ℕ) → i < k → getD sinks i 0 ≡ t → getD new i 0 ≡ getD d (getD sources i 0) 0
+  pub shared : (i : ℕ) → i < k → getD sinks i 0 ≡ t → getD new i 0 ≡ lengthOf (getD d (getD sources i 0) 0)
   pub others : (i : ℕ) → (getD sinks i 0 ≡ t → ⊥) → getD new i 0 ≡ getD old i 0
 
 -- The same of a memory, whose distances stay.

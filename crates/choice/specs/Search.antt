@@ -2,14 +2,12 @@
 use mathlib.Core.List.{List}
 use Prim.Native.Nat.{ℕ, _≤_}
 use Rattle.bounds.specs.Bounds.{mostNodes}
-use Rattle.network.specs.Ends.{Positive}
 use Rattle.network.specs.Network.{Network, commodities}
 use Rattle.paths.specs.Graph.{Fit}
 use Rattle.choice.specs.Memory.{distanceNumbers}
 
--- The tables fit, lengths are at least 1, there are no more nodes than the cap allows, and some commodity.
+-- The tables fit, there are no more nodes than the cap allows, and some commodity.
 pub record Survey (net : Network) (l : List ℕ) : Type 0 where
   pub fit : Fit net l distanceNumbers
-  pub positive : Positive net l
   pub few : net .nodes ≤ mostNodes
   pub some : 1 ≤ commodities net

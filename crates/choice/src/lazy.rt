@@ -1,9 +1,11 @@
-// The nearest commodity, found lazily. Each commodity has a bound, a number that its distance is not below: lengths only grow, so a distance
-// found earlier is one. Only where the bound is the least is the distance searched for, and one search serves every commodity with that sink.
+// The nearest commodity, found lazily. Each commodity has a bound, a length that its paths are not below: lengths only grow, so that of its shortest
+// path earlier is one. Only where the bound is the least is the distance searched for, and one search serves every commodity with that sink. The
+// number of arcs, which a distance has beside the length, does not count between commodities.
 // Bounds and distances stand in one slice, which is remembered from choice to choice.
 use crate::BOUNDS;
 use crate::DISTANCE_NUMBERS;
 use crate::DISTANCES;
+use bounds::MOST_NODES;
 use packed::SINKS;
 use packed::SOURCES;
 use packed::Shape;
@@ -33,7 +35,7 @@ fn least(bounds: &[u64]) -> usize
     b
 }
 
-// The bounds of all commodities with this sink, raised to the distances of their sources.
+// The bounds of all commodities with this sink, raised to the lengths in the distances of their sources.
 fn raise(sources: &[u64], sinks: &[u64], sink: u64, memory: &mut [u64])
     requires { ⌜ Raising (now sources) (now sinks) (now memory) ⌝ }
     ensures { λ _. ⌜ RaisedIn (now (sources .entry)) (now (sinks .entry)) sink (now (memory .entry)) (now (memory .exit)) (length (now (sources .entry))) ⌝ }
@@ -42,14 +44,14 @@ fn raise(sources: &[u64], sinks: &[u64], sink: u64, memory: &mut [u64])
     while i < sources.len() {
         if sinks[i] == sink {
             let s = sources[i] as usize;
-            memory[BOUNDS + i] = memory[DISTANCES + s];
+            memory[BOUNDS + i] = memory[DISTANCES + s] / MOST_NODES;
         }
         i += 1;
     }
 }
 
 // The lowest-numbered commodity whose sink is nearest to its source; the distances to that sink are left in memory.
-// A commodity of least bound is searched. If one with the same sink is of least bound afterwards, its bound is its distance; else the search goes on.
+// A commodity of least bound is searched. If one with the same sink is of least bound afterwards, its bound is a path's length; else the search goes on.
 pub fn nearest(s: Shape, net: &[u64], into: &[u64], lengths: &[u64], memory: &mut [u64]) -> usize
     requires { ⌜ Surveying s (now net) (now into) (now lengths) (now memory) ⌝ }
     ensures { λ r. ⌜ Closest (netIn s (now (net .entry))) (now (lengths .entry)) (boundsIn s (now (memory .exit))) (distancesIn (now (memory .exit))) r ⌝ }

@@ -1,4 +1,4 @@
-// The path of an iteration: of all commodities the one whose sink is nearest to its source, and the first of its shortest paths.
+// The path of an iteration: of all commodities the one whose sink is nearest to its source, and of its shortest paths with fewest arcs the first.
 mod lazy;
 
 use crate::lazy::nearest;
@@ -8,7 +8,7 @@ use index::INDEX_NUMBERS;
 use packed::SINKS;
 use packed::SOURCES;
 use packed::Shape;
-use search::FAR;
+use search::FAR_LENGTH;
 use walk::walk;
 ghost use lib.ListN.{length};
 ghost use Rattle.packed.specs.Packed.{netIn};
@@ -36,11 +36,11 @@ pub const OUT: usize = INDEX_NUMBERS;
 
 pub const INDEXES_NUMBERS: usize = 2 * INDEX_NUMBERS;
 
-// What is chosen: the commodity, how many arcs its path has, and how long it is; the distance is FAR where no commodity is joined.
+// What is chosen: the commodity, how many arcs its path has, and alpha, its length; that is FAR_LENGTH where no commodity is joined.
 pub struct Selected {
     pub commodity: usize,
     pub arcs: usize,
-    pub distance: u64,
+    pub alpha: u64,
 }
 
 // The choice of an iteration. The path's arcs are the first entries of path. The memory may be used again while lengths only grow.
@@ -62,17 +62,17 @@ pub fn choose(
         lengths,
         memory,
     );
-    let distance = memory[BOUNDS + i];
-    if distance >= FAR {
+    let alpha = memory[BOUNDS + i];
+    if alpha >= FAR_LENGTH {
         return Selected {
             commodity: i,
             arcs: 0,
-            distance,
+            alpha,
         };
     }
     let source = net[SOURCES + i];
     let sink = net[SINKS + i];
-    let arcs = walk(
+    walk(
         s,
         net,
         &indexes[OUT..OUT + INDEX_NUMBERS],
@@ -82,9 +82,10 @@ pub fn choose(
         sink,
         path,
     );
+    let arcs = memory[DISTANCES + source as usize] % MOST_NODES;
     Selected {
         commodity: i,
-        arcs,
-        distance,
+        arcs: arcs as usize,
+        alpha,
     }
 }

@@ -1,4 +1,4 @@
--- The candidates of the choice: exactly the listed paths of each commodity, lower commodities first, and of one commodity in dictionary order.
+-- The candidates of the choice: exactly the listed paths of each commodity, lower commodities first, and of one commodity in their order.
 -- Assumes nothing.
 use mathlib.Core.Path.{_≡_, refl, ap, subst}
 use mathlib.Core.List.{List, map}
@@ -13,20 +13,19 @@ use Rattle.arith.proofs.Sorted.{Sorted, sorted-map, sorted-flat, sorted-upFrom}
 use Rattle.network.specs.Network.{Network, commodities, source, sink}
 use Rattle.network.specs.Path.{Path}
 use Rattle.method.specs.Choice.{Choice, choiceOf, paths, candidates}
-use Rattle.method.specs.Order.{Before}
 use Rattle.method.proofs.Listed.{member-path, path-member, paths-sorted}
-use Rattle.method.proofs.Orders.{before-not-after}
+use Rattle.method.proofs.Orders.{Ahead, ahead-not-behind}
 
--- A choice is earlier than another: a lower commodity, or the same and a path before the other's.
+-- A choice is earlier than another: a lower commodity, or the same and a path ahead of the other's.
 pub data Earlier (c d : Choice) : Type 0 where
   lower : c .commodity < d .commodity → Earlier c d
-  before : c .commodity ≡ d .commodity → Before (c .path) (d .path) → Earlier c d
+  ahead : c .commodity ≡ d .commodity → Ahead (c .path) (d .path) → Earlier c d
 
 pub earlier-not-later : (c d : Choice) → Earlier c d → Earlier d c → ⊥
 earlier-not-later c d (lower a) (lower b) = omega arith
-earlier-not-later c d (lower a) (before b k) = omega arith
-earlier-not-later c d (before a h) (lower b) = omega arith
-earlier-not-later c d (before a h) (before b k) = before-not-after h k
+earlier-not-later c d (lower a) (ahead b k) = omega arith
+earlier-not-later c d (ahead a h) (lower b) = omega arith
+earlier-not-later c d (ahead a h) (ahead b k) = ahead-not-behind h k
 
 -- A commodity of the network with a path for it, of at most as many arcs as there are nodes.
 pub record Candidate (net : Network) (c : Choice) : Type 0 where
@@ -67,6 +66,6 @@ module _ (net : Network) where
   candidates-sorted =
       sorted-flat
       of
-      (λ i. sorted-map (choiceOf i) (λ p q b. before refl b) (paths-sorted net (source net i) (sink net i)))
+      (λ i. sorted-map (choiceOf i) (λ p q b. ahead refl b) (paths-sorted net (source net i) (sink net i)))
       (λ i j c d l a b. lower (omega (arith, of-commodity i c a, of-commodity j d b)))
       (sorted-upFrom _ _)

@@ -1,4 +1,5 @@
--- Document 01's worked runs, computed from the definitions: the figures of its listing and of "Run by a program", and an unjoined network.
+-- Document 01's worked runs, computed from the definitions: the figures of its listing and of "Run by a program", a run in which the number of belts
+-- decides between equal routes, and an unjoined network.
 -- Assumes nothing.
 use mathlib.Core.Path.{_≡_}
 use mathlib.Core.Bool.{Bool, true, _&&_}
@@ -67,6 +68,13 @@ rows =
       figures =
           274 ∷ 4 ∷ 128 ∷ 5017645813062 ∷ 542101086249 ∷ 90 ∷ 90 ∷ 0 ∷ 128 ∷ 0 ∷ 0 ∷ 56 ∷ 0 ∷ 0 ∷ 90 ∷ 0 ∷ 0 ∷ 1073741824 ∷
           542101086249 ∷ 578241158712 ∷ 2147483648 ∷ 555111512317 ∷ [];
+    } ∷
+    -- from station 1 to 3 two belts or one, equally long at first, and then one for both; the figures are a second solver's
+    record {
+      network = net 4 (1 ∷ 2 ∷ 1 ∷ 3 ∷ []) (2 ∷ 3 ∷ 3 ∷ 4 ∷ []) (4 ∷ 4 ∷ 2 ∷ 4 ∷ []) (1 ∷ []) (4 ∷ []);
+      figures =
+          114 ∷ 4 ∷ 114 ∷ 5403483390422 ∷ 1231661558051 ∷ 38 ∷ 37 ∷ 76 ∷ 76 ∷ 38 ∷ 114 ∷ 119209289553 ∷ 119209289553 ∷ 238418579103 ∷
+          993242978948 ∷ [];
     } ∷
     -- no pair joined: zeros, and the bound 0 over 1
     record {

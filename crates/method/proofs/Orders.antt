@@ -1,10 +1,11 @@
--- Dictionary order is an order: of two lists exactly one is before the other, or they are the same.
+-- Dictionary order is an order: of two lists exactly one is before the other, or they are the same; and the order by number of arcs first.
 -- Assumes nothing.
 use mathlib.Core.Path.{_≡_, refl, sym, ap₂, _∙_}
 use mathlib.Core.List.{List, [], _∷_}
-use Prim.Native.Nat.{ℕ}
+use Prim.Native.Nat.{ℕ, _<_}
 use native.Mathlib.Nat.{lt-trans}
 use native.Mathlib.Omega.{arith}
+use lib.ListN.{length}
 use Rattle.arith.proofs.Order.{Compared, below, equal, above, compare}
 use Rattle.method.specs.Order.{Before, ends, smaller, agrees}
 
@@ -40,3 +41,18 @@ ordered (d ∷ p) (e ∷ q) = by-first (compare d e) (ordered p q)
     by-first (equal a) (earlier h) = earlier (agrees a h)
     by-first (equal a) (same b) = same (ap₂ {C = List ℕ} (λ x l. x ∷ l) a b)
     by-first (equal a) (later h) = later (agrees (sym a) h)
+
+-- Fewer numbers, or as many and before in dictionary order.
+pub data Ahead (p q : List ℕ) : Type 0 where
+  fewer : length p < length q → Ahead p q
+  as-many : length p ≡ length q → Before p q → Ahead p q
+
+pub ahead-cons : {p q : List ℕ} (e : ℕ) → Ahead p q → Ahead (e ∷ p) (e ∷ q)
+ahead-cons e (fewer b) = fewer (omega arith)
+ahead-cons e (as-many s b) = as-many (omega arith) (agrees refl b)
+
+pub ahead-not-behind : {p q : List ℕ} → Ahead p q → Ahead q p → ⊥
+ahead-not-behind (fewer a) (fewer b) = omega arith
+ahead-not-behind (fewer a) (as-many s b) = omega arith
+ahead-not-behind (as-many r a) (fewer b) = omega arith
+ahead-not-behind (as-many r a) (as-many s b) = before-not-after a b

@@ -15,7 +15,6 @@ use Rattle.arith.proofs.Exists.{exists-false}
 use Rattle.arith.proofs.Ranges.{getD-map-upTo, length-map-upTo}
 use Rattle.length.specs.Level.{level, threshold}
 use Rattle.length.specs.Length.{scale, mark, start, halving}
-use Rattle.network.specs.Ends.{Positive}
 use Rattle.network.specs.Network.{Network, arcs, capacity, source, sink}
 use Rattle.network.specs.Path.{pathLength}
 use Rattle.network.specs.Sound.{Sound}
@@ -58,12 +57,12 @@ pub record Reached (net : Network) (q : ℕ) (s : State) : Type 0 where
   pub below : packing.Below (arcs net) q (level (arcs net) q) (capacity net) (seen s)
 
 module _ (net : Network) (q : ℕ) (sound : Sound net q) where
-  positive : (s : State) → Valid net q s → Positive net (s .lengths)
+  positive : (s : State) → Valid net q s → (e : ℕ) → e < arcs net → 1 ≤ getD (s .lengths) e 0
   unfolding seen
   positive s v e l = length-pos (program net q sound) (v .run) e l
 
   pub chosen-at : (s : State) → Valid net q s → (c : Choice) → choice net (s .lengths) ≡ some c → Chosen net (s .lengths) c
-  chosen-at s v c h = chosen net (s .lengths) (sound-ends net q sound) (positive s v) c h
+  chosen-at s v c h = chosen net (s .lengths) (sound-ends net q sound) c h
 
   whole : (caps p : List ℕ) → 1 ≤ length p → At caps p (draw caps p)
   whole caps [] h = absurd (omega arith)

@@ -1,12 +1,10 @@
--- A worked choice in which both rules for ties decide, and an instance of what the theorem on the choice asks for: nothing is proved of nothing.
+-- Worked choices in which each rule for ties decides, and an instance of what the theorem on the choice asks for: nothing is proved of nothing.
 -- Assumes nothing.
 use mathlib.Core.Path.{_≡_, refl}
 use mathlib.Core.Option.{some, bind}
 use mathlib.Core.List.{List, [], _∷_}
-use Prim.Native.Nat.{ℕ, zero, suc}
-use native.Mathlib.Omega.{arith}
+use Prim.Native.Nat.{ℕ}
 use Rattle.arith.specs.Lists.{upFrom, upTo, flat, keep}
-use Rattle.network.specs.Ends.{Positive}
 use Rattle.network.specs.Network.{Network}
 use Rattle.network.specs.Path.{leads, follow, pathLength}
 use Rattle.network.specs.Sound.{Sound}
@@ -18,41 +16,43 @@ use Rattle.method.specs.Choice.{choiceOf, words, endsAt, paths, candidat
 use Rattle.method.specs.Chosen.{Chosen}
 use Rattle.method.proofs.Choosing.{chosen}
 
--- Arcs 1 to 2, 2 to 3 and 1 to 3, and twice the commodity from 1 to 3.
-pub floor : Network
-floor =
+-- Arcs 1 to 2, 2 to 3, twice 1 to 3, and 3 to 1; and commodities from ss to ts.
+abbrev pub floor : List ℕ → List ℕ → Network
+floor ss ts =
     record {
       nodes = 3;
-      tails = 1 ∷ 2 ∷ 1 ∷ [];
-      heads = 2 ∷ 3 ∷ 3 ∷ [];
-      capacities = 1 ∷ 1 ∷ 1 ∷ [];
-      sources = 1 ∷ 1 ∷ [];
-      sinks = 3 ∷ 3 ∷ [];
+      tails = 1 ∷ 2 ∷ 1 ∷ 1 ∷ 3 ∷ [];
+      heads = 2 ∷ 3 ∷ 3 ∷ 3 ∷ 1 ∷ [];
+      capacities = 1 ∷ 1 ∷ 1 ∷ 1 ∷ 1 ∷ [];
+      sources = ss;
+      sinks = ts;
     }
 
--- By these the path over node 2 and the straight arc are equally long.
-lengths : List ℕ
-lengths = 1 ∷ 1 ∷ 2 ∷ []
+-- Of the commodity from 1 to 3 twice, the lower; and its path is the straight arc, as the path over node 2 is as long but has two arcs. Of the
+-- two straight arcs it is the lower.
+abbrev twice : Network
+twice = floor (1 ∷ 1 ∷ []) (3 ∷ 3 ∷ [])
 
--- The lower commodity, and the path whose first arc is lower.
-tied : choice floor lengths ≡ some (choiceOf 0 (0 ∷ 1 ∷ []))
-unfolding floor lengths upFrom upTo flat keep leads follow bind pathLength words endsAt paths candidates sooner least choice
+-- By these all three paths are equally long,
+lengths : List ℕ
+lengths = 1 ∷ 1 ∷ 2 ∷ 2 ∷ 2 ∷ []
+
+tied : choice twice lengths ≡ some (choiceOf 0 (2 ∷ []))
+unfolding lengths upFrom upTo flat keep leads follow bind pathLength words endsAt paths candidates sooner least choice
 tied = refl
 
+-- and by these the path over node 2 is as long as the arc from 3 to 1: the lower commodity is chosen though its path has more arcs.
+lower : choice (floor (1 ∷ 3 ∷ []) (3 ∷ 1 ∷ [])) (1 ∷ 1 ∷ 3 ∷ 3 ∷ 2 ∷ []) ≡ some (choiceOf 0 (0 ∷ 1 ∷ []))
+unfolding upFrom upTo flat keep leads follow bind pathLength words endsAt paths candidates sooner least choice
+lower = refl
+
 -- The network is accepted at precision 4.
-accepted : verdictOn floor 4 [] ≡ Accepted
-unfolding floor upFrom upTo flat verdict outside loose sizeConditions arcConditions commodityConditions itemConditions verdictOn
+accepted : verdictOn twice 4 [] ≡ Accepted
+unfolding upFrom upTo flat verdict outside loose sizeConditions arcConditions commodityConditions itemConditions verdictOn
 accepted = refl
 
-pub sound : Sound floor 4
-sound = accepted-sound floor 4 [] accepted .0
+pub sound : Sound twice 4
+sound = accepted-sound twice 4 [] accepted .0
 
-positive : Positive floor lengths
-unfolding floor lengths
-positive zero l = omega arith
-positive (suc zero) l = omega arith
-positive (suc (suc zero)) l = omega arith
-positive (suc (suc (suc e))) l = absurd (omega arith)
-
-tied-chosen : Chosen floor lengths (choiceOf 0 (0 ∷ 1 ∷ []))
-tied-chosen = chosen floor lengths (sound-ends floor 4 sound) positive (choiceOf 0 (0 ∷ 1 ∷ [])) tied
+tied-chosen : Chosen twice lengths (choiceOf 0 (2 ∷ []))
+tied-chosen = chosen twice lengths (sound-ends twice 4 sound) (choiceOf 0 (2 ∷ [])) tied

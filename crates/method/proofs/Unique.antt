@@ -3,12 +3,14 @@
 use mathlib.Core.Path.{_≡_, sym, ap₂, subst}
 use mathlib.Core.Option.{some}
 use mathlib.Core.List.{List}
-use Prim.Native.Nat.{ℕ, _<_}
+use Prim.Native.Nat.{ℕ, _≤_, _<_}
+use native.Mathlib.Nat.{le-antisymm}
 use native.Mathlib.Omega.{arith}
+use lib.ListN.{length}
 use Rattle.arith.proofs.Order.{Compared, below, equal, above, compare}
-use Rattle.network.specs.Ends.{Ends, Positive}
+use Rattle.network.specs.Ends.{Ends}
 use Rattle.network.specs.Network.{Network, source, sink}
-use Rattle.network.specs.Path.{Path}
+use Rattle.network.specs.Path.{Path, pathLength}
 use Rattle.method.specs.Choice.{Choice, choiceOf, choice}
 use Rattle.method.specs.Chosen.{Chosen}
 use Rattle.method.specs.Order.{Before}
@@ -21,28 +23,42 @@ module _ (net : Network) (l : List ℕ) where
     not-lower : c .commodity < d .commodity → ⊥
     not-lower b = omega (arith, y .lowest (c .commodity) (c .path) b (x .path), x .shortest (d .commodity) (d .path) (y .commodity) (y .path))
 
-    not-before : c .commodity ≡ d .commodity → Before (c .path) (d .path) → ⊥
-    not-before q b =
-        omega (
-          arith,
-          y .first (c .path) (subst (λ (i : ℕ). Path net (source net i) (sink net i) (c .path)) q (x .path)) b,
-          x .shortest (d .commodity) (d .path) (y .commodity) (y .path),
-        )
+    -- Of one commodity neither is shorter,
+    as-short : pathLength l (c .path) ≡ pathLength l (d .path)
+    as-short =
+        le-antisymm
+        (x .shortest (d .commodity) (d .path) (y .commodity) (y .path))
+        (y .shortest (c .commodity) (c .path) (x .commodity) (x .path))
+
+    module _ (q : c .commodity ≡ d .commodity) where
+      there : Path net (source net (d .commodity)) (sink net (d .commodity)) (c .path)
+      there = subst (λ (i : ℕ). Path net (source net i) (sink net i) (c .path)) q (x .path)
+
+      -- nor has more arcs,
+      no-more : length (d .path) ≤ length (c .path)
+      no-more = y .fewest (c .path) there as-short
+
+      -- so neither is before the other.
+      not-before : length (c .path) ≡ length (d .path) → Before (c .path) (d .path) → ⊥
+      not-before e b = y .first (c .path) there as-short e b
 
   pub chosen-unique : (c d : Choice) → Chosen net l c → Chosen net l d → c ≡ d
   chosen-unique c d x y = by-commodity (compare (c .commodity) (d .commodity))
     where
+      as-many : c .commodity ≡ d .commodity → length (c .path) ≡ length (d .path)
+      as-many q = le-antisymm (no-more d c y x (sym q)) (no-more c d x y q)
+
       by-path : c .commodity ≡ d .commodity → Ordered (c .path) (d .path) → c ≡ d
-      by-path q (earlier b) = absurd (not-before c d x y q b)
+      by-path q (earlier b) = absurd (not-before c d x y q (as-many q) b)
       by-path q (same e) = ap₂ choiceOf q e
-      by-path q (later b) = absurd (not-before d c y x (sym q) b)
+      by-path q (later b) = absurd (not-before d c y x (sym q) (sym (as-many q)) b)
 
       by-commodity : Compared (c .commodity) (d .commodity) → c ≡ d
       by-commodity (below b) = absurd (not-lower c d x y b)
       by-commodity (equal q) = by-path q (ordered (c .path) (d .path))
       by-commodity (above b) = absurd (not-lower d c y x b)
 
-  pub chosen-choice : Ends net → Positive net l → (c : Choice) → Chosen net l c → choice net l ≡ some c
-  chosen-choice ends pos c x =
+  pub chosen-choice : Ends net → (c : Choice) → Chosen net l c → choice net l ≡ some c
+  chosen-choice ends c x =
       let s = joined-choice net ends l (c .commodity) (x .commodity) (c .path, x .path) in
-      rw (chosen-unique c (s .0) x (chosen net l ends pos (s .0) (s .1))) (s .1)
+      rw (chosen-unique c (s .0) x (chosen net l ends (s .0) (s .1))) (s .1)

@@ -1,6 +1,7 @@
--- What the choice rule comes to, in the words of document 01, "One choice of route".
-use Prim.Native.Nat.{ℕ, _≤_, _<_}
+-- What the choice rule comes to, in the words of document 01, "One choice of route", and of request C-16.
+use mathlib.Core.Path.{_≡_}
 use mathlib.Core.List.{List}
+use Prim.Native.Nat.{ℕ, _≤_, _<_}
 use lib.ListN.{length}
 use Rattle.arith.specs.Distinct.{Distinct}
 use Rattle.network.specs.Network.{Network, commodities, source, sink}
@@ -21,10 +22,14 @@ pub record Chosen (net : Network) (l : List ℕ) (c : Choice) : Type 0 where
   -- lower-numbered commodities have only longer paths
   pub lowest :
       (i : ℕ) (p : List ℕ) → i < c .commodity → Path net (source net i) (sink net i) p → pathLength l (c .path) < pathLength l p
-  -- paths of its commodity that are before it in dictionary order are longer
+  -- no path of its commodity that is as short has fewer arcs
+  pub fewest :
+      (p : List ℕ) → Path net (source net (c .commodity)) (sink net (c .commodity)) p → pathLength l p ≡ pathLength l (c .path) →
+      length (c .path) ≤ length p
+  -- and of those with as few none is before it in dictionary order
   pub first :
-      (p : List ℕ) → Path net (source net (c .commodity)) (sink net (c .commodity)) p → Before p (c .path) → pathLength l (c .path) <
-      pathLength l p
+      (p : List ℕ) → Path net (source net (c .commodity)) (sink net (c .commodity)) p → pathLength l p ≡ pathLength l (c .path) →
+      length p ≡ length (c .path) → Before p (c .path) → ⊥
   -- it visits no node twice, and has at most n - 1 arcs
   pub distinct : Distinct (visited net (source net (c .commodity)) (c .path))
   pub few : length (c .path) < net .nodes

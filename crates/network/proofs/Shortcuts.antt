@@ -7,35 +7,33 @@ use native.Mathlib.Nat.{le-refl}
 use native.Mathlib.Omega.{arith}
 use lib.ListN.{length}
 use Rattle.arith.specs.Distinct.{Distinct}
-use Rattle.network.specs.Ends.{Node, Ends, Positive}
+use Rattle.network.specs.Ends.{Node, Ends}
 use Rattle.network.specs.Network.{Network}
 use Rattle.network.specs.Path.{Path, pathLength}
 use Rattle.network.specs.Visited.{visited}
-use Rattle.network.proofs.Cuts.{cut-fewer, cut-no-longer, cut-shorter}
+use Rattle.network.proofs.Cuts.{cut-fewer, cut-no-longer}
 use Rattle.network.proofs.Loops.{Loop, distinct-or-loop}
 use Rattle.network.proofs.Nodes.{distinct-path-few}
 
--- One path serves for all lengths. It is shorter where p visits a node twice and every arc has a length of at least 1.
+-- One path serves for all lengths.
 pub record Shortcut (net : Network) (v t : ℕ) (p : List ℕ) : Type 0 where
   pub path : List ℕ
   pub leads : Path net v t path
   pub distinct : Distinct (visited net v path)
   pub no-longer : (l : List ℕ) → pathLength l path ≤ pathLength l p
-  pub shorter : (l : List ℕ) → Positive net l → (Distinct (visited net v p) → ⊥) → pathLength l path < pathLength l p
 
 module _ (net : Network) (v t : ℕ) where
   itself : (p : List ℕ) → Path net v t p → Distinct (visited net v p) → Shortcut net v t p
   itself p h d =
-      record { path = p; leads = h; distinct = d; no-longer = λ l. le-refl (pathLength l p); shorter = λ l pos twice. absurd (twice d) }
+      record { path = p; leads = h; distinct = d; no-longer = λ l. le-refl (pathLength l p) }
 
-  after-cut : (p : List ℕ) → Path net v t p → (r : Loop net v t p) → Shortcut net v t (r .front ++ r .back) → Shortcut net v t p
-  after-cut p h r s =
+  after-cut : (p : List ℕ) (r : Loop net v t p) → Shortcut net v t (r .front ++ r .back) → Shortcut net v t p
+  after-cut p r s =
       record {
         path = s .path;
         leads = s .leads;
         distinct = s .distinct;
         no-longer = λ l. omega (arith, s .no-longer l, cut-no-longer net v t p r l);
-        shorter = λ l pos twice. omega (arith, s .no-longer l, cut-shorter net v t p r l pos h);
       }
 
   -- a path of at most n arcs, by cutting one loop after another
@@ -45,7 +43,7 @@ module _ (net : Network) (v t : ℕ) where
   within (suc n) p b h =
       ⊎-elim
       (itself p h)
-      (λ (r : Loop net v t p). after-cut p h r (within n (r .front ++ r .back) (omega (arith, cut-fewer net v t p r)) (r .cut)))
+      (λ (r : Loop net v t p). after-cut p r (within n (r .front ++ r .back) (omega (arith, cut-fewer net v t p r)) (r .cut)))
       (distinct-or-loop net v t p h)
 
   pub shortcut : (p : List ℕ) → Path net v t p → Shortcut net v t p

@@ -1,8 +1,6 @@
--- What the laws of paths ask of a network and of lengths. Document 01, "Turned down": an accepted network has such ends (rows 6 and 8).
+-- What the laws of paths ask of a network. Document 01, "Turned down": an accepted network has such ends (rows 6 and 8).
 use mathlib.Core.Path.{_≡_}
-use mathlib.Core.List.{List}
 use Prim.Native.Nat.{ℕ, _≤_, _<_}
-use lib.ListN.{getD}
 use Rattle.network.specs.Network.{Network, arcs, commodities, tail, head, source, sink}
 
 -- v is one of the nodes 1 to n.
@@ -16,7 +14,3 @@ pub record Ends (net : Network) : Type 0 where
   pub sources : (i : ℕ) → i < commodities net → Node net (source net i)
   pub sinks : (i : ℕ) → i < commodities net → Node net (sink net i)
   pub apart : (i : ℕ) → i < commodities net → source net i ≡ sink net i → ⊥
-
--- Every arc has a length of at least 1.
-abbrev pub Positive : Network → List ℕ → Type 0
-Positive net l = (e : ℕ) → e < arcs net → 1 ≤ getD l e 0

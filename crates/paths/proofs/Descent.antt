@@ -1,4 +1,4 @@
--- Below the cap a walk leads to t: each tight arc leads to a nearer node. So a distance below the cap is the length of a path. Guarantee, section 6.
+-- Below the cap a walk leads to t: each tight arc leads to a nearer node. So a distance below the cap is the key of a path. Guarantee, section 6.
 -- Assumes nothing.
 use mathlib.Core.Path.{_≡_, refl, sym, ap, subst, _∙_}
 use mathlib.Core.Bool.{Bool, true, false}
@@ -11,12 +11,12 @@ use native.Mathlib.Omega.{arith}
 use lib.Dec.{eqb}
 use lib.ListN.{getD}
 use borrow.Author.Tests.{eqb-true, eqb-false}
-use Rattle.network.specs.Ends.{Node, Ends, Positive}
+use Rattle.network.specs.Ends.{Node, Ends}
 use Rattle.network.specs.Network.{Network}
 use Rattle.network.specs.Path.{leads}
 use Rattle.paths.specs.Distances.{over, Way, Distances}
 use Rattle.paths.specs.Walk.{Walk, stop, step}
-use Rattle.paths.proofs.Leading.{leads-arc, leads-into}
+use Rattle.paths.proofs.Leading.{leads-into}
 use Rattle.paths.proofs.Lowest.{lowest}
 
 -- Whether arc e is such a way is decided by where it leads, and how long that is.
@@ -31,7 +31,7 @@ way-or-not net l d v x e = by-end (leads net v e) refl
     by-end none h = inr (λ y. Option·none-ne-some (y .to) (sym h ∙ y .leads-to))
     by-end (some w) h = by-test w h (eqb (over l d e w) x) refl
 
-module _ {net : Network} {l d : List ℕ} {t far : ℕ} (ends : Ends net) (D : Distances net l d t far) (pos : Positive net l) where
+module _ {net : Network} {l d : List ℕ} {t far : ℕ} (ends : Ends net) (D : Distances net l d t far) where
   -- one step, where there is a walk from each nearer node
   onward :
       (v : ℕ) → Node net v → getD d v 0 < far → ((w : ℕ) → Node net w → getD d w 0 < getD d v 0 → (p : List ℕ) × Walk net l d t w p) →
@@ -45,7 +45,7 @@ module _ {net : Network} {l d : List ℕ} {t far : ℕ} (ends : Ends net) (D : D
           let low = lowest (Way net l d v (getD d v 0)) (way-or-not net l d v (getD d v 0)) (tight .0) (tight .1) in
           let way = low .1 .has in
           let rest =
-          walks (way .to) (leads-into net v (low .0) (way .to) (way .leads-to) ends) (omega (arith, way .long, pos (low .0) (leads-arc net v (low .0) (way .to) (way .leads-to)))) in
+          walks (way .to) (leads-into net v (low .0) (way .to) (way .leads-to) ends) (omega (arith, way .long)) in
           (low .0 ∷ rest .0, step (eqb-false v t q) way (low .1 .none-lower) (rest .1))
 
   -- from a node at a distance of at most n

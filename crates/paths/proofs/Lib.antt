@@ -15,6 +15,7 @@ pub mod Searches
 pub mod Simple
 pub mod Spreading
 pub mod TakingOut
+pub mod Telling
 pub mod Turning
 pub mod WalkExample
 pub mod Walking

@@ -1,4 +1,4 @@
--- No path is shorter than the distance of its start. Guarantee, section 6.
+-- No path has a smaller key than the distance of its start. Guarantee, section 6.
 -- Assumes nothing.
 use mathlib.Core.Path.{ap}
 use mathlib.Core.Option.{Option·some-injective}
@@ -10,9 +10,10 @@ use Rattle.network.specs.Network.{Network}
 use Rattle.network.specs.Path.{follow, Path, pathLength}
 use Rattle.network.proofs.Paths.{path-step}
 use Rattle.paths.specs.Distances.{Distances}
+use Rattle.paths.specs.Key.{pathKey}
 
 module _ {net : Network} {l d : List ℕ} {t far : ℕ} where
-  pub distance-lower : Distances net l d t far → (v : ℕ) (p : List ℕ) → Path net v t p → getD d v 0 ≤ pathLength l p
+  pub distance-lower : Distances net l d t far → (v : ℕ) (p : List ℕ) → Path net v t p → getD d v 0 ≤ pathKey l p
   unfolding follow pathLength
   distance-lower D v [] h = omega (arith, D .sink, ap (λ u. getD d u 0) (Option·some-injective v t h))
   distance-lower D v (e ∷ p) h =

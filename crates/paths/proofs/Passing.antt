@@ -14,8 +14,7 @@ use Rattle.network.specs.Path.{leads}
 use Rattle.paths.specs.Calls.{Leaving}
 use Rattle.paths.specs.Distances.{over, Way}
 use Rattle.index.specs.Index.{endsFrom, begins, arcAt, endAt, Place}
-use Rattle.paths.specs.Relax.{Relaxing}
-use Rattle.paths.specs.Tight.{Crossing, Tight}
+use Rattle.paths.specs.Tight.{Offered, Tight}
 use Rattle.paths.proofs.Rooms.{relaxing}
 
 -- The way over the arc at place p is as long as the distance of v.
@@ -66,10 +65,8 @@ module _ {net : Network} {out l d : List ℕ} {v : ℕ} (L : Leaving net out l d
     place : endsFrom + p < length out
     place = omega (arith, passing-below, L .index .within v (L .node), L .index .numbers)
 
-    pub passing-crossing : Crossing out l d p
-    passing-crossing =
-        let R : Relaxing l d v (arcAt out p) (endAt out p) = relaxing v (arcAt out p) (endAt out p) (L .fit) (L .capped) led in
-        record { place = place; arc = R .arc; end = R .end; fits = R .fits }
+    pub passing-offered : Offered out l d p
+    passing-offered = record { place = place; crossing = relaxing v (arcAt out p) (endAt out p) (L .fit) (L .capped) led .crossing }
 
     -- and the first is the lowest.
     pub passing-found : Shortest out l d v p → Tight net out l d v p

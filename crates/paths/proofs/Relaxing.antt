@@ -1,6 +1,6 @@
 -- One relaxation: no distance grows, and where the arc shortens, the sum of the distances falls.
 -- Assumes nothing.
-use mathlib.Core.Path.{_≡_, refl, ap}
+use mathlib.Core.Path.{_≡_, refl, sym, ap}
 use mathlib.Core.Logic.{_⊎_, inl, inr, ⊎-elim}
 use mathlib.Core.Bool.{Bool, true, false, cond}
 use mathlib.Core.List.{List, [], _∷_}
@@ -8,11 +8,11 @@ use Prim.Native.Nat.{ℕ, zero, suc, _≤_, _<_}
 use native.Mathlib.Omega.{arith}
 use lib.ListN.{length, getD, set, length-set}
 use lib.Seq.{getD-set-same}
-use borrow.Author.Tests.{ltb-true, ltb-false}
+use borrow.Author.Tests.{ltb-true, ltb-false, lt-ltb, le-ltb}
 use Rattle.arith.proofs.Sums.{sum-lt}
 use Rattle.network.specs.Network.{Network}
 use Rattle.paths.specs.Distances.{over}
-use Rattle.paths.specs.Relax.{shortens, relaxed}
+use Rattle.paths.specs.Relax.{shortens, relaxed, Relaxed}
 use Rattle.paths.specs.Searching.{total}
 
 -- After a store of x at v an entry is as before, or it is that at v and is x.
@@ -22,6 +22,16 @@ set-entry (a ∷ d) zero x zero = inr (refl, refl)
 set-entry (a ∷ d) zero x (suc u) = inl refl
 set-entry (a ∷ d) (suc v) x zero = inl refl
 set-entry (a ∷ d) (suc v) x (suc u) = ⊎-elim inl (λ (h : (u ≡ v) × (getD (set d v x) u 0 ≡ x)). inr (ap suc (h .0), h .1)) (set-entry d v x u)
+
+-- The way x over the arc is compared with the distance of where it starts, and stored there if it is nearer.
+module _ {l d : List ℕ} {u e w x : ℕ} (way : x ≡ over l d e w) where
+  pub relaxes : x < getD d u 0 → Relaxed l u e w d true (set d u x)
+  unfolding shortens relaxed
+  relaxes b = rw way (let t = lt-ltb (over l d e w) (getD d u 0) (rw way at b) in record { told = sym t; entries = rw t refl })
+
+  pub relaxes-not : getD d u 0 ≤ x → Relaxed l u e w d false d
+  unfolding shortens relaxed
+  relaxes-not b = let t = le-ltb (over l d e w) (getD d u 0) (rw way at b) in record { told = sym t; entries = rw t refl }
 
 module _ (l d : List ℕ) (u e w : ℕ) where
   -- What holds of the distances as they were, where the arc does not shorten, and of those with the shorter way, where it does.

@@ -20,10 +20,13 @@ pub relaxing :
     {net : Network} {l d : List ℕ} (u e w : ℕ) → Fit net l (length d) → Capped net d far → leads net u e ≡ some w → Relaxing l d u e w
 relaxing {net} u e w f c h =
     record {
-      arc = omega (arith, leads-arc net u e w h, f .lengths);
+      crossing =
+          record {
+            arc = omega (arith, leads-arc net u e w h, f .lengths);
+            end = omega (arith, leads-into net u e w h (f .ends), f .room);
+            fits = omega (arith, f .small e (leads-arc net u e w h), c w (leads-into net u e w h (f .ends) .1));
+          };
       start = omega (arith, leads-from net u e w h (f .ends), f .room);
-      end = omega (arith, leads-into net u e w h (f .ends), f .room);
-      fits = omega (arith, f .small e (leads-arc net u e w h), c w (leads-into net u e w h (f .ends) .1));
     }
 
 -- What is at least 1 is read before the end of the list.

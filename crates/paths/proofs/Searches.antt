@@ -4,6 +4,7 @@ use mathlib.Core.Path.{_≡_, sym, _∙_}
 use mathlib.Core.List.{List}
 use Prim.Native.Nat.{ℕ, _+_, _-_, _≤_}
 use native.Mathlib.Omega.{arith}
+use Rattle.bounds.specs.Bounds.{mostNodes}
 use Rattle.network.specs.Network.{Network}
 use Rattle.paths.specs.Far.{far}
 use Rattle.paths.specs.Graph.{Table}
@@ -13,18 +14,15 @@ use Rattle.paths.specs.Searching.{Searching, Any, Passed}
 use Rattle.paths.proofs.Labels.{labels-rest}
 use Rattle.paths.proofs.Leading.{leads-into}
 use Rattle.paths.proofs.Listings.{listing-none}
+use Rattle.paths.proofs.Telling.{distance-tells}
 
 module _ {net : Network} {l : List ℕ} {t : ℕ} {d front listed : List ℕ} {size : ℕ} where
   -- With no node on the list the labels are the distances.
-  pub searching-end : Searching net l t Any d front listed size → size ≤ 0 → Table net l d t far
-  searching-end S none =
-      record {
-        distances =
-            labels-rest
-            (S .labels)
-            (λ u e w h. S .feasible u e w h tt (listing-none (S .listing) none w (leads-into net u e w h (S .fit .ends) .1)));
-        capped = S .labels .capped;
-      }
+  pub searching-end : net .nodes ≤ mostNodes → Searching net l t Any d front listed size → size ≤ 0 → Table net l d t far
+  searching-end few S none =
+      let D =
+      labels-rest (S .labels) (λ u e w h. S .feasible u e w h tt (listing-none (S .listing) none w (leads-into net u e w h (S .fit .ends) .1))) in
+      record { distances = D; capped = S .labels .capped; tells = distance-tells (S .fit .ends) few D }
 
   -- A node is taken out: the arcs into it are to be relaxed.
   pub searching-out :

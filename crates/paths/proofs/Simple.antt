@@ -6,30 +6,31 @@ use Prim.Native.Nat.{ℕ, _<_}
 use native.Mathlib.Omega.{arith}
 use lib.ListN.{length}
 use Rattle.arith.specs.Distinct.{Distinct}
-use Rattle.network.specs.Ends.{Node, Ends, Positive}
+use Rattle.network.specs.Ends.{Node, Ends}
 use Rattle.network.specs.Network.{Network}
 use Rattle.network.specs.Visited.{visited}
-use Rattle.network.proofs.Cuts.{cut-shorter}
+use Rattle.network.proofs.Cuts.{cut-fewer, cut-no-longer}
 use Rattle.network.proofs.Loops.{Loop, distinct-or-loop}
 use Rattle.network.proofs.Nodes.{distinct-path-few}
 use Rattle.paths.specs.Distances.{Distances}
 use Rattle.paths.specs.Walk.{Walk}
 use Rattle.paths.proofs.Lower.{distance-lower}
-use Rattle.paths.proofs.Walks.{walk-path, walk-length}
+use Rattle.paths.proofs.Walks.{walk-path, walk-key}
 
 module _ {net : Network} {l d : List ℕ} {t far v : ℕ} {p : List ℕ} where
-  -- Cutting a loop out would give a path shorter than the distance.
-  pub walk-distinct : Positive net l → Distances net l d t far → Walk net l d t v p → Distinct (visited net v p)
-  walk-distinct pos D w =
+  -- Cutting a loop out would give a path of fewer arcs that is no longer.
+  pub walk-distinct : Distances net l d t far → Walk net l d t v p → Distinct (visited net v p)
+  walk-distinct D w =
       ⊎-elim
       (λ (x : Distinct (visited net v p)). x)
       (λ (k : Loop net v t p). absurd (omega (
         arith,
-        cut-shorter net v t p k l pos (walk-path w),
+        cut-fewer net v t p k,
+        cut-no-longer net v t p k l,
         distance-lower D v (k .front ++ k .back) (k .cut),
-        walk-length (D .sink) w,
+        walk-key (D .sink) w,
       )))
       (distinct-or-loop net v t p (walk-path w))
 
-  pub walk-few : Ends net → Positive net l → Distances net l d t far → Node net v → Walk net l d t v p → length p < net .nodes
-  walk-few ends pos D node w = distinct-path-few net ends v t p node (walk-path w) (walk-distinct pos D w)
+  pub walk-few : Ends net → Distances net l d t far → Node net v → Walk net l d t v p → length p < net .nodes
+  walk-few ends D node w = distinct-path-few net ends v t p node (walk-path w) (walk-distinct D w)

@@ -1,5 +1,4 @@
--- Two tables of distances, and a walk in which the rule for ties decides: so these exist.
--- The arcs and lengths are those of the tied choice in the crate method.
+-- Two tables of distances, and a walk in which the number of arcs decides between paths as long: so these exist.
 -- Assumes nothing.
 use mathlib.Core.Path.{_≡_, refl, ap}
 use mathlib.Core.List.{List, [], _∷_}
@@ -28,9 +27,9 @@ floor ss ts = record { nodes = 3; tails = 1 ∷ 2 ∷ 1 ∷ []; heads = 2 ∷ 3 
 abbrev pub lengths : List ℕ
 lengths = 1 ∷ 1 ∷ 2 ∷ []
 
--- From node 1 it is 2 to node 3, and from node 2 it is 1. No node is numbered 0, so the first place holds anything.
+-- From node 1 it is a length of 2 to node 3, and from node 2 one of 1, each over one arc. No node is numbered 0, so the first place holds anything.
 abbrev pub near : List ℕ
-near = 0 ∷ 2 ∷ 1 ∷ 0 ∷ []
+near = 0 ∷ 129 ∷ 65 ∷ 0 ∷ []
 
 -- To node 1 no path leads from nodes 2 and 3.
 abbrev pub away : List ℕ
@@ -38,16 +37,16 @@ away = 0 ∷ 0 ∷ far ∷ far ∷ []
 
 -- The lengths are those of a run, whatever the commodities.
 pub bounded : Bounded (floor [] []) lengths
-bounded = three (λ e. (1 ≤ getD lengths e 0) × (getD lengths e 0 < 2 ^ 40)) (omega arith) (omega arith) (omega arith)
+bounded = three (λ e. getD lengths e 0 < 2 ^ 40) (omega arith) (omega arith) (omega arith)
 
 module _ (ss ts : List ℕ) where
-  -- The way over some arc is as long as the distance of v, unless v is t or far.
+  -- The way over some arc is as far as the distance of v, unless v is t or far.
   abbrev Tight : List ℕ → ℕ → ℕ → Type 0
   Tight d t v = (v ≡ t → ⊥) → getD d v 0 < far → (e : ℕ) × Way (floor ss ts) lengths d v (getD d v 0) e
 
   -- A table of distances, by a look at each arc and each node.
   table :
-      (d : List ℕ) (t : ℕ) → getD d t 0 ≡ 0 → getD d 1 0 ≤ 1 + getD d 2 0 → getD d 2 0 ≤ 1 + getD d 3 0 → getD d 1 0 ≤ 2 + getD d 3 0 →
+      (d : List ℕ) (t : ℕ) → getD d t 0 ≡ 0 → getD d 1 0 ≤ 65 + getD d 2 0 → getD d 2 0 ≤ 65 + getD d 3 0 → getD d 1 0 ≤ 129 + getD d 3 0 →
       Tight d t 1 → Tight d t 2 → Tight d t 3 → Distances (floor ss ts) lengths d t far
   table d t z a b c at-1 at-2 at-3 = record { sink = z; feasible = feasible; tight = tight }
     where
@@ -61,7 +60,7 @@ module _ (ss ts : List ℕ) where
       tight zero n = absurd (omega arith)
       tight (suc v) n = three (λ v. Tight d t (suc v)) at-1 at-2 at-3 v (omega arith)
 
-  leads-1 : leads (floor ss ts) 1 0 ≡ some 2
+  leads-1 : leads (floor ss ts) 1 2 ≡ some 3
   unfolding leads
   leads-1 = refl
 
@@ -69,15 +68,15 @@ module _ (ss ts : List ℕ) where
   unfolding leads
   leads-2 = refl
 
-  abbrev way-1 : Way (floor ss ts) lengths near 1 2 0
-  way-1 = record { to = 2; leads-to = leads-1; long = refl }
+  abbrev way-1 : Way (floor ss ts) lengths near 1 129 2
+  way-1 = record { to = 3; leads-to = leads-1; long = refl }
 
-  abbrev way-2 : Way (floor ss ts) lengths near 2 1 1
+  abbrev way-2 : Way (floor ss ts) lengths near 2 65 1
   way-2 = record { to = 3; leads-to = leads-2; long = refl }
 
   pub to-3 : Distances (floor ss ts) lengths near 3 far
   to-3 =
-      table near 3 refl (omega arith) (omega arith) (omega arith) (λ n b. (0, way-1)) (λ n b. (1, way-2)) (λ n b. absurd (n refl))
+      table near 3 refl (omega arith) (omega arith) (omega arith) (λ n b. (2, way-1)) (λ n b. (1, way-2)) (λ n b. absurd (n refl))
 
   pub to-1 : Distances (floor ss ts) lengths away 1 far
   to-1 =
@@ -86,11 +85,13 @@ module _ (ss ts : List ℕ) where
       (λ n b. absurd (omega arith))
       (λ n b. absurd (omega arith))
 
-  -- The walk from node 1 goes over arc 0, not over arc 2, by which it is as near.
-  pub walk : Walk (floor ss ts) lengths near 3 1 (0 ∷ 1 ∷ [])
-  walk = step {v = 1} {e = 0} (λ q. omega arith) way-1 (λ j b w. omega arith) (step {v = 2} {e = 1} (λ q. omega arith) way-2 arc-0-elsewhere stop)
+  -- The walk from node 1 goes over arc 2, not over arc 0, by which a path is as long but has one arc more.
+  pub walk : Walk (floor ss ts) lengths near 3 1 (2 ∷ [])
+  walk = step {v = 1} {e = 2} (λ q. omega arith) way-1 farther stop
     where
-      arc-0-elsewhere : (j : ℕ) → j < 1 → Way (floor ss ts) lengths near 2 1 j → ⊥
-      arc-0-elsewhere =
-          below-more (λ j. Way (floor ss ts) lengths near 2 1 j → ⊥) 0 (λ j b w. omega arith)
-          (λ w. omega (arith, leads-some (floor ss ts) 2 0 (w .to) (w .leads-to) .1))
+      farther : (j : ℕ) → j < 2 → Way (floor ss ts) lengths near 1 129 j → ⊥
+      farther =
+          below-more (λ j. Way (floor ss ts) lengths near 1 129 j → ⊥) 1
+          (below-more (λ j. Way (floor ss ts) lengths near 1 129 j → ⊥) 0 (λ j b w. omega arith)
+          (λ w. omega (arith, w .long, ap (λ v. getD near v 0) (leads-some (floor ss ts) 1 0 (w .to) (w .leads-to) .2))))
+          (λ w. omega (arith, leads-some (floor ss ts) 1 1 (w .to) (w .leads-to) .1))

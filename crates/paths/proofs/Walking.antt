@@ -12,13 +12,15 @@ use Rattle.network.specs.Network.{Network}
 use Rattle.paths.specs.Calls.{Leaving}
 use Rattle.paths.specs.Distances.{Way}
 use Rattle.paths.specs.Far.{far}
+use Rattle.paths.specs.Key.{arcsOf}
 use Rattle.index.specs.Index.{arcAt, endAt}
 use Rattle.paths.specs.Tight.{Tight}
 use Rattle.paths.specs.Walk.{Walk, stop, step}
 use Rattle.paths.specs.Walked.{Walkable, Walked}
 use Rattle.paths.proofs.Descent.{distance-path}
-use Rattle.paths.proofs.Leading.{leads-arc, leads-into}
+use Rattle.paths.proofs.Leading.{leads-into}
 use Rattle.paths.proofs.Simple.{walk-few}
+use Rattle.paths.proofs.Telling.{walk-arcs}
 
 -- The walk from s is at v, at a node below the cap, with its k arcs in the table.
 pub record Walking (net : Network) (l d : List ℕ) (s t size : ℕ) (path : List ℕ) (v k : ℕ) : Type 0 where
@@ -39,21 +41,20 @@ module _ {net : Network} {out l d : List ℕ} {s t size : ℕ} (W : Walkable net
     pub walking-few : k < net .nodes
     walking-few =
         let D = W .table .distances in
-        let on = distance-path (W .fit .ends) D (W .positive) v (S .node) (S .near) in
+        let on = distance-path (W .fit .ends) D v (S .node) (S .near) in
         omega (
           arith,
-          walk-few (W .fit .ends) (W .positive) D (W .source) (S .completes (on .0) (on .1)),
+          walk-few (W .fit .ends) D (W .source) (S .completes (on .0) (on .1)),
           length-append (take k path) (on .0),
           length-take-le k path (omega (arith, S .whole, S .within)),
         )
 
-    -- At t the walk is done.
-    pub walking-end : v ≡ t → Walked net l d s t k path
+    -- At t the walk is done, and its k arcs are those that the distance of s tells.
+    pub walking-end : v ≡ t → Walked net l d s t path
     walking-end q =
-        record {
-          walk = subst (Walk net l d t s) (append-nil (take k path)) (S .completes [] (subst (λ (u : ℕ). Walk net l d t u []) (sym q) stop));
-          few = walking-few;
-        }
+        let w = subst (Walk net l d t s) (append-nil (take k path)) (S .completes [] (subst (λ (u : ℕ). Walk net l d t u []) (sym q) stop)) in
+        let arcs = walk-arcs (W .fit .ends) (W .index .nodes) (W .table .distances) (W .source) w in
+        subst (λ (r : ℕ). Walk net l d t s (take r path)) (sym (length-take-le k path (omega (arith, S .whole, S .within))) ∙ arcs) w
 
     module _ (apart : v ≡ t → ⊥) where
       -- Some arc from v is tight,
@@ -73,7 +74,7 @@ module _ {net : Network} {out l d : List ℕ} {s t size : ℕ} (W : Walkable net
 
         -- and it leads to a nearer node, so the walk ends.
         pub next-nearer : getD d (endAt out r) 0 < getD d v 0
-        next-nearer = omega (arith, T .long, W .positive (arcAt out r) (leads-arc net v (arcAt out r) (endAt out r) (T .leads-to)))
+        next-nearer = omega (arith, T .long)
 
         room : k < length path
         room = omega (arith, walking-few, S .whole, W .places)

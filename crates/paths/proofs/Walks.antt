@@ -1,4 +1,4 @@
--- The greedy walk is a path as long as the distance, and the first such path in dictionary order. Guarantee, section 6.
+-- The greedy walk is a path whose key is the distance, and the first such path in dictionary order. Guarantee, section 6.
 -- Assumes nothing.
 use mathlib.Core.Path.{_≡_, refl, sym, ap, subst, _∙_}
 use mathlib.Core.Logic.{⊎-elim}
@@ -13,6 +13,7 @@ use Rattle.network.specs.Path.{leads, follow, Path, pathLength}
 use Rattle.network.proofs.Paths.{path-step, path-cons}
 use Rattle.method.specs.Order.{Before, ends, smaller, agrees}
 use Rattle.paths.specs.Distances.{over, Way, Distances}
+use Rattle.paths.specs.Key.{pathKey}
 use Rattle.paths.specs.Walk.{Walk, stop, step}
 use Rattle.paths.proofs.Lower.{distance-lower}
 
@@ -23,11 +24,11 @@ module _ {net : Network} {l d : List ℕ} {t : ℕ} where
   walk-path stop = refl
   walk-path (step {v = v} {e = e} {p = p} apart way low w) = path-cons net v (way .to) t e p (way .leads-to) (walk-path w)
 
-  -- as long as the distance of its start.
-  pub walk-length : {v : ℕ} {p : List ℕ} → getD d t 0 ≡ 0 → Walk net l d t v p → pathLength l p ≡ getD d v 0
+  -- and its key is the distance of its start.
+  pub walk-key : {v : ℕ} {p : List ℕ} → getD d t 0 ≡ 0 → Walk net l d t v p → pathKey l p ≡ getD d v 0
   unfolding pathLength
-  walk-length z stop = sym z
-  walk-length z (step apart way low w) = omega (arith, way .long, walk-length z w)
+  walk-key z stop = sym z
+  walk-key z (step apart way low w) = omega (arith, way .long, walk-key z w)
 
   -- The way over an arc that is not tight is longer than the distance of where it starts,
   slack-longer :
@@ -38,10 +39,10 @@ module _ {net : Network} {l d : List ℕ} {t : ℕ} where
       (λ (b : getD d v 0 < over l d j w). b)
       (eq-or-lt-of-le (D .feasible v j w h))
 
-  -- so paths that are before a walk in dictionary order are longer.
+  -- so paths that are before a walk in dictionary order have greater keys.
   pub walk-first :
       {v far : ℕ} {p : List ℕ} → Distances net l d t far → Walk net l d t v p → (q : List ℕ) → Path net v t q → Before q p →
-      getD d v 0 < pathLength l q
+      getD d v 0 < pathKey l q
   unfolding follow pathLength
   walk-first D (step {v = v} apart way low w) q h ends = absurd (apart (Option·some-injective v t h))
   walk-first D (step {v = v} apart way low w) q h (smaller {d = j} {p = r} b) =

@@ -1,18 +1,19 @@
--- Distances to a node t, below a cap: what a search must leave in its table.
+-- Distances to a node t, below a cap: what a search must leave in its table. A distance is the least key of a path.
 use mathlib.Core.Path.{_≡_}
 use mathlib.Core.List.{List}
 use mathlib.Core.Option.{some}
 use Prim.Native.Nat.{ℕ, _+_, _≤_, _<_}
-use lib.ListN.{getD}
+use lib.ListN.{length, getD}
 use Rattle.network.specs.Ends.{Node}
 use Rattle.network.specs.Network.{Network}
-use Rattle.network.specs.Path.{leads}
+use Rattle.network.specs.Path.{leads, Path, pathLength}
+use Rattle.paths.specs.Key.{arcKey, lengthOf, arcsOf}
 
--- How long the way over arc e to node w is: its length and the distance of w.
+-- How far the way over arc e to node w is: what the arc adds, and the distance of w.
 abbrev pub over : List ℕ → List ℕ → ℕ → ℕ → ℕ
-over l d e w = getD l e 0 + getD d w 0
+over l d e w = arcKey l e + getD d w 0
 
--- Arc e leads from v to some node, and the way over it is x long.
+-- Arc e leads from v to some node, and the way over it is x far.
 pub record Way (net : Network) (l d : List ℕ) (v x e : ℕ) : Type 0 where
   pub to : ℕ
   pub leads-to : leads net v e ≡ some to
@@ -23,3 +24,10 @@ pub record Distances (net : Network) (l d : List ℕ) (t far : ℕ) : Type 0 whe
   pub sink : getD d t 0 ≡ 0
   pub feasible : (u e w : ℕ) → leads net u e ≡ some w → getD d u 0 ≤ over l d e w
   pub tight : (v : ℕ) → Node net v → (v ≡ t → ⊥) → getD d v 0 < far → (e : ℕ) × Way net l d v (getD d v 0) e
+
+-- What the distance x from v to t tells: no path is shorter than the length in it, and none that is as short has fewer arcs than the number in it;
+-- and below the cap some path has both.
+pub record Tells (net : Network) (l : List ℕ) (v t far x : ℕ) : Type 0 where
+  pub some-path : x < far → (p : List ℕ) × Path net v t p × (pathLength l p ≡ lengthOf x) × (length p ≡ arcsOf x)
+  pub shortest : (p : List ℕ) → Path net v t p → lengthOf x ≤ pathLength l p
+  pub fewest : (p : List ℕ) → Path net v t p → pathLength l p ≡ lengthOf x → arcsOf x ≤ length p

@@ -3,6 +3,7 @@ pub mod Distances
 pub mod Far
 pub mod Frontier
 pub mod Graph
+pub mod Key
 pub mod Labels
 pub mod Listing
 pub mod Relax

@@ -15,12 +15,16 @@ shortens l d u e w = ltb (over l d e w) (getD d u 0)
 unfoldable pub relaxed : List ℕ → List ℕ → ℕ → ℕ → ℕ → List ℕ
 relaxed l d u e w = cond (shortens l d u e w) (set d u (over l d e w)) d
 
--- The arc has a length, its two ends have entries, and the way over it is a number of 64 bits.
-pub record Relaxing (l d : List ℕ) (u e w : ℕ) : Type 0 where
+-- The arc has a length, its end an entry, and the way over it is a number of 64 bits.
+pub record Crossing (l d : List ℕ) (e w : ℕ) : Type 0 where
   pub arc : e < length l
-  pub start : u < length d
   pub end : w < length d
   pub fits : over l d e w < 2 ^ 64
+
+-- And its start has an entry.
+pub record Relaxing (l d : List ℕ) (u e w : ℕ) : Type 0 where
+  pub crossing : Crossing l d e w
+  pub start : u < length d
 
 -- The arc is relaxed: r tells whether it led to a shorter way, and new has the distances after it.
 pub record Relaxed (l : List ℕ) (u e w : ℕ) (old : List ℕ) (r : Bool) (new : List ℕ) : Type 0 where

@@ -2,19 +2,18 @@
 use mathlib.Core.Path.{_≡_}
 use mathlib.Core.List.{List}
 use mathlib.Core.Option.{some}
-use Prim.Native.Nat.{ℕ, _^_, _+_, _<_}
+use Prim.Native.Nat.{ℕ, _+_, _<_}
 use lib.ListN.{length, getD}
 use Rattle.network.specs.Network.{Network}
 use Rattle.network.specs.Path.{leads}
 use Rattle.paths.specs.Distances.{over, Way}
 use Rattle.index.specs.Index.{endsFrom, arcAt, endAt}
+use Rattle.paths.specs.Relax.{Crossing}
 
--- The arc at place p has a length, its end an entry of d, and the way over it is a number of 64 bits.
-pub record Crossing (out l d : List ℕ) (p : ℕ) : Type 0 where
+-- There is an arc at place p, and it can be crossed.
+pub record Offered (out l d : List ℕ) (p : ℕ) : Type 0 where
   pub place : endsFrom + p < length out
-  pub arc : arcAt out p < length l
-  pub end : endAt out p < length d
-  pub fits : over l d (arcAt out p) (endAt out p) < 2 ^ 64
+  pub crossing : Crossing l d (arcAt out p) (endAt out p)
 
 -- Place r has the lowest-numbered arc from v whose way is as long as v's distance.
 pub record Tight (net : Network) (out l d : List ℕ) (v r : ℕ) : Type 0 where

@@ -13,7 +13,7 @@ use Rattle.method.specs.Choice.{Choice, choice}
 use Rattle.method.specs.Iteration.{State, advance, iteration}
 use Rattle.method.proofs.Reached.{Reached}
 use Rattle.method.proofs.Sized.{reached-sizes}
-use Rattle.paths.specs.Far.{far}
+use Rattle.paths.specs.Far.{farLength}
 use Rattle.choice.specs.Calls.{Choosing}
 use Rattle.choice.specs.Chose.{Picked, Chose}
 use Rattle.choice.specs.Memory.{Memory}
@@ -29,7 +29,7 @@ choosing {s} {q} {net} room t r e memory-of =
     let z = reached-sizes (netIn s net) q (room .lent .sound) t r in
     record {
       packed = room .lent .packed;
-      survey = rw e (sound-survey (room .lent .sound) (λ e l. (z .length-low e l, z .length-high e l)) (le-of-eq (sym (r .valid .lengths))));
+      survey = rw e (sound-survey (room .lent .sound) (z .length-high) (le-of-eq (sym (r .valid .lengths))));
       indexed = room .indexed;
       memory-of = memory-of;
       room = room .path;
@@ -39,8 +39,8 @@ choosing {s} {q} {net} room t r e memory-of =
 pub picks : (net : Network) → Chooses net → (l : List ℕ) (r : Selected) (path : List ℕ) → Chose net l r path → Picked net l r path
 picks net chooses l r path k =
     ⊎-elim
-    (λ (e : r .distance ≡ far). let c = chooses l in absurd (Option·none-ne-some (c .0) (sym (k .nothing e) ∙ c .1)))
-    (λ (b : r .distance < far). k .something b)
+    (λ (e : r .alpha ≡ farLength). let c = chooses l in absurd (Option·none-ne-some (c .0) (sym (k .nothing e) ∙ c .1)))
+    (λ (b : r .alpha < farLength). k .something b)
     (eq-or-lt-of-le (k .capped))
 
 -- The iteration that chooses c.

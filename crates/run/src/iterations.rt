@@ -15,7 +15,7 @@ ghost use Rattle.step.specs.Progress.{stateIn};
 ghost use Rattle.run.specs.Noted.{Iterating, Onward};
 ghost use Rattle.run.specs.Runs.{Space};
 
-// The bounds of the distances, 0 again where the lengths were halved: only then can a distance fall.
+// The bounds of the commodities, 0 again where the lengths were halved: only then can a path be shorter than it was.
 fn forget(halved: bool, k: usize, memory: &mut [u64])
     requires { ⌜ (k ≤ mostCommodities) × (memoryNumbers ≤ length (now memory)) ⌝ }
     ensures { λ _. ⌜ now (memory .exit) ≡ cond halved (put 0 k (now (memory .entry)) (replicate k 0)) (now (memory .entry)) ⌝ }
@@ -52,7 +52,7 @@ pub fn iterate(
         net,
         c.commodity,
         &path[..arcs],
-        c.distance,
+        c.alpha,
         flow,
         tables,
         p,

@@ -4,18 +4,19 @@ use crate::frontier::enlist;
 use index::ARCS;
 use index::ENDS;
 use packed::Shape;
+use paths::over;
 ghost use Prim.Native.Nat.{_+_};
 ghost use Rattle.packed.specs.Packed.{netIn};
 ghost use Rattle.paths.specs.Calls.{Reaching, Entering};
 ghost use Rattle.paths.specs.Relax.{Relaxing, Relaxed};
 ghost use Rattle.paths.specs.Searching.{Any, Passed, Spread};
 
-// The way over arc e from u to w is taken where it is shorter; whether it is.
+// The way over arc e from u to w is taken where it is nearer; whether it is.
 fn relax(lengths: &[u64], u: usize, e: usize, w: usize, dist: &mut [u64]) -> bool
     requires { ⌜ Relaxing (now lengths) (now dist) u e w ⌝ }
     ensures { λ r. ⌜ Relaxed (now (lengths .entry)) u e w (now (dist .entry)) r (now (dist .exit)) ⌝ }
 {
-    let way = lengths[e] + dist[w];
+    let way = over(lengths, dist, e, w);
     if way < dist[u] {
         dist[u] = way;
         return true;

@@ -5,7 +5,7 @@ use packed::LENGTHS;
 use packed::LOADS;
 use packed::Shape;
 use run::runs;
-use search::FAR;
+use search::FAR_LENGTH;
 use step::Progress;
 use tables::loads;
 ghost use mathlib.Core.Path.{_≡_};
@@ -69,7 +69,7 @@ pub fn outcome(
 {
     let m = s.arcs;
     let first = choice::choose(s, net, indexes, &tables[LENGTHS..LENGTHS + m], memory, path);
-    if first.distance >= FAR {
+    if first.alpha >= FAR_LENGTH {
         return unjoined();
     }
     let p = runs::run(s, q, net, indexes, flow, tables, memory, path, weight);

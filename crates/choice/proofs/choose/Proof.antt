@@ -2,20 +2,24 @@
 -- Assumes nothing.
 use borrow.Author.Needs.{needs}
 use denote.Ref.{now}
-use mathlib.Core.Path.{_≡_, sym}
+use mathlib.Core.Path.{_≡_, sym, ap}
 use Prim.Native.Nat.{_+_, _<_, _≤_}
 use native.Mathlib.Omega.{arith}
 use lib.ListN.{length, getD}
-use Rattle.bounds.specs.Bounds.{mostCommodities}
+use Rattle.bounds.specs.Bounds.{mostNodes, mostCommodities}
 use Rattle.network.specs.Network.{Network, source, sink}
 use Rattle.packed.specs.Packed.{netIn, sourcesFrom, sinksFrom}
 use Rattle.packed.proofs.Columns.{part-at, part-length, commodities-is}
-use Rattle.choice.specs.Memory.{distancesFrom, distanceNumbers, memoryNumbers, boundsIn}
+use Rattle.paths.specs.Key.{arcsOf}
+use Rattle.choice.specs.Memory.{distancesFrom, distanceNumbers, memoryNumbers, boundsIn, distancesIn}
 use Rattle.choice.proofs.Selects.{selects-nothing, selects-walkable, selects-walk}
 use Rattle.choice.proofs.choose.Statement.{statement}
 use Rattle.choice.proofs.choose.Tie as tie
 
--- behind the test: the search for the nearest commodity, and the function's entry
+-- behind the walk: the test, the search for the nearest commodity, and the function's entry
+abbrev test-at : tie.After-walk → tie.Else1
+test-at c = c .before .before .before .before .before .before .before
+
 abbrev search-at : tie.Else1 → tie.After-nearest
 search-at c = c .before .before .before .before
 
@@ -45,6 +49,18 @@ to : (c : tie.After-nearest) → getD (now (entry c .args .net)) (sinksFrom + c 
 unfolding netIn
 to c = sym (part-at sinksFrom (entry c .args .s .commodities) (now (entry c .args .net)) (c .nearest .result) (among c))
 
+-- Its source has a distance in the memory, and the number of arcs is read out of that.
+node : (c : tie.After-nearest) → getD (now (entry c .args .net)) (sourcesFrom + c .nearest .result) 0 ≤ mostNodes
+node c =
+    let v = entry c .pre .survey in
+    omega (arith, from c, v .fit .ends .sources (c .nearest .result) (c .nearest .ensures .least .among), v .few)
+
+count : (c : tie.After-nearest) → let M = c .nearest .last .1 .1 .1 .1 .0 in let u = getD (now (entry c .args .net)) (sourcesFrom + c .nearest .result) 0 in
+    arcsOf (getD M (distancesFrom + u) 0) ≡ arcsOf (getD (distancesIn M) u 0)
+count c =
+    let M = c .nearest .last .1 .1 .1 .1 .0 in
+    ap arcsOf (sym (part-at distancesFrom distanceNumbers M (getD (now (entry c .args .net)) (sourcesFrom + c .nearest .result) 0) (omega (arith, node c))))
+
 nearest-requires : tie.Need-nearest-requires
 nearest-requires c κs =
     let p = c .before .before .before .before .before .before .before .pre in
@@ -62,11 +78,11 @@ returns c =
 few : (c : tie.After-nearest) → c .nearest .result < mostCommodities
 few c = omega (arith, among c, entry c .pre .packed .few-commodities)
 
-mul-distance : tie.Need-mul-distance
-mul-distance c = omega (arith, few (c .before .before))
+mul-alpha : tie.Need-mul-alpha
+mul-alpha c = omega (arith, few (c .before .before))
 
-slice-read-distance : tie.Need-slice-read-distance
-slice-read-distance c = omega (arith, few (c .before .before .before), places (c .before .before .before))
+slice-read-alpha : tie.Need-slice-read-alpha
+slice-read-alpha c = omega (arith, few (c .before .before .before), places (c .before .before .before))
 
 mul-source : tie.Need-mul-source
 mul-source c = omega (arith, few (search-at c))
@@ -80,8 +96,8 @@ mul-sink c = omega (arith, few (search-at (c .before)))
 shared-slice-read-sink : tie.Need-shared-slice-read-sink
 shared-slice-read-sink c = omega (arith, few (search-at (c .before .before)), entry (search-at (c .before .before)) .pre .packed .places)
 
-add-distance : tie.Need-add-distance
-add-distance c = omega (arith, few (c .before .before))
+add-alpha : tie.Need-add-alpha
+add-alpha c = omega (arith, few (c .before .before))
 
 add-source : tie.Need-add-source
 add-source c = omega (arith, few (search-at c))
@@ -99,20 +115,29 @@ walk-requires c κs =
     selects-walkable (entry s .pre .survey) (s .nearest .ensures) (own s) (t .if1 .left) (from s) (to s)
     (part-length distancesFrom distanceNumbers (s .nearest .last .1 .1 .1 .1 .0) (places s)) (entry s .pre .indexed .out) (entry s .pre .room)
 
+add-arcs : tie.Need-add-arcs
+add-arcs c = omega (arith, node (search-at (test-at (c .before .before))))
+
+mul-arcs : tie.Need-mul-arcs
+mul-arcs c = omega (arith, node (search-at (test-at (c .before .before))))
+
+slice-read-arcs : tie.Need-slice-read-arcs
+slice-read-arcs c = let s = search-at (test-at (c .before .before .before)) in omega (arith, node s, places s)
+
 returns-2 : tie.Need-returns-2
 returns-2 c =
-    let w = c .before .before in
-    let t = w .before .before .before .before .before .before .before in
+    let w = c .before .before .before in
+    let t = test-at w in
     let s = search-at t in
     record {
-      chose = selects-walk (entry s .pre .survey) (s .nearest .ensures) (own s) (t .if1 .left) (from s) (to s) _ _ (w .walk .ensures);
+      chose = selects-walk (entry s .pre .survey) (s .nearest .ensures) (own s) (t .if1 .left) (from s) (to s) _ _ (count s) (w .walk .ensures);
       memory-of = record { places = places s; below = s .nearest .ensures .below };
     }
 
 pub choose-spec : {M : Type 1} → statement M
 choose-spec =
     tie.close (tie.spec (λ c. search needs) (λ c. search needs) (λ c. search needs) (λ c. search needs)
-    nearest-requires add-distance mul-distance slice-read-distance (λ c. search needs) returns add-source mul-source
+    nearest-requires add-alpha mul-alpha slice-read-alpha (λ c. search needs) returns add-source mul-source
     shared-slice-read-source add-sink mul-sink shared-slice-read-sink (λ c. search needs) (λ c. search needs)
     (λ c. search needs) (λ c. search needs) (λ c. search needs) (λ c. search needs) (λ c. search needs)
-    part-walk-end-2 walk-requires (λ c. search needs) (λ c. search needs) returns-2)
+    part-walk-end-2 walk-requires add-arcs mul-arcs slice-read-arcs (λ c. search needs) (λ c. search needs) returns-2)

@@ -137,7 +137,9 @@ same-length-3 : tie.Need-same-length-3 Inv-loop μ-loop
 same-length-3 c = c .before .loop .inv .flags ∙ enlist-at (c .before) .enlist .kept .1 .1 .1 .0
 
 returns : tie.Need-returns Inv-loop μ-loop
-returns c = searching-end (c .before .loop .inv .searching) (c .loop-test .left)
+returns c =
+    let s = entry (reset-at (enlist-at (c .before))) in
+    searching-end (s .pre .0 .index .nodes) (c .before .loop .inv .searching) (c .loop-test .left)
 
 pub distances-in-spec : {M : Type 1} → statement M
 distances-in-spec =

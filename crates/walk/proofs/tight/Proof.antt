@@ -4,7 +4,7 @@ use mathlib.Core.Path.{sym, _∙_}
 use Prim.Native.Nat.{_-_, _<_}
 use native.Mathlib.Omega.{arith}
 use Rattle.index.specs.Index.{mostPlaces}
-use Rattle.paths.proofs.Passing.{Passing, passing-first, passing-below, passing-crossing, passing-more, passing-found}
+use Rattle.paths.proofs.Passing.{Passing, passing-first, passing-below, passing-offered, passing-more, passing-found}
 use Rattle.walk.proofs.tight.Statement.{statement}
 use Rattle.walk.proofs.tight.Tie as tie
 
@@ -47,8 +47,8 @@ shared-slice-read-p c =
 loop-holds : tie.Need-loop-holds Inv-loop μ-loop
 loop-holds c = passing-first
 
-over-requires : tie.Need-over-requires Inv-loop μ-loop
-over-requires c κs = passing-crossing (entry c .pre) (c .loop .inv)
+over-at-requires : tie.Need-over-at-requires Inv-loop μ-loop
+over-at-requires c κs = passing-offered (entry c .pre) (c .loop .inv)
 
 add-p : tie.Need-add-p Inv-loop μ-loop
 add-p c = omega (arith, below (c .before .before))
@@ -57,14 +57,14 @@ loop-less : tie.Need-loop-less Inv-loop μ-loop
 loop-less c = omega (arith, below (c .before .before))
 
 loop-again : tie.Need-loop-again Inv-loop μ-loop
-loop-again c = passing-more (c .before .before .loop .inv) (λ q. c .if1 .taken (c .before .over .ensures ∙ q))
+loop-again c = passing-more (c .before .before .loop .inv) (λ q. c .if1 .taken (c .before .over-at .ensures ∙ q))
 
 returns : tie.Need-returns Inv-loop μ-loop
 returns c =
     let t = c .before .before in
-    passing-found (entry t .pre) (t .loop .inv) (sym (c .before .over .ensures) ∙ c .if1 .left)
+    passing-found (entry t .pre) (t .loop .inv) (sym (c .before .over-at .ensures) ∙ c .if1 .left)
 
 pub tight-spec : {M : Type 1} → statement M
 tight-spec =
-    tie.close (tie.spec Inv-loop μ-loop mul-d shared-slice-read-d mul-p shared-slice-read-p loop-holds over-requires add-p
+    tie.close (tie.spec Inv-loop μ-loop mul-d shared-slice-read-d mul-p shared-slice-read-p loop-holds over-at-requires add-p
     loop-less loop-again returns)
