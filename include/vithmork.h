@@ -108,7 +108,7 @@ enum {
  *
  * A call cannot be interrupted; it always ends. Of eleven floors of 64 stations,
  * 256 belts and 32 pairs the slowest took 37 ms at q = 4 and 0.6 s at q = 16, on
- * one core of an Intel Xeon (docs/SPEED.md of the sources has them all). */
+ * one core of an AMD EPYC (docs/SPEED.md of the sources has them all). */
 uint64_t vithmork_solve(uint64_t n, uint64_t q,
                         const uint8_t *belts, size_t belts_len,
                         const uint8_t *pairs, size_t pairs_len,

@@ -17,7 +17,7 @@ use Rattle.method.specs.Chosen.{Chosen}
 use Rattle.method.proofs.Choosing.{chosen}
 
 -- Arcs 1 to 2, 2 to 3, twice 1 to 3, and 3 to 1; and commodities from ss to ts.
-abbrev pub floor : List ℕ → List ℕ → Network
+abbrev floor : List ℕ → List ℕ → Network
 floor ss ts =
     record {
       nodes = 3;
@@ -28,20 +28,20 @@ floor ss ts =
       sinks = ts;
     }
 
--- Of the commodity from 1 to 3 twice, the lower; and its path is the straight arc, as the path over node 2 is as long but has two arcs. Of the
--- two straight arcs it is the lower.
+-- The commodity from 1 to 3 twice.
 abbrev twice : Network
 twice = floor (1 ∷ 1 ∷ []) (3 ∷ 3 ∷ [])
 
--- By these all three paths are equally long,
+-- By these its three paths are equally long.
 lengths : List ℕ
 lengths = 1 ∷ 1 ∷ 2 ∷ 2 ∷ 2 ∷ []
 
+-- The lower commodity; not the path over node 2, which has one arc more; and of the two straight arcs the lower.
 tied : choice twice lengths ≡ some (choiceOf 0 (2 ∷ []))
 unfolding lengths upFrom upTo flat keep leads follow bind pathLength words endsAt paths candidates sooner least choice
 tied = refl
 
--- and by these the path over node 2 is as long as the arc from 3 to 1: the lower commodity is chosen though its path has more arcs.
+-- From 1 to 3 and back, by lengths that make the path over node 2 as long as the arc from 3: the lower commodity, though its path has more arcs.
 lower : choice (floor (1 ∷ 3 ∷ []) (3 ∷ 1 ∷ [])) (1 ∷ 1 ∷ 3 ∷ 3 ∷ 2 ∷ []) ≡ some (choiceOf 0 (0 ∷ 1 ∷ []))
 unfolding upFrom upTo flat keep leads follow bind pathLength words endsAt paths candidates sooner least choice
 lower = refl
@@ -51,7 +51,7 @@ accepted : verdictOn twice 4 [] ≡ Accepted
 unfolding upFrom upTo flat verdict outside loose sizeConditions arcConditions commodityConditions itemConditions verdictOn
 accepted = refl
 
-pub sound : Sound twice 4
+sound : Sound twice 4
 sound = accepted-sound twice 4 [] accepted .0
 
 tied-chosen : Chosen twice lengths (choiceOf 0 (2 ∷ []))

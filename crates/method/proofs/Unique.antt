@@ -23,7 +23,7 @@ module _ (net : Network) (l : List ℕ) where
     not-lower : c .commodity < d .commodity → ⊥
     not-lower b = omega (arith, y .lowest (c .commodity) (c .path) b (x .path), x .shortest (d .commodity) (d .path) (y .commodity) (y .path))
 
-    -- Of one commodity neither is shorter,
+    -- Neither is shorter;
     as-short : pathLength l (c .path) ≡ pathLength l (d .path)
     as-short =
         le-antisymm
@@ -34,7 +34,7 @@ module _ (net : Network) (l : List ℕ) where
       there : Path net (source net (d .commodity)) (sink net (d .commodity)) (c .path)
       there = subst (λ (i : ℕ). Path net (source net i) (sink net i) (c .path)) q (x .path)
 
-      -- nor has more arcs,
+      -- of one commodity neither has more arcs,
       no-more : length (d .path) ≤ length (c .path)
       no-more = y .fewest (c .path) there as-short
 
