@@ -29,7 +29,7 @@ module _ {net : Network} {l d : List ℕ} {t far : ℕ} where
       }
 
 module _ (net : Network) (l d : List ℕ) (u e w : ℕ) (h : leads net u e ≡ some w) where
-  -- The way over any arc is no longer than before.
+  -- The way over any arc is no farther than before.
   over-le : (f x : ℕ) → over l (relaxed l d u e w) f x ≤ over l d f x
   over-le f x = omega (arith, relaxed-le l d u e w x)
 

@@ -17,19 +17,19 @@ use Rattle.index.specs.Index.{endsFrom, begins, arcAt, endAt, Place}
 use Rattle.paths.specs.Tight.{Offered, Tight}
 use Rattle.paths.proofs.Rooms.{relaxing}
 
--- The way over the arc at place p is as long as the distance of v.
-abbrev Shortest : List ℕ → List ℕ → List ℕ → ℕ → ℕ → Type 0
-Shortest out l d v p = over l d (arcAt out p) (endAt out p) ≡ getD d v 0
+-- The way over the arc at place p is as far as the distance of v.
+abbrev AsFar : List ℕ → List ℕ → List ℕ → ℕ → ℕ → Type 0
+AsFar out l d v p = over l d (arcAt out p) (endAt out p) ≡ getD d v 0
 
 -- No place of v before p has such an arc.
 pub record Passing (out l d : List ℕ) (v p : ℕ) : Type 0 where
   pub from : begins out v ≤ p
-  pub none : (q : ℕ) → begins out v ≤ q → q < p → Shortest out l d v q → ⊥
+  pub none : (q : ℕ) → begins out v ≤ q → q < p → AsFar out l d v q → ⊥
 
 pub passing-first : {out l d : List ℕ} {v : ℕ} → Passing out l d v (begins out v)
 passing-first = record { from = le-refl _; none = λ q a b. absurd (omega arith) }
 
-pub passing-more : {out l d : List ℕ} {v p : ℕ} → Passing out l d v p → (Shortest out l d v p → ⊥) → Passing out l d v (p + 1)
+pub passing-more : {out l d : List ℕ} {v p : ℕ} → Passing out l d v p → (AsFar out l d v p → ⊥) → Passing out l d v (p + 1)
 passing-more {out} {l} {d} {v} {p} P slack =
     record {
       from = omega (arith, P .from);
@@ -41,8 +41,8 @@ passing-more {out} {l} {d} {v} {p} P slack =
     }
 
 module _ {net : Network} {out l d : List ℕ} {v : ℕ} (L : Leaving net out l d v) where
-  -- where an arc that keeps to a shortest path stands
-  standing : {e : ℕ} (way : Way net l d v (getD d v 0) e) → (q : ℕ) × Place out v q e (way .to) × Shortest out l d v q
+  -- where an arc that keeps to a nearest path stands
+  standing : {e : ℕ} (way : Way net l d v (getD d v 0) e) → (q : ℕ) × Place out v q e (way .to) × AsFar out l d v q
   standing {e} way =
       let r = L .index .whole v e (way .to) (L .node) (way .leads-to) in
       (r .0, r .1, rw (r .1 .arc, r .1 .end) (way .long))
@@ -69,7 +69,7 @@ module _ {net : Network} {out l d : List ℕ} {v : ℕ} (L : Leaving net out l d
     passing-offered = record { place = place; crossing = relaxing v (arcAt out p) (endAt out p) (L .fit) (L .capped) led .crossing }
 
     -- and the first is the lowest.
-    pub passing-found : Shortest out l d v p → Tight net out l d v p
+    pub passing-found : AsFar out l d v p → Tight net out l d v p
     passing-found s =
         record { place = place; leads-to = led; long = s; none-lower = λ j b way. by-place j b way (compare (standing way .0) p) }
       where

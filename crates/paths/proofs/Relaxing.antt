@@ -34,7 +34,7 @@ module _ {l d : List ℕ} {u e w x : ℕ} (way : x ≡ over l d e w) where
   relaxes-not b = let t = le-ltb (over l d e w) (getD d u 0) (rw way at b) in record { told = sym t; entries = rw t refl }
 
 module _ (l d : List ℕ) (u e w : ℕ) where
-  -- What holds of the distances as they were, where the arc does not shorten, and of those with the shorter way, where it does.
+  -- What holds of the distances as they were, where the arc does not shorten, and of those with the nearer way, where it does.
   pub relaxed-cases :
       (P : List ℕ → Type 0) → (getD d u 0 ≤ over l d e w → P d) → (over l d e w < getD d u 0 → P (set d u (over l d e w))) → P (relaxed l d u e w)
   unfolding relaxed shortens
@@ -47,7 +47,7 @@ module _ (l d : List ℕ) (u e w : ℕ) where
   pub relaxed-size : length (relaxed l d u e w) ≡ length d
   relaxed-size = relaxed-cases (λ x. length x ≡ length d) (λ h. refl) (λ h. length-set d u (over l d e w))
 
-  -- In the distances x afterwards, v is where the arc starts and has the shorter way.
+  -- In the distances x afterwards, v is where the arc starts and has the nearer way.
   pub record Shortened (x : List ℕ) (v : ℕ) : Type 0 where
     pub at : v ≡ u
     pub shorter : over l d e w < getD d v 0

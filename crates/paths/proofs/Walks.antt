@@ -30,10 +30,10 @@ module _ {net : Network} {l d : List ℕ} {t : ℕ} where
   walk-key z stop = sym z
   walk-key z (step apart way low w) = omega (arith, way .long, walk-key z w)
 
-  -- The way over an arc that is not tight is longer than the distance of where it starts,
-  slack-longer :
+  -- The way over an arc that is not tight is farther than the distance of where it starts,
+  slack-farther :
       {far : ℕ} → Distances net l d t far → (v j w : ℕ) → (Way net l d v (getD d v 0) j → ⊥) → leads net v j ≡ some w → getD d v 0 < over l d j w
-  slack-longer D v j w slack h =
+  slack-farther D v j w slack h =
       ⊎-elim
       (λ (q : getD d v 0 ≡ over l d j w). absurd (slack (record { to = w; leads-to = h; long = sym q })))
       (λ (b : getD d v 0 < over l d j w). b)
@@ -47,7 +47,7 @@ module _ {net : Network} {l d : List ℕ} {t : ℕ} where
   walk-first D (step {v = v} apart way low w) q h ends = absurd (apart (Option·some-injective v t h))
   walk-first D (step {v = v} apart way low w) q h (smaller {d = j} {p = r} b) =
       let s = path-step net v t j r h in
-      omega (arith, slack-longer D v j (s .0) (low j b) (s .1), distance-lower D (s .0) r (s .2))
+      omega (arith, slack-farther D v j (s .0) (low j b) (s .1), distance-lower D (s .0) r (s .2))
   walk-first D (step {v = v} {e = e} apart way low w) q h (agrees {d = j} {p = r} same b) =
       let s = path-step net v t j r h in
       let to : s .0 ≡ way .to = Option·some-injective (s .0) (way .to) (sym (s .1) ∙ (ap (leads net v) same ∙ way .leads-to)) in

@@ -36,7 +36,7 @@ pub record Seeking (net : Network) (into l : List ℕ) (t size : ℕ) : Type 0 w
   pub sink : Node net t
   pub index : Into net into
 
--- The search for an arc from v that keeps to a shortest path, where there is one.
+-- The search for an arc from v that keeps to a nearest path, where there is one.
 pub record Leaving (net : Network) (out l d : List ℕ) (v : ℕ) : Type 0 where
   pub fit : Fit net l (length d)
   pub index : Out net out

@@ -10,7 +10,7 @@ use Rattle.network.specs.Path.{leads}
 use Rattle.paths.specs.Distances.{over}
 use Rattle.paths.specs.Graph.{Capped}
 
--- Arc e leads from v to some node, and the way over it is no longer than v's entry.
+-- Arc e leads from v to some node, and the way over it is no farther than v's entry.
 pub record Over (net : Network) (l d : List ℕ) (v e : ℕ) : Type 0 where
   pub to : ℕ
   pub leads-to : leads net v e ≡ some to

@@ -1,4 +1,4 @@
--- Relaxation: an arc that leads to a shorter way is taken.
+-- Relaxation: an arc that leads to a nearer way is taken.
 use mathlib.Core.Bool.{Bool, cond}
 use mathlib.Core.List.{List}
 use mathlib.Core.Path.{_≡_}
@@ -7,11 +7,11 @@ use lib.Dec.{ltb}
 use lib.ListN.{length, getD, set}
 use Rattle.paths.specs.Distances.{over}
 
--- The way over arc e from u to w is shorter than the distance of u.
+-- The way over arc e from u to w is nearer than the distance of u.
 unfoldable pub shortens : List ℕ → List ℕ → ℕ → ℕ → ℕ → Bool
 shortens l d u e w = ltb (over l d e w) (getD d u 0)
 
--- The distances after the arc: u has that of the way over it, where that is shorter.
+-- The distances after the arc: u has that of the way over it, where that is nearer.
 unfoldable pub relaxed : List ℕ → List ℕ → ℕ → ℕ → ℕ → List ℕ
 relaxed l d u e w = cond (shortens l d u e w) (set d u (over l d e w)) d
 
@@ -26,7 +26,7 @@ pub record Relaxing (l d : List ℕ) (u e w : ℕ) : Type 0 where
   pub crossing : Crossing l d e w
   pub start : u < length d
 
--- The arc is relaxed: r tells whether it led to a shorter way, and new has the distances after it.
+-- The arc is relaxed: r tells whether it led to a nearer way, and new has the distances after it.
 pub record Relaxed (l : List ℕ) (u e w : ℕ) (old : List ℕ) (r : Bool) (new : List ℕ) : Type 0 where
   pub told : r ≡ shortens l old u e w
   pub entries : new ≡ relaxed l old u e w

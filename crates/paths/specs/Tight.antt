@@ -15,7 +15,7 @@ pub record Offered (out l d : List ℕ) (p : ℕ) : Type 0 where
   pub place : endsFrom + p < length out
   pub crossing : Crossing l d (arcAt out p) (endAt out p)
 
--- Place r has the lowest-numbered arc from v whose way is as long as v's distance.
+-- Place r has the lowest-numbered arc from v whose way is as far as v's distance.
 pub record Tight (net : Network) (out l d : List ℕ) (v r : ℕ) : Type 0 where
   pub place : endsFrom + r < length out
   pub leads-to : leads net v (arcAt out r) ≡ some (endAt out r)

@@ -6,7 +6,7 @@ use lib.ListN.{getD}
 use Rattle.network.specs.Network.{Network}
 use Rattle.paths.specs.Distances.{Way}
 
--- From t nothing; from any other node the lowest-numbered arc whose way is as long as the node's distance, then the walk from where it leads.
+-- From t nothing; from any other node the lowest-numbered arc whose way is as far as the node's distance, then the walk from where it leads.
 pub data Walk (net : Network) (l d : List ℕ) (t : ℕ) : ℕ → List ℕ → Type 0 where
   stop : Walk net l d t t []
   step :
