@@ -61,11 +61,11 @@ unfolding sum
 sum-exchange zero m f = sym (sum-zero m)
 sum-exchange (suc n) m f = omega (arith, sum-exchange n m f, sum-add m (λ j. sum n (λ i. f i j)) (λ j. f n j))
 
--- Two families that agree but at one place k, where the second is larger by d.
-pub sum-change : (n : ℕ) (f g : ℕ → ℕ) (k d : ℕ) → k < n → ((i : ℕ) → i < n → (i ≡ k → ⊥) → g i ≡ f i) → g k ≡ f k + d → sum n g ≡ sum n f + d
+-- Two families that agree but at one place k: their sums differ as their terms there.
+pub sum-swap : (n : ℕ) (f g : ℕ → ℕ) (k : ℕ) → k < n → ((i : ℕ) → i < n → (i ≡ k → ⊥) → g i ≡ f i) → sum n g + f k ≡ sum n f + g k
 unfolding sum
-sum-change zero f g k d l h e = omega arith
-sum-change (suc n) f g k d l h e =
+sum-swap zero f g k l h = omega arith
+sum-swap (suc n) f g k l h =
     ⊎-elim
     (λ (q : k ≡ n). omega (
       arith,
@@ -75,7 +75,11 @@ sum-change (suc n) f g k d l h e =
     ))
     (λ (b : k < n). omega (
       arith,
-      sum-change n f g k d b (λ i l ne. h i (omega arith) ne) e,
+      sum-swap n f g k b (λ i l ne. h i (omega arith) ne),
       h n (le-refl (suc n)) (λ (r : n ≡ k). omega (arith, r, b)),
     ))
     (eq-or-lt-of-le (le-of-suc-le-suc l))
+
+-- .. where the second is larger by d.
+pub sum-change : (n : ℕ) (f g : ℕ → ℕ) (k d : ℕ) → k < n → ((i : ℕ) → i < n → (i ≡ k → ⊥) → g i ≡ f i) → g k ≡ f k + d → sum n g ≡ sum n f + d
+sum-change n f g k d l h e = omega (arith, sum-swap n f g k l h)

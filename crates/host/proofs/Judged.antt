@@ -6,7 +6,7 @@ use Prim.Native.Nat.{ℕ, _^_, _<_}
 use Rattle.network.specs.Network.{Network, arcs, commodities}
 use Rattle.network.specs.Refusal.{hostNumber}
 use Rattle.network.specs.Sound.{Counts}
-use Rattle.network.specs.Verdict.{verdict, itemConditions}
+use Rattle.network.specs.Verdict.{verdict, itemConditions, afterwards}
 use Rattle.network.specs.declared.Refusal.{Refusal}
 use Rattle.network.specs.declared.Verdict.{Verdict}
 use Rattle.network.specs.declared.Verdict.the-variants.{Accepted, Refused}
@@ -17,7 +17,7 @@ use Rattle.packed.specs.Packed.{netIn, Packed, Lent}
 use Rattle.packed.specs.declared.Shape.{Shape}
 use Rattle.packed.proofs.Columns.{arcs-is, commodities-is}
 use Rattle.host.specs.Deliver.{Delivered}
-use Rattle.host.specs.Host.{Slices, afterwards, Served}
+use Rattle.host.specs.Host.{Slices, Served}
 use Rattle.host.specs.Serve.{Judged}
 
 module _ {s : Shape} {xs : List ℕ} (p : Packed s xs) (q : ℕ) (k : Counts (s .nodes) (s .arcs) (s .commodities) q) where

@@ -1,30 +1,35 @@
 -- What a host reads back from the tables of an accepted call is the outcome's numbers, none of them cut. Assumes nothing.
 use mathlib.Core.Path.{_≡_, ap, _∙_}
-use mathlib.Core.List.{List, [], _∷_}
+use mathlib.Core.List.{List, [], _∷_, map}
 use Prim.Native.Nat.{ℕ, zero, suc, _+_, _*_, _≤_, _<_, _^_}
 use native.Mathlib.Nat.{mul-le-mul-right}
 use native.Mathlib.Omega.{arith}
 use lib.ListN.{length, getD}
 use Rattle.bounds.specs.Bounds.{answerNumbers}
+use Rattle.signed.specs.Signed.{twos, fromTwos}
 use Rattle.network.specs.Network.{Network, arcs, commodities}
 use Rattle.network.specs.Sound.{Sound}
-use Rattle.network.specs.Verdict.{verdict}
+use Rattle.network.specs.Verdict.{verdict, afterwards}
 use Rattle.network.specs.declared.Verdict.{Verdict}
 use Rattle.network.specs.declared.Verdict.the-variants.{Accepted}
 use Rattle.network.proofs.Accepted.{accepted-sound}
 use Rattle.numbers.specs.Numbers.{numberAt, written}
+use Rattle.numbers.proofs.Signed.{signed-read}
 use Rattle.numbers.proofs.Tables.{numberAt-written}
 use Rattle.method.specs.Answer.{amounts, numbersOf, outcome}
 use Rattle.method.specs.Fits.{Words}
 use Rattle.decode.specs.Decode.{networkIn}
-use Rattle.host.specs.Host.{Slices, runningIn, hostConditions, verdictIn, afterwards, Served, Hosted}
+use Rattle.host.specs.Host.{Slices, runningIn, hostConditions, verdictIn, Served, Hosted}
 use Rattle.host.proofs.Counting.{count-small}
 use Rattle.host.proofs.Hosts.{open-for}
 
--- A number written into a table of an accepted call.
-read-back : {v : Verdict} (old xs : List ℕ) {new : List ℕ} → v ≡ Accepted → new ≡ afterwards v (written old xs) old → Words xs → (i : ℕ) → i < length xs → numberAt new i ≡ getD xs i 0
+-- A table of an accepted call, and a number written into it.
+accepted-table : {v : Verdict} (old xs : List ℕ) {new : List ℕ} → v ≡ Accepted → new ≡ afterwards v (written old xs) old → new ≡ written old xs
 unfolding afterwards
-read-back old xs a e w i l = ap (λ s. numberAt s i) (e ∙ ap (λ v. afterwards v (written old xs) old) a) ∙ numberAt-written old xs i l (w i)
+accepted-table old xs a e = e ∙ ap (λ v. afterwards v (written old xs) old) a
+
+read-back : {v : Verdict} (old xs : List ℕ) {new : List ℕ} → v ≡ Accepted → new ≡ afterwards v (written old xs) old → Words xs → (i : ℕ) → i < length xs → numberAt new i ≡ getD xs i 0
+read-back old xs a e w i l = ap (λ s. numberAt s i) (accepted-table old xs a e) ∙ numberAt-written old xs i l (w i)
 
 -- place e of row i, m places a row
 within : (i k e m : ℕ) → i < k → e < m → i * m + e < k * m
@@ -38,12 +43,14 @@ module _ (n q : ℕ) (belts pairs : List ℕ) (old new : Slices) (r : ℕ) (h : 
   accepted : Sound net q × (verdict (hostConditions (commodities net) (arcs net) old) ≡ Accepted)
   accepted = accepted-sound net q (hostConditions (commodities net) (arcs net) old) a
 
-  pub amount-read : (i e : ℕ) → i < commodities net → e < arcs net → numberAt (new .flow) (i * arcs net + e) ≡ amounts net (outcome net q .flow) i e
+  pub amount-read : (i e : ℕ) → i < commodities net → e < arcs net →
+      fromTwos (numberAt (new .flow) (i * arcs net + e)) ≡ amounts net (outcome net q .flow) i e
   unfolding amounts
   amount-read i e b l =
       let f = h .guarantee a .fits in
-      read-back (old .flow) (outcome net q .flow) a (h .flow) (f .flow) (i * arcs net + e)
-      (rw (f .amounts-count) (within i (commodities net) e (arcs net) b l))
+      ap (λ s. fromTwos (numberAt s (i * arcs net + e))) (accepted-table (old .flow) (map twos (outcome net q .flow)) a (h .flow)) ∙
+      signed-read (old .flow) (outcome net q .flow) (i * arcs net + e) (rw (f .amounts-count) (within i (commodities net) e (arcs net) b l))
+      (f .flow (i * arcs net + e))
 
   pub length-read : (e : ℕ) → e < arcs net → numberAt (new .lengths) e ≡ getD (outcome net q .lengths) e 0
   length-read e l =

@@ -1,8 +1,9 @@
 -- What writing an accepted call's outcome asks and leaves.
 use mathlib.Core.Path.{_≡_}
-use mathlib.Core.List.{List, [], _∷_}
+use mathlib.Core.List.{List, [], _∷_, map}
 use Prim.Native.Nat.{ℕ, _+_, _*_, _≤_}
 use Rattle.bounds.specs.Bounds.{mostRunning, answerNumbers}
+use Rattle.signed.specs.Signed.{twos}
 use Rattle.network.specs.Network.{Network}
 use Rattle.numbers.specs.Numbers.{count, written}
 use Rattle.method.specs.Answer.{outcome, numbersOf}
@@ -29,13 +30,13 @@ pub record Open (k m : ℕ) (s : Slices) : Type 0 where
 -- The answer is the outcome's, and so are the numbers written into two tables.
 pub record TablesWritten (net : Network) (q : ℕ) (a : Answer) (flow lengths new-flow new-lengths : List ℕ) : Type 0 where
   pub answers : a ≡ outcome net q .answer
-  pub flows : new-flow ≡ written flow (outcome net q .flow)
+  pub flows : new-flow ≡ written flow (map twos (outcome net q .flow))
   pub bests : new-lengths ≡ written lengths (outcome net q .lengths)
   pub guarantee : Guarantee net q (outcome net q)
 
 -- The outcome's numbers are written.
 pub record Delivered (net : Network) (q : ℕ) (old new : Slices) : Type 0 where
-  pub flow : new .flow ≡ written (old .flow) (outcome net q .flow)
+  pub flow : new .flow ≡ written (old .flow) (map twos (outcome net q .flow))
   pub lengths : new .lengths ≡ written (old .lengths) (outcome net q .lengths)
   pub answer : new .answer ≡ written (old .answer) (numbersOf (outcome net q .answer))
   pub running : new .running ≡ written (old .running) ((runningIn old + outcome net q .answer .count) ∷ [])

@@ -1,16 +1,17 @@
 -- The call for a host in C: what every one of its byte slices holds afterwards. Document 01, "The floor and its flow".
 use mathlib.Core.Path.{_≡_}
 use mathlib.Core.Bool.{Bool, cond, _||_}
-use mathlib.Core.List.{List, [], _∷_}
+use mathlib.Core.List.{List, [], _∷_, map}
 use Prim.Native.Nat.{ℕ, _+_, _*_}
 use lib.Dec.{ltb}
 use Rattle.bounds.specs.Bounds.{mostRunning, answerNumbers}
+use Rattle.signed.specs.Signed.{twos}
 use Rattle.network.specs.Network.{Network, arcs, commodities}
 use Rattle.network.specs.Refusal.{hostNumber}
-use Rattle.network.specs.Verdict.{Condition, when, verdictOn}
+use Rattle.network.specs.Verdict.{Condition, when, verdictOn, afterwards}
 use Rattle.network.specs.declared.Refusal.the-variants.{ShortTable, FullCount}
 use Rattle.network.specs.declared.Verdict.{Verdict}
-use Rattle.network.specs.declared.Verdict.the-variants.{Accepted, Refused}
+use Rattle.network.specs.declared.Verdict.the-variants.{Accepted}
 use Rattle.numbers.specs.Numbers.{count, numberAt, written}
 use Rattle.decode.specs.Decode.{networkIn}
 use Rattle.method.specs.Answer.{outcome, numbersOf}
@@ -40,16 +41,11 @@ hostConditions k m s = when (short k m s) ShortTable ∷ when (ltb mostRunning (
 abbrev pub verdictIn : Network → ℕ → Slices → Verdict
 verdictIn net q s = verdictOn net q (hostConditions (commodities net) (arcs net) s)
 
--- The bytes of a table after a call: as they were where it is refused.
-unfoldable pub afterwards : Verdict → List ℕ → List ℕ → List ℕ
-afterwards Accepted new old = new
-afterwards (Refused r) new old = old
-
--- What a call with the verdict v on the slices old leaves: its result; in each table the outcome's numbers first, and later bytes as they
--- were; the running count raised by the iterations; and where it is accepted, all that holds of the outcome.
+-- What a call with the verdict v on the slices old leaves: its result; in each table the outcome's numbers first, amounts in two's complement, and
+-- later bytes as they were; the running count raised by the iterations; and where it is accepted, all that holds of the outcome.
 pub record Served (net : Network) (q : ℕ) (v : Verdict) (old new : Slices) (result : ℕ) : Type 0 where
   pub returned : result ≡ hostNumber v
-  pub flow : new .flow ≡ afterwards v (written (old .flow) (outcome net q .flow)) (old .flow)
+  pub flow : new .flow ≡ afterwards v (written (old .flow) (map twos (outcome net q .flow))) (old .flow)
   pub lengths : new .lengths ≡ afterwards v (written (old .lengths) (outcome net q .lengths)) (old .lengths)
   pub answer : new .answer ≡ afterwards v (written (old .answer) (numbersOf (outcome net q .answer))) (old .answer)
   pub running : new .running ≡ afterwards v (written (old .running) ((runningIn old + outcome net q .answer .count) ∷ [])) (old .running)

@@ -47,7 +47,7 @@ fn write_tables_in(
     s: Shape,
     q: u64,
     net: &[u64],
-    flows: &mut [u64],
+    flows: &mut [i64],
     tables: &mut [u64],
     flow: &mut [u8],
     lengths: &mut [u8],
@@ -58,7 +58,7 @@ fn write_tables_in(
 {
     let m = s.arcs;
     let a = solver::solve(s, q, net, flows, tables);
-    numbers::write_all(flow, flows, flows.len());
+    numbers::write_signed(flow, flows, flows.len());
     numbers::write_all(lengths, &tables[KEPT..KEPT + m], m);
     a
 }
@@ -70,7 +70,7 @@ fn write_tables(s: Shape, q: u64, net: &[u64], flow: &mut [u8], lengths: &mut [u
     ensures { λ r. ⌜ TablesWritten (netIn s (now (net .entry))) q r (now (flow .entry)) (now (lengths .entry)) (now (flow .exit)) (now (lengths .exit)) ⌝ }
 {
     let size = s.commodities * s.arcs;
-    let mut flows = [0u64; MOST_COMMODITIES * MOST_ARCS];
+    let mut flows = [0i64; MOST_COMMODITIES * MOST_ARCS];
     let mut tables = [0u64; TABLE_NUMBERS];
     write_tables_in(s, q, net, &mut flows[..size], &mut tables, flow, lengths)
 }

@@ -6,8 +6,9 @@ use mathlib.Core.Option.{Option·some-injective}
 use Prim.Native.Nat.{ℕ, zero, suc, _<_}
 use native.Mathlib.Omega.{arith}
 use Rattle.arith.specs.Sum.{sum}
+use Rattle.signed.specs.Signed.{ahead, back}
 use Rattle.network.specs.Path.{Joined, follow, pathLength}
-use Rattle.network.specs.Flow.{AtMost, Carries, outflow, inflow, leaving, entering}
+use Rattle.network.specs.Flow.{AtMost, Carries, passing, outflow, inflow, leaving, entering}
 use Rattle.network.proofs.Leads.{leads-some}
 use Rattle.network.proofs.Paths.{path-step, path-arcs}
 use Rattle.arith.specs.Member.{first}
@@ -27,7 +28,7 @@ at-most = bounded (net 1 2) (ends 1 2 (omega arith) (omega arith) refl) (both 1)
 
 -- The bound is 2, and the flow carries it.
 tight : (weight (net 1 2) (both 1) ≡ 2) × Carries (net 1 2) ones 2
-unfolding ones weight leaving entering outflow inflow sum
+unfolding ones weight leaving entering outflow inflow passing sum ahead back
 tight = (refl, refl)
 
 -- No path leads from 2 to 1.

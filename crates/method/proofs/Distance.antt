@@ -1,15 +1,16 @@
 -- The distance to a sink, capped at alpha, is a potential: so the potentials that weak duality asks for exist. Guarantee, section 6.
 -- Assumes nothing.
-use mathlib.Core.Path.{refl}
+use mathlib.Core.Path.{_≡_, refl}
+use mathlib.Core.Option.{some}
 use mathlib.Core.List.{List, [], _∷_}
 use Prim.Native.Nat.{ℕ, _+_, _-_, _≤_, _<_}
 use native.Mathlib.Nat.{le-refl, le-antisymm}
 use native.Mathlib.Omega.{arith}
 use lib.ListN.{getD}
-use Rattle.network.specs.Network.{Network, arcs, tail, head}
-use Rattle.network.specs.Path.{Path, follow, pathLength}
+use Rattle.network.specs.Network.{Network}
+use Rattle.network.specs.Path.{Path, leads, follow, pathLength}
 use Rattle.network.specs.Ends.{Node, Ends}
-use Rattle.network.proofs.Leads.{some-leads}
+use Rattle.network.proofs.Leads.{leads-from}
 use Rattle.network.proofs.Paths.{path-cons}
 use Rattle.network.proofs.Potential.{Potential}
 use Rattle.network.proofs.Shortcuts.{shortcut, shortcut-few}
@@ -37,26 +38,25 @@ module _ (net : Network) (ends : Ends net) (l : List ℕ) (alpha t : ℕ) where
             (path-member net v t (s .path) (omega (arith, shortcut-few net v t ends node p s)) (s .leads)),
       )
 
-  -- Along an arc the capped distance falls by no more than the arc's length.
-  distance-arc :
-      (e : ℕ) → e < arcs net → cappedDistance net l alpha t (tail net e) ≤ getD l e 0 + cappedDistance net l alpha t (head net e)
+  -- Where an arc leads, the capped distance falls by no more than the arc's length.
+  distance-arc : (v e w : ℕ) → leads net v e ≡ some w → cappedDistance net l alpha t v ≤ getD l e 0 + cappedDistance net l alpha t w
   unfolding cappedDistance pathLength
-  distance-arc e b =
+  distance-arc v e w h =
       omega (
         arith,
         capped-greatest
             alpha
             (pathLength l)
-            (cappedDistance net l alpha t (tail net e) - getD l e 0)
-            (paths net (head net e) t)
-            (omega (arith, capped-cap alpha (pathLength l) (paths net (tail net e) t)))
+            (cappedDistance net l alpha t v - getD l e 0)
+            (paths net w t)
+            (omega (arith, capped-cap alpha (pathLength l) (paths net v t)))
             (λ p m. omega (
               arith,
               distance-path
-                  (tail net e)
+                  v
                   (e ∷ p)
-                  (ends .tails e b)
-                  (path-cons net (tail net e) (head net e) t e p (some-leads net (tail net e) e b refl) (member-path net (head net e) t p m .1)),
+                  (leads-from net v e w h ends)
+                  (path-cons net v w t e p h (member-path net w t p m .1)),
             )),
       )
 

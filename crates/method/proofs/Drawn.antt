@@ -1,116 +1,166 @@
--- A draw of g along a path of commodity i leaves a flow a flow, adds g to its total, and adds to each load what it adds to the table.
+-- A draw of g along a path of commodity i leaves a flow a flow, adds g to its total, and adds to the sizes on an arc no more than to its load.
 -- Assumes nothing.
-use mathlib.Core.Path.{_≡_, refl, ap, _∙_}
-use mathlib.Core.Bool.{Bool, true, false, cond}
-use mathlib.Core.List.{List, [], _∷_, map}
-use Prim.Native.Nat.{ℕ, _+_, _*_, _<_}
-use native.Mathlib.Nat.{mul-le-mul-right}
+use mathlib.Core.Path.{_≡_, refl, sym, ap, subst, _∙_}
+use mathlib.Core.Bool.{Bool, true, false}
+use mathlib.Core.List.{List, [], _∷_}
+use mathlib.Core.Option.{some, Option·some-injective}
+use Prim.Native.Nat.{ℕ, _+_, _*_, _≤_, _<_}
+use native.Mathlib.Nat.{le-trans}
 use native.Mathlib.Omega.{arith}
-use borrow.Author.Tests.{eqb-true}
+use borrow.Author.Tests.{eqb-true, eqb-false}
 use lib.Dec.{eqb}
-use lib.ListN.{length}
-use Rattle.arith.specs.Sum.{sum}
-use Rattle.arith.proofs.Sums.{sum-change}
+use lib.IntN.{ℤ}
+use lib.ListN.{length, getD, set, length-set}
+use Rattle.arith.proofs.Sums.{sum-cong, sum-swap}
+use Rattle.signed.specs.Signed.{ahead, back}
 use Rattle.network.specs.Network.{Network, arcs, commodities, tail, head, source, sink}
-use Rattle.network.specs.Path.{Path}
-use Rattle.network.specs.Flow.{Flow, Carries, outflow, inflow, loadOf, leaving, entering}
-use Rattle.method.specs.Iteration.{update}
+use Rattle.network.specs.Path.{Path, beyond, leads, follow}
+use Rattle.network.specs.Flow.{Flow, Carries, passing, outflow, inflow, loadOf, leaving, entering}
+use Rattle.network.proofs.Leads.{leads-arc, leads-beyond}
+use Rattle.network.proofs.Paths.{path-step}
+use Rattle.method.specs.Iteration.{update, crossed, pushed}
 use Rattle.method.specs.Answer.{amounts}
-use Rattle.method.proofs.Balance.{path-below, path-balance}
-use Rattle.method.proofs.Through.{through-adds, times-row}
-use Rattle.arith.specs.Times.{times}
-use Rattle.method.proofs.Times.{Below, none, also, once, once-same, once-other, along, update-adds}
+use Rattle.method.proofs.Crossed.{crossed-other, crossed-balance, crossed-load, crossed-one-way}
+use Rattle.method.proofs.Times.{Below, also, once, once-same, once-other, set-adds}
 
--- The places of row i of a table of k rows are within it.
-row-below : (m k i : ℕ) (p : List ℕ) → i < k → Below m p → Below (k * m) (map (λ e. i * m + e) p)
-row-below m k i [] l none = none
-row-below m k i (e ∷ p) l (also h b) =
-    let here : i * m + e < k * m = omega (arith, mul-le-mul-right m l) in
-    also here (row-below m k i p l b)
+-- Equal amounts on all arcs leave and enter a node alike.
+module _ (net : Network) (f h : ℕ → ℤ) (same : (a : ℕ) → a < arcs net → h a ≡ f a) (v : ℕ) where
+  at-same : (part : ℤ → ℕ) (end : ℕ → ℕ) → passing (arcs net) end (λ a. part (h a)) v ≡ passing (arcs net) end (λ a. part (f a)) v
+  unfolding passing
+  at-same part end = sum-cong (arcs net) _ _ (λ a b. rw (same a b))
 
--- A sum whose term at i alone grows, by c i * g.
-sum-row : (k i g : ℕ) (c x x' : ℕ → ℕ) → i < k → ((j : ℕ) → j < k → x' j ≡ x j + c j * (once j i * g)) → sum k x' ≡ sum k x + c i * g
-sum-row k i g c x x' l h =
-    sum-change k x x' i (c i * g) l
-    (λ j b n. h j b ∙ omega (arith, ap (λ t. c j * (t * g)) (once-other i j n)))
-    (h i l ∙ omega (arith, ap (λ t. c i * (t * g)) (once-same i)))
-
-module _ (net : Network) (i g : ℕ) (p : List ℕ) (path : Path net (source net i) (sink net i) p) (listed : i < commodities net) (table : List ℕ)
-    (sized : length table ≡ commodities net * arcs net) where
-  -- The table after the draw.
-  abbrev next : List ℕ
-  next = update (λ e x. x + g) (map (λ e. i * arcs net + e) p) table
-
-  below : Below (arcs net) p
-  below = path-below net (source net i) (sink net i) p path
-
-  -- What commodity j then has on arc e.
-  adds : (j e : ℕ) → e < arcs net → amounts net next j e ≡ amounts net table j e + times e p * (once j i * g)
-  unfolding amounts
-  adds j e l =
-      omega (
-        arith,
-        update-adds g (map (λ e. i * arcs net + e) p) table (j * arcs net + e) (rw sized (row-below (arcs net) (commodities net) i p listed below)),
-        ap (λ t. t * g) (times-row (arcs net) i j e p below l),
-      )
-
-  out-adds : (j v : ℕ) → outflow net (amounts net next j) v ≡ outflow net (amounts net table j) v + along (λ e. once v (tail net e)) p * (once j i * g)
+  pub out-same : outflow net h v ≡ outflow net f v
   unfolding outflow
-  out-adds j v = through-adds (arcs net) (tail net) (amounts net table j) (amounts net next j) p (once j i * g) v below (adds j)
+  out-same = omega (arith, at-same ahead (tail net), at-same back (head net))
 
-  in-adds : (j v : ℕ) → inflow net (amounts net next j) v ≡ inflow net (amounts net table j) v + along (λ e. once v (head net e)) p * (once j i * g)
+  pub in-same : inflow net h v ≡ inflow net f v
   unfolding inflow
-  in-adds j v = through-adds (arcs net) (head net) (amounts net table j) (amounts net next j) p (once j i * g) v below (adds j)
+  in-same = omega (arith, at-same ahead (head net), at-same back (tail net))
 
-  -- It is a flow still.
-  pub stays-flow : Flow net (amounts net table) → Flow net (amounts net next)
-  stays-flow F =
-      record {
-        balance = λ j v lj lo hi ns nt.
-            let levels : along (λ e. once v (tail net e)) p * (once j i * g) ≡ along (λ e. once v (head net e)) p * (once j i * g) =
-            even v j (eqb i j) refl ns nt in
-            omega (arith, out-adds j v, in-adds j v, F .balance j v lj lo hi ns nt);
-      }
-    where
-      even : (v j : ℕ) (t : Bool) → eqb i j ≡ t → (v ≡ source net j → ⊥) → (v ≡ sink net j → ⊥) →
-          along (λ e. once v (tail net e)) p * (cond t 1 0 * g) ≡ along (λ e. once v (head net e)) p * (cond t 1 0 * g)
-      even v j false q ns nt = omega arith
-      even v j true q ns nt =
-          let same : i ≡ j = eqb-true i j q in
-          ap (λ t. t * (1 * g))
-          (omega (
-            arith,
-            path-balance net v (source net i) (sink net i) p path,
-            once-other (source net i) v (λ (h : v ≡ source net i). ns (h ∙ ap (source net) same)),
-            once-other (sink net i) v (λ (h : v ≡ sink net i). nt (h ∙ ap (sink net) same)),
-          ))
+module _ (net : Network) (i g : ℕ) (listed : i < commodities net) where
+  -- The table after the draw from v along p.
+  abbrev drawn : ℕ → List ℕ → List ℤ → List ℤ
+  drawn v p flow = pushed net (i * arcs net) g v p flow
 
-  leaving-adds : leaving net (amounts net next) ≡ leaving net (amounts net table) + along (λ e. once (source net i) (tail net e)) p * g
-  unfolding leaving
-  leaving-adds =
-      sum-row (commodities net) i g (λ j. along (λ e. once (source net j) (tail net e)) p) (λ j. outflow net (amounts net table j) (source net j))
-      (λ j. outflow net (amounts net next j) (source net j)) listed (λ j l. out-adds j (source net j))
+  abbrev Sized : List ℤ → Type 0
+  Sized flow = length flow ≡ commodities net * arcs net
 
-  entering-adds : entering net (amounts net next) ≡ entering net (amounts net table) + along (λ e. once (source net i) (head net e)) p * g
-  unfolding entering
-  entering-adds =
-      sum-row (commodities net) i g (λ j. along (λ e. once (source net j) (head net e)) p) (λ j. inflow net (amounts net table j) (source net j))
-      (λ j. inflow net (amounts net next j) (source net j)) listed (λ j l. in-adds j (source net j))
+  abbrev over : ℕ → ℕ → List ℤ → List ℤ
+  over v e flow = crossed net (i * arcs net) g v e flow
 
-  -- Its total is larger by the draw.
-  pub carries-more : (total : ℕ) → (source net i ≡ sink net i → ⊥) → Carries net (amounts net table) total → Carries net (amounts net next) (total + g)
-  carries-more total apart h =
-      let one : along (λ e. once (source net i) (tail net e)) p ≡ along (λ e. once (source net i) (head net e)) p + 1 =
+  over-sized : (v e : ℕ) (flow : List ℤ) → Sized flow → Sized (over v e flow)
+  over-sized v e flow sized = length-set flow (i * arcs net + e) _ ∙ sized
+
+  pub drawn-sized : (v : ℕ) (p : List ℕ) (flow : List ℤ) → Sized flow → Sized (drawn v p flow)
+  unfolding pushed
+  drawn-sized v [] flow sized = sized
+  drawn-sized v (e ∷ p) flow sized = drawn-sized (beyond net v e) p (over v e flow) (over-sized v e flow sized)
+
+  -- Other commodities' amounts stay.
+  drawn-other : (v t : ℕ) (p : List ℕ) (flow : List ℤ) → Path net v t p → Sized flow → (j a : ℕ) → a < arcs net → (j ≡ i → ⊥) →
+      amounts net (drawn v p flow) j a ≡ amounts net flow j a
+  unfolding pushed
+  drawn-other v t [] flow path sized j a b other = refl
+  drawn-other v t (e ∷ p) flow path sized j a b other =
+      let s = path-step net v t e p path in
+      rw (leads-beyond net v e (s .0) (s .1))
+      (drawn-other (s .0) t p (over v e flow) (s .2) (over-sized v e flow sized) j a b other ∙
+      crossed-other net i g listed flow sized v e (s .0) (s .1) j a b (λ r. other (r .0)))
+
+  -- What leaves a node less what enters it is more by g at the path's start, and less by g at its end.
+  drawn-balance : (v t : ℕ) (p : List ℕ) (flow : List ℤ) → Path net v t p → Sized flow → (u : ℕ) →
+      outflow net (amounts net (drawn v p flow) i) u + inflow net (amounts net flow i) u + once u t * g ≡
+      outflow net (amounts net flow i) u + inflow net (amounts net (drawn v p flow) i) u + once u v * g
+  unfolding pushed follow
+  drawn-balance v t [] flow path sized u = rw (Option·some-injective v t path) refl
+  drawn-balance v t (e ∷ p) flow path sized u =
+      let s = path-step net v t e p path in
+      rw (leads-beyond net v e (s .0) (s .1))
+      (omega (
+        arith,
+        drawn-balance (s .0) t p (over v e flow) (s .2) (over-sized v e flow sized) u,
+        crossed-balance net i g listed flow sized v e (s .0) (s .1) u,
+      ))
+
+  -- Nothing goes back where nothing did.
+  drawn-one-way : (v t : ℕ) (p : List ℕ) (flow : List ℤ) → Path net v t p → Sized flow → (j a : ℕ) → a < arcs net →
+      back (amounts net flow j a) ≡ 0 → back (amounts net (drawn v p flow) j a) ≡ 0
+  unfolding pushed
+  drawn-one-way v t [] flow path sized j a b z = z
+  drawn-one-way v t (e ∷ p) flow path sized j a b z =
+      let s = path-step net v t e p path in
+      rw (leads-beyond net v e (s .0) (s .1))
+      (drawn-one-way (s .0) t p (over v e flow) (s .2) (over-sized v e flow sized) j a b
+      (crossed-one-way net i g listed flow sized v e (s .0) (s .1) j a b z))
+
+  -- The sizes of the amounts on an arc are together no more than its load.
+  abbrev Within : List ℤ → List ℕ → Type 0
+  Within flow loads = (a : ℕ) → a < arcs net → loadOf net (amounts net flow) a ≤ getD loads a 0
+
+  pub drawn-within : (v t : ℕ) (p : List ℕ) (flow : List ℤ) (loads : List ℕ) → Path net v t p → Sized flow → length loads ≡ arcs net →
+      Within flow loads → Within (drawn v p flow) (update (λ e x. x + g) p loads)
+  unfolding pushed update
+  drawn-within v t [] flow loads path sized places h = h
+  drawn-within v t (e ∷ p) flow loads path sized places h =
+      let s = path-step net v t e p path in
+      rw (leads-beyond net v e (s .0) (s .1))
+      (drawn-within (s .0) t p (over v e flow) (set loads e (getD loads e 0 + g)) (s .2) (over-sized v e flow sized)
+      (length-set loads e (getD loads e 0 + g) ∙ places)
+      (λ a b.
       omega (
         arith,
-        path-balance net (source net i) (source net i) (sink net i) p path,
-        once-same (source net i),
-        once-other (sink net i) (source net i) apart,
-      ) in
-      omega (arith, leaving-adds, entering-adds, ap (λ t. t * g) one)
+        crossed-load net i g listed flow sized v e (s .0) (s .1) a b,
+        set-adds g loads e a (omega (arith, leads-arc net v e (s .0) (s .1))),
+        h a b,
+      )))
 
-  -- The load of an arc grows by the draw as often as the path has the arc.
-  pub load-adds : (e : ℕ) → e < arcs net → loadOf net (amounts net next) e ≡ loadOf net (amounts net table) e + times e p * g
-  unfolding loadOf
-  load-adds e l =
-      sum-row (commodities net) i g (λ j. times e p) (λ j. amounts net table j e) (λ j. amounts net next j e) listed (λ j b. adds j e l)
+  module _ (p : List ℕ) (path : Path net (source net i) (sink net i) p) (flow : List ℤ) (sized : Sized flow) where
+    abbrev next : List ℤ
+    next = drawn (source net i) p flow
+
+    -- Of another commodity nothing changes at any node.
+    out-other : (j v : ℕ) → (j ≡ i → ⊥) → outflow net (amounts net next j) v ≡ outflow net (amounts net flow j) v
+    out-other j v other =
+        out-same net (amounts net flow j) (amounts net next j) (λ a b. drawn-other (source net i) (sink net i) p flow path sized j a b other) v
+
+    in-other : (j v : ℕ) → (j ≡ i → ⊥) → inflow net (amounts net next j) v ≡ inflow net (amounts net flow j) v
+    in-other j v other =
+        in-same net (amounts net flow j) (amounts net next j) (λ a b. drawn-other (source net i) (sink net i) p flow path sized j a b other) v
+
+    -- It is a flow still.
+    pub stays-flow : Flow net (amounts net flow) → Flow net (amounts net next)
+    stays-flow F =
+        record {
+          balance = λ j v l lo hi ns nt. even j v (eqb j i) refl ns nt (F .balance j v l lo hi ns nt);
+          one-way = λ j e l b. drawn-one-way (source net i) (sink net i) p flow path sized j e b (F .one-way j e l b);
+        }
+      where
+        even : (j v : ℕ) (t : Bool) → eqb j i ≡ t → (v ≡ source net j → ⊥) → (v ≡ sink net j → ⊥) →
+            inflow net (amounts net flow j) v ≡ outflow net (amounts net flow j) v → inflow net (amounts net next j) v ≡ outflow net (amounts net next j) v
+        even j v false q ns nt h = omega (arith, h, out-other j v (eqb-false j i q), in-other j v (eqb-false j i q))
+        even j v true q ns nt h =
+            let same : j ≡ i = eqb-true j i q in
+            rw same
+            (omega (
+              arith,
+              rw same at h,
+              drawn-balance (source net i) (sink net i) p flow path sized v,
+              ap (λ x. x * g) (once-other (source net i) v (rw same at ns)),
+              ap (λ x. x * g) (once-other (sink net i) v (rw same at nt)),
+            ))
+
+    -- Its total is larger by the draw.
+    pub carries-more : (total : ℕ) → (source net i ≡ sink net i → ⊥) → Carries net (amounts net flow) total → Carries net (amounts net next) (total + g)
+    unfolding leaving entering
+    carries-more total apart h =
+        omega (
+          arith,
+          h,
+          sum-swap (commodities net) (λ j. outflow net (amounts net flow j) (source net j)) (λ j. outflow net (amounts net next j) (source net j)) i listed
+              (λ j b other. out-other j (source net j) other),
+          sum-swap (commodities net) (λ j. inflow net (amounts net flow j) (source net j)) (λ j. inflow net (amounts net next j) (source net j)) i listed
+              (λ j b other. in-other j (source net j) other),
+          drawn-balance (source net i) (sink net i) p flow path sized (source net i),
+          ap (λ x. x * g) (once-same (source net i)),
+          ap (λ x. x * g) (once-other (sink net i) (source net i) apart),
+        )

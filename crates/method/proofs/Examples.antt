@@ -4,7 +4,7 @@
 use mathlib.Core.Path.{_≡_}
 use mathlib.Core.Bool.{Bool, true, _&&_}
 use mathlib.Core.Option.{bind}
-use mathlib.Core.List.{List, [], _∷_, _++_}
+use mathlib.Core.List.{List, [], _∷_, _++_, map}
 use Prim.Native.Nat.{ℕ, zero, suc, _<_}
 use native.Mathlib.Nat.{not-suc-le-zero, le-of-suc-le-suc}
 use lib.Dec.{T}
@@ -16,23 +16,24 @@ use Rattle.arith.proofs.Same.{same-eq, and-parts}
 use Rattle.length.specs.Length.{scale, mark, start, growth, halving}
 use Rattle.length.specs.Level.{level, threshold}
 use Rattle.length.specs.Levels.{levels}
+use Rattle.signed.specs.Signed.{twos}
 use Rattle.network.specs.Network.{Network}
 use Rattle.network.specs.Path.{leads, follow, pathLength}
 use Rattle.method.specs.Choice.{words, endsAt, paths, candidates, sooner, least, choice}
-use Rattle.method.specs.Iteration.{initial, weight, lowest, draw, update, grown, settled, advance, iteration}
+use Rattle.method.specs.Iteration.{initial, weight, lowest, draw, update, pushed, grown, settled, advance, iteration}
 use Rattle.method.specs.Run.{ended, runs, run}
 use Rattle.method.specs.Answer.{Outcome, fullest, numbersOf, unjoined, outcomeOf, outcome}
 
--- The answer's seven numbers, then the flow, then the best lengths.
+-- The answer's seven numbers, then the flow as a byte slice has it, then the best lengths.
 pub figures : Outcome → List ℕ
-figures o = numbersOf (o .answer) ++ (o .flow ++ o .lengths)
+figures o = numbersOf (o .answer) ++ (map twos (o .flow) ++ o .lengths)
 
 -- The definitions give these figures for the network at precision 4.
 gives : Network → List ℕ → Bool
 unfolding
     figures ceil upFrom upTo exists flat keep sum same scale mark start growth halving level threshold levels leads follow pathLength words
-    endsAt paths candidates sooner least choice initial weight lowest draw update grown settled advance iteration ended runs run fullest
-    numbersOf unjoined outcomeOf outcome bind
+    endsAt paths candidates sooner least choice initial weight lowest draw update pushed grown settled advance iteration ended runs run fullest
+    numbersOf unjoined outcomeOf outcome bind twos
 gives net xs = same (figures (outcome net 4)) xs
 
 -- n nodes; arcs by tails, heads and capacities; commodities by sources and sinks.

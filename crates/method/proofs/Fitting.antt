@@ -5,6 +5,7 @@ use mathlib.Core.Logic.{⊎-elim}
 use Prim.Native.Nat.{ℕ, zero, suc, _+_, _*_, _-_, _/_, _%_, _^_, _≤_, _<_}
 use native.Mathlib.Nat.{mul-le-mul, mul-le-mul-right, div-add-mod', mod-lt, div-lt-iff-lt-mul}
 use native.Mathlib.Omega.{arith}
+use lib.IntN.{ℤ, pos}
 use lib.ListN.{length, getD, length-replicate, List·getD-eq-default}
 use Rattle.arith.specs.Sum.{sum}
 use Rattle.arith.proofs.Order.{le-or-lt}
@@ -13,16 +14,24 @@ use Rattle.network.specs.Flow.{loadOf}
 use Rattle.network.specs.Network.{Network, arcs, commodities, capacity}
 use Rattle.network.specs.Sound.{Sound}
 use Rattle.method.specs.Answer.{fullest, numbersOf, amounts, unjoined, outcomeOf}
-use Rattle.method.specs.Fits.{Words, Fits}
+use Rattle.signed.specs.Signed.{ahead, back, size}
+use Rattle.method.specs.Fits.{Words, Amounts, Fits}
 use Rattle.method.specs.Iteration.{State, weight}
 use Rattle.method.specs.Sizes.{Sizes}
 use Rattle.method.specs.declared.Answer.{Answer}
-use Rattle.method.proofs.Table.{Table, zeros, zero-load}
+use Rattle.method.proofs.Table.{Table, all-alike, zeros, zero-load}
 
 -- Past the end a list reads 0.
 words : (xs : List ℕ) → ((j : ℕ) → j < length xs → getD xs j 0 < 2 ^ 64) → Words xs
 words xs h j =
     ⊎-elim (λ (b : length xs ≤ j). omega (arith, List·getD-eq-default xs 0 b)) (λ (b : j < length xs). h j b) (le-or-lt (length xs) j)
+
+-- Past the end a flow reads 0 too.
+small : (xs : List ℤ) → ((j : ℕ) → j < length xs → size (getD xs j (pos 0)) < 2 ^ 21) → Amounts xs
+unfolding ahead back
+small xs h j =
+    ⊎-elim (λ (b : length xs ≤ j). omega (arith, ap (λ x. size x) (List·getD-eq-default xs (pos 0) b))) (λ (b : j < length xs). omega (arith, h j b))
+    (le-or-lt (length xs) j)
 
 -- the answer's numbers, one after the other
 seven : (a : Answer) → a .total < 2 ^ 64 → a .capacity < 2 ^ 64 → a .load < 2 ^ 64 → a .bound < 2 ^ 64 → a .alpha < 2 ^ 64 → a .count < 2 ^ 64 →
@@ -42,12 +51,12 @@ seven a t c l b p n i = words (numbersOf a) each
 
 module _ (net : Network) where
   pub unjoined-fits : Fits net (unjoined net)
-  unfolding unjoined
+  unfolding unjoined ahead back
   unjoined-fits =
       record {
-        amounts-count = length-replicate (commodities net * arcs net) 0;
+        amounts-count = length-replicate (commodities net * arcs net) (pos 0);
         lengths-count = length-replicate (arcs net) 0;
-        flow = λ j. omega (arith, zeros (commodities net * arcs net) j);
+        flow = λ j. omega (arith, ap (λ x. size x) (all-alike (pos 0) (commodities net * arcs net) j));
         lengths = λ j. omega (arith, zeros (arcs net) j);
         answer =
             seven (unjoined net .answer) (omega arith) (omega arith) (omega arith)
@@ -68,25 +77,25 @@ module _ (net : Network) where
         mul-le-mul-right (getD l j 0) (positive j (omega arith)),
       ))
 
-  -- An amount is at most its arc's load.
-  amount-le : (flow loads : List ℕ) (total : ℕ) → Table net flow loads total → (i e : ℕ) → i < commodities net → e < arcs net →
-      getD flow (i * arcs net + e) 0 ≤ getD loads e 0
+  -- An amount's size is at most its arc's load.
+  amount-le : (flow : List ℤ) (loads : List ℕ) (total : ℕ) → Table net flow loads total → (i e : ℕ) → i < commodities net → e < arcs net →
+      size (getD flow (i * arcs net + e) (pos 0)) ≤ getD loads e 0
   unfolding loadOf amounts
   amount-le flow loads total t i e b l =
-      omega (arith, t .sums e l, term-le-sum (commodities net) (λ i. amounts net flow i e) i b)
+      omega (arith, t .within e l, term-le-sum (commodities net) (λ i. size (amounts net flow i e)) i b)
 
-  flow-fits : (flow loads : List ℕ) (total : ℕ) → Table net flow loads total → 1 ≤ arcs net → ((e : ℕ) → e < arcs net → getD loads e 0 < 2 ^ 21) → Words flow
-  flow-fits flow loads total t some small =
-      words flow
-      (λ j b.
+  -- So all of them are below what bounds the loads.
+  pub flow-below : (most : ℕ) (flow : List ℤ) (loads : List ℕ) (total : ℕ) → Table net flow loads total → 1 ≤ arcs net →
+      ((e : ℕ) → e < arcs net → getD loads e 0 < most) → (j : ℕ) → j < length flow → size (getD flow j (pos 0)) < most
+  flow-below most flow loads total t some small j b =
       let row : j / arcs net < commodities net = div-lt-iff-lt-mul some .1 (omega (arith, t .rows)) in
       let e : j % arcs net < arcs net = mod-lt j some in
       omega (
         arith,
         amount-le flow loads total t (j / arcs net) (j % arcs net) row e,
         small (j % arcs net) e,
-        ap (λ p. getD flow p 0) (div-add-mod' j (arcs net)),
-      ))
+        ap (λ p. size (getD flow p (pos 0))) (div-add-mod' j (arcs net)),
+      )
 
 module _ (net : Network) (q : ℕ) (sound : Sound net q) (s : State) (sizes : Sizes net s) where
   abbrev b : ℕ
@@ -102,7 +111,7 @@ module _ (net : Network) (q : ℕ) (sound : Sound net q) (s : State) (sizes : Si
       record {
         amounts-count = t .rows;
         lengths-count = z;
-        flow = flow-fits net (s .flow) (s .loads) (s .total) t (sound .counts .of-arcs .least) (sizes .load-high);
+        flow = small (s .flow) (flow-below net (2 ^ 21) (s .flow) (s .loads) (s .total) t (sound .counts .of-arcs .least) (sizes .load-high));
         lengths = lengths-fit net (s .bestLengths) z (λ e l. sound .arc-capacity e l .least) (omega (arith, e, sizes .bound-high));
         answer =
             seven (outcomeOf net s .answer)
@@ -115,6 +124,6 @@ module _ (net : Network) (q : ℕ) (sound : Sound net q) (s : State) (sizes : Si
             (omega (arith, sizes .count-high, sizes .best-high));
         total = omega (arith, mul-le-mul (sizes .total-high) most);
         loads = λ e l.
-            let small : loadOf net (amounts net (s .flow)) e ≤ 2 ^ 21 = omega (arith, t .sums e l, sizes .load-high e l) in
-            omega (arith, mul-le-mul small most);
+            let low : loadOf net (amounts net (s .flow)) e ≤ 2 ^ 21 = omega (arith, t .within e l, sizes .load-high e l) in
+            omega (arith, mul-le-mul low most);
       }

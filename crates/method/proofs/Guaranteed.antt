@@ -10,6 +10,7 @@ use native.Mathlib.Nat.{mul-pos, mul-le-mul-right, le-of-mul-le-mul-left}
 use native.Mathlib.Omega.{arith}
 use borrow.Author.Tests.{leb-true}
 use lib.Dec.{leb}
+use lib.IntN.{ℤ}
 use lib.ListN.{getD}
 use Rattle.arith.proofs.Exists.{exists-true}
 use Rattle.length.specs.Level.{level, threshold}
@@ -118,7 +119,7 @@ module _ (net : Network) (q : ℕ) (sound : Sound net q) where
         by-best (unset e z) = absurd (omega (arith, alpha-pos))
         by-best (kept e far) = sym e
 
-    upper : (d : ℕ) (g : ℕ → ℕ → ℕ) → Flow net g → Keeps net d g → AtMost net g d (t .bound) (t .alpha)
+    upper : (d : ℕ) (g : ℕ → ℕ → ℤ) → Flow net g → Keeps net d g → AtMost net g d (t .bound) (t .alpha)
     upper = by-best (valid .best)
       where
         by-best : Best net (t .bound) (t .alpha) (t .bestLengths) → Bounds net (t .bound) (t .alpha)
@@ -157,7 +158,7 @@ module _ (net : Network) (q : ℕ) (sound : Sound net q) where
           capacities = λ e l.
               omega (
                 arith,
-                ap (λ y. y * capacity net b) (valid .table .sums e l),
+                mul-le-mul-right (capacity net b) (valid .table .within e l),
                 full .greatest e (omega arith),
               );
           some-load = loaded;

@@ -1,5 +1,4 @@
 pub mod Arcs
-pub mod Balance
 pub mod Bound
 pub mod BoundExample
 pub mod Candidates
@@ -7,6 +6,7 @@ pub mod Capped
 pub mod Changed
 pub mod Choosing
 pub mod Distance
+pub mod Crossed
 pub mod Drawn
 pub mod Draws
 pub mod Ends
@@ -25,7 +25,6 @@ pub mod Reached
 pub mod Shortest
 pub mod Sized
 pub mod Table
-pub mod Through
 pub mod Tied
 pub mod Times
 pub mod TwoArcs

@@ -26,7 +26,7 @@ use Rattle.method.specs.Choice.{Choice, choice}
 use Rattle.method.specs.Chosen.{Chosen}
 use Rattle.method.specs.Iteration.{State, initial, weight, draw, grown, settled, advance}
 use Rattle.method.specs.Run.{ended}
-use Rattle.method.proofs.Arcs.{chosen-arcs, chosen-arcs-distinct, chosen-some}
+use Rattle.method.proofs.Arcs.{path-below, chosen-arcs, chosen-arcs-distinct, chosen-some}
 use Rattle.method.proofs.Bound.{Far}
 use Rattle.method.proofs.Choosing.{chosen}
 use Rattle.method.proofs.Draws.{At, draw-whole}
@@ -35,7 +35,6 @@ use Rattle.method.proofs.Once.{distinct-once}
 use Rattle.method.proofs.Programs.{program}
 use Rattle.method.proofs.Table.{Table, zeros, table-start, table-step}
 use Rattle.method.proofs.Times.{update-length}
-use Rattle.method.proofs.Balance.{path-below}
 
 -- The kept fraction is 1 over 0, or D over alpha for the kept lengths, by which no path is shorter than alpha.
 pub data Best (net : Network) (bound alpha : ℕ) (l : List ℕ) : Type 0 where

@@ -1,61 +1,71 @@
--- The flow table at every state of a run: it is a flow of total F, and the loads are its sums.
+-- The flow table at every state of a run: it is a flow of total F, and the sizes of its amounts are within the loads.
 -- Assumes nothing.
-use mathlib.Core.Path.{_≡_, refl, sym, _∙_}
+use mathlib.Core.Path.{_≡_, refl, sym, ap, _∙_}
 use mathlib.Core.Bool.{Bool, true, false, cond}
 use mathlib.Core.Logic.{⊎-elim}
-use mathlib.Core.List.{List, map}
+use mathlib.Core.List.{List}
 use Prim.Native.Nat.{ℕ, _+_, _*_, _≤_, _<_}
 use native.Mathlib.Nat.{le-trans, le-of-eq}
 use native.Mathlib.Omega.{arith}
 use lib.Dec.{eqb}
+use lib.IntN.{ℤ, pos}
 use lib.ListN.{length, getD, replicate, length-replicate, getD-replicate, List·getD-eq-default}
 use Rattle.arith.proofs.Order.{le-or-lt}
 use Rattle.arith.proofs.Sums.{sum-cong, sum-zero}
+use Rattle.signed.specs.Signed.{ahead, back, size}
 use Rattle.network.specs.Network.{Network, arcs, commodities, tail, head, source, sink}
 use Rattle.network.specs.Path.{Path}
-use Rattle.network.specs.Flow.{Flow, Carries, outflow, inflow, loadOf, leaving, entering}
+use Rattle.network.specs.Flow.{Flow, Carries, passing, outflow, inflow, loadOf, leaving, entering}
 use Rattle.method.specs.Choice.{Choice}
 use Rattle.method.specs.Iteration.{State, initial, draw, advance}
 use Rattle.method.specs.Answer.{amounts}
-use Rattle.method.proofs.Balance.{path-below}
-use Rattle.method.proofs.Drawn.{stays-flow, carries-more, load-adds}
-use Rattle.method.proofs.Times.{update-length, update-adds}
+use Rattle.method.proofs.Drawn.{drawn-sized, drawn-within, stays-flow, carries-more}
+use Rattle.method.proofs.Times.{update-length}
 
-pub record Table (net : Network) (flow loads : List ℕ) (total : ℕ) : Type 0 where
+pub record Table (net : Network) (flow : List ℤ) (loads : List ℕ) (total : ℕ) : Type 0 where
   pub rows : length flow ≡ commodities net * arcs net
   pub places : length loads ≡ arcs net
   pub flows : Flow net (amounts net flow)
   pub carries : Carries net (amounts net flow) total
-  pub sums : (e : ℕ) → e < arcs net → getD loads e 0 ≡ loadOf net (amounts net flow) e
+  pub within : (e : ℕ) → e < arcs net → loadOf net (amounts net flow) e ≤ getD loads e 0
 
--- Every place of a table of zeros, and past its end, reads 0.
+-- Every place of a table of equal entries, and past its end, reads as such an entry.
+pub all-alike : {A : Type 0} (x : A) (n j : ℕ) → getD (replicate n x) j x ≡ x
+all-alike x n j =
+    ⊎-elim (λ (h : n ≤ j). List·getD-eq-default (replicate n x) x (le-trans (le-of-eq (length-replicate n x)) h)) (λ l. getD-replicate n j x x l) (le-or-lt n j)
+
 pub zeros : (n j : ℕ) → _≡_ {A = ℕ} (getD (replicate n 0) j 0) 0
-zeros n j =
-    ⊎-elim (λ (h : n ≤ j). List·getD-eq-default (replicate n 0) 0 (le-trans (le-of-eq (length-replicate {A = ℕ} n 0)) h)) (λ l. getD-replicate n j 0 0 l) (le-or-lt n j)
+zeros n j = all-alike 0 n j
 
 module _ (net : Network) (n : ℕ) where
-  abbrev nothing : ℕ → ℕ → ℕ
-  nothing = amounts net (replicate n 0)
+  abbrev nothing : ℕ → ℕ → ℤ
+  nothing = amounts net (replicate n (pos 0))
 
-  nothing-at : (i e : ℕ) → nothing i e ≡ 0
+  pub nothing-at : (i e : ℕ) → nothing i e ≡ pos 0
   unfolding amounts
-  nothing-at i e = zeros n (i * arcs net + e)
+  nothing-at i e = all-alike (pos 0) n (i * arcs net + e)
 
-  cond-zero : (b : Bool) (x : ℕ) → x ≡ 0 → cond b x 0 ≡ 0
-  cond-zero true x h = h
-  cond-zero false x h = refl
+  -- Nothing of either part, at the tails or the heads.
+  at-zero : (part : ℤ → ℕ) (end : ℕ → ℕ) → part (pos 0) ≡ 0 → (i v : ℕ) → passing (arcs net) end (λ e. part (nothing i e)) v ≡ 0
+  unfolding passing
+  at-zero part end z i v = sum-cong (arcs net) (λ e. cond (eqb (end e) v) (part (nothing i e)) 0) (λ e. 0) (λ e l. rw (nothing-at i e, z) (none (eqb (end e) v))) ∙ sum-zero (arcs net)
+    where
+      none : (b : Bool) → _≡_ {A = ℕ} (cond b 0 0) 0
+      none true = refl
+      none false = refl
 
   out-zero : (i v : ℕ) → outflow net (nothing i) v ≡ 0
-  unfolding outflow
-  out-zero i v = sum-cong (arcs net) (λ e. cond (eqb (tail net e) v) (nothing i e) 0) (λ e. 0) (λ e l. cond-zero (eqb (tail net e) v) (nothing i e) (nothing-at i e)) ∙ sum-zero (arcs net)
+  unfolding outflow ahead back
+  out-zero i v = omega (arith, at-zero ahead (tail net) refl i v, at-zero back (head net) refl i v)
 
   in-zero : (i v : ℕ) → inflow net (nothing i) v ≡ 0
-  unfolding inflow
-  in-zero i v = sum-cong (arcs net) (λ e. cond (eqb (head net e) v) (nothing i e) 0) (λ e. 0) (λ e l. cond-zero (eqb (head net e) v) (nothing i e) (nothing-at i e)) ∙ sum-zero (arcs net)
+  unfolding inflow ahead back
+  in-zero i v = omega (arith, at-zero ahead (head net) refl i v, at-zero back (tail net) refl i v)
 
   -- The table of zeros is a flow that carries 0 and loads no arc.
   pub zero-flow : Flow net nothing
-  zero-flow = record { balance = λ i v a b c d f. in-zero i v ∙ sym (out-zero i v) }
+  unfolding back
+  zero-flow = record { balance = λ i v a b c d f. in-zero i v ∙ sym (out-zero i v); one-way = λ i e a b. ap back (nothing-at i e) }
 
   pub zero-carries : Carries net nothing 0
   unfolding leaving entering
@@ -67,18 +77,18 @@ module _ (net : Network) (n : ℕ) where
       )
 
   pub zero-load : (e : ℕ) → loadOf net nothing e ≡ 0
-  unfolding loadOf
-  zero-load e = sum-cong (commodities net) (λ i. nothing i e) (λ i. 0) (λ i l. nothing-at i e) ∙ sum-zero (commodities net)
+  unfolding loadOf ahead back
+  zero-load e = sum-cong (commodities net) (λ i. size (nothing i e)) (λ i. 0) (λ i l. ap (λ x. size x) (nothing-at i e)) ∙ sum-zero (commodities net)
 
 pub table-start : (net : Network) → Table net (initial net .flow) (initial net .loads) (initial net .total)
 unfolding initial
 table-start net =
     record {
-      rows = length-replicate (commodities net * arcs net) 0;
+      rows = length-replicate (commodities net * arcs net) (pos 0);
       places = length-replicate (arcs net) 0;
       flows = zero-flow net (commodities net * arcs net);
       carries = zero-carries net (commodities net * arcs net);
-      sums = λ e l. zeros (arcs net) e ∙ sym (zero-load net (commodities net * arcs net) e);
+      within = λ e l. omega (arith, zero-load net (commodities net * arcs net) e);
     }
 
 pub table-step :
@@ -86,15 +96,14 @@ pub table-step :
     c .commodity < commodities net → (source net (c .commodity) ≡ sink net (c .commodity) → ⊥) → Table net (s .flow) (s .loads) (s .total) →
     Table net (advance net q c s .flow) (advance net q c s .loads) (advance net q c s .total)
 unfolding advance
-table-step net q c s path listed apart t =
+table-step net q c s path listed apart w =
     let g : ℕ = draw (net .capacities) (c .path) in
-    let places : List ℕ = map (λ e. c .commodity * arcs net + e) (c .path) in
+    let v : ℕ = source net (c .commodity) in
+    let t : ℕ = sink net (c .commodity) in
     record {
-      rows = update-length (λ e x. x + g) places (s .flow) ∙ t .rows;
-      places = update-length (λ e x. x + g) (c .path) (s .loads) ∙ t .places;
-      flows = stays-flow net (c .commodity) g (c .path) path listed (s .flow) (t .rows) (t .flows);
-      carries = carries-more net (c .commodity) g (c .path) path listed (s .flow) (t .rows) (s .total) apart (t .carries);
-      sums = λ e l.
-          update-adds g (c .path) (s .loads) e (rw (t .places) (path-below net (source net (c .commodity)) (sink net (c .commodity)) (c .path) path)) ∙
-          omega (arith, t .sums e l, load-adds net (c .commodity) g (c .path) path listed (s .flow) (t .rows) e l);
+      rows = drawn-sized net (c .commodity) g listed v (c .path) (s .flow) (w .rows);
+      places = update-length (λ e x. x + g) (c .path) (s .loads) ∙ w .places;
+      flows = stays-flow net (c .commodity) g listed (c .path) path (s .flow) (w .rows) (w .flows);
+      carries = carries-more net (c .commodity) g listed (c .path) path (s .flow) (w .rows) (s .total) apart (w .carries);
+      within = drawn-within net (c .commodity) g listed v t (c .path) (s .flow) (s .loads) path (w .rows) (w .places) (w .within);
     }

@@ -30,7 +30,7 @@ abbrev pub once : ℕ → ℕ → ℕ
 once j e = cond (eqb e j) 1 0
 
 -- Adding g at one place.
-set-adds : (g : ℕ) (xs : List ℕ) (e j : ℕ) → e < length xs → getD (set xs e (getD xs e 0 + g)) j 0 ≡ getD xs j 0 + once j e * g
+pub set-adds : (g : ℕ) (xs : List ℕ) (e j : ℕ) → e < length xs → getD (set xs e (getD xs e 0 + g)) j 0 ≡ getD xs j 0 + once j e * g
 set-adds g xs e j l = go (eqb e j) refl
   where
     go : (t : Bool) → eqb e j ≡ t → getD (set xs e (getD xs e 0 + g)) j 0 ≡ getD xs j 0 + cond t 1 0 * g

@@ -4,8 +4,10 @@ use mathlib.Core.Path.{_≡_, refl}
 use mathlib.Core.List.{List, [], _∷_}
 use Prim.Native.Nat.{ℕ, zero, suc, _+_, _≤_, _<_}
 use native.Mathlib.Omega.{arith}
+use lib.IntN.{ℤ, pos}
 use lib.ListN.{getD}
 use Rattle.arith.specs.Sum.{sum}
+use Rattle.signed.specs.Signed.{ahead, back}
 use Rattle.network.specs.Network.{Network}
 use Rattle.network.specs.Flow.{Flow, Keeps, loadOf}
 use Rattle.network.specs.Ends.{Ends}
@@ -19,8 +21,8 @@ abbrev pub net : ℕ → ℕ → Network
 net s t = record { nodes = 2; tails = both 1; heads = both 2; capacities = both 1; sources = s ∷ []; sinks = t ∷ [] }
 
 -- 1 on each arc
-unfoldable pub ones : ℕ → ℕ → ℕ
-ones i e = 1
+unfoldable pub ones : ℕ → ℕ → ℤ
+ones i e = pos 1
 
 pub arc-at : (x e : ℕ) → e < 2 → getD (both x) e 0 ≡ x
 arc-at x zero b = refl
@@ -43,8 +45,9 @@ module _ (s t : ℕ) where
       }
 
   pub flow : 1 ≤ s → 1 ≤ t → s + t ≡ 3 → Flow (net s t) ones
-  flow ls lt e = record { balance = λ i v b low high ns nt. omega (arith, commodity-at s i b, commodity-at t i b) }
+  unfolding ones back
+  flow ls lt e = record { balance = λ i v b low high ns nt. omega (arith, commodity-at s i b, commodity-at t i b); one-way = λ i e b l. refl }
 
   pub keeps : Keeps (net s t) 1 ones
-  unfolding ones loadOf sum
+  unfolding ones loadOf sum ahead back
   keeps = record { within = λ e b. omega (arith, arc-at 1 e b) }

@@ -4,6 +4,7 @@ use mathlib.Core.Option.{none, some}
 use mathlib.Core.List.{List, [], _∷_, _++_}
 use Prim.Native.Nat.{ℕ, zero, suc, _+_, _*_, _-_}
 use lib.Dec.{ltb}
+use lib.IntN.{ℤ, pos}
 use lib.ListN.{length, getD, drop, replicate}
 use Rattle.network.specs.Network.{Network, arcs, commodities, capacity}
 use Rattle.method.specs.declared.Answer.{Answer}
@@ -25,19 +26,19 @@ numbersOf a = a .total ∷ a .capacity ∷ a .load ∷ a .bound ∷ a .alpha ∷
 
 -- What an accepted call hands back: the flow, the best lengths and the answer.
 pub record Outcome : Type 0 where
-  pub flow : List ℕ
+  pub flow : List ℤ
   pub lengths : List ℕ
   pub answer : Answer
 
--- A flow table's number of commodity i on arc e: the table holds m numbers for each commodity in turn.
-unfoldable pub amounts : Network → List ℕ → ℕ → ℕ → ℕ
-amounts net table i e = getD table (i * arcs net + e) 0
+-- A flow table's amount of commodity i on arc e: the table holds m amounts for each commodity in turn.
+unfoldable pub amounts : Network → List ℤ → ℕ → ℕ → ℤ
+amounts net table i e = getD table (i * arcs net + e) (pos 0)
 
 -- Document 01: "unjoined".
 unfoldable pub unjoined : Network → Outcome
 unjoined net =
     record {
-      flow = replicate (commodities net * arcs net) 0;
+      flow = replicate (commodities net * arcs net) (pos 0);
       lengths = replicate (arcs net) 0;
       answer = record { total = 0; capacity = 1; load = 1; bound = 0; alpha = 1; count = 0; best = 0 };
     }
@@ -66,5 +67,5 @@ unfoldable pub outcome : Network → ℕ → Outcome
 outcome net q = elim (choice net (initial net .lengths)) [ none ↦ unjoined net | some c ↦ outcomeOf net (run net q) ]
 
 -- A lent table after its first places took the numbers xs; later places keep their contents.
-unfoldable pub overlaid : List ℕ → List ℕ → List ℕ
+unfoldable pub overlaid : {A : Type 0} → List A → List A → List A
 overlaid xs table = xs ++ drop (length xs) table

@@ -1,21 +1,27 @@
--- The tables of an outcome have their sizes, and its numbers take eight bytes each: nothing is cut where they are handed back.
+-- The tables of an outcome have their sizes, and its amounts and numbers take eight bytes each: nothing is cut where they are handed back.
 use mathlib.Core.Path.{_≡_}
 use mathlib.Core.List.{List}
 use Prim.Native.Nat.{ℕ, _*_, _^_, _<_}
+use lib.IntN.{ℤ, pos}
 use lib.ListN.{length, getD}
 use Rattle.network.specs.Flow.{loadOf}
 use Rattle.network.specs.Network.{Network, arcs, commodities}
+use Rattle.signed.specs.Signed.{size}
 use Rattle.method.specs.Answer.{Outcome, numbersOf, amounts}
 
 -- Every number of the list is below 2^64.
 abbrev pub Words : List ℕ → Type 0
 Words xs = (j : ℕ) → getD xs j 0 < 2 ^ 64
 
--- k * m amounts and m lengths. Both tables' numbers and the answer's are below 2^64, and so are F * c(b) and each arc's load times c(b).
+-- Every amount of the list has a size below 2^63.
+abbrev pub Amounts : List ℤ → Type 0
+Amounts xs = (j : ℕ) → size (getD xs j (pos 0)) < 2 ^ 63
+
+-- k * m amounts and m lengths. Lengths and the answer's numbers are below 2^64, and so are F * c(b) and each arc's load times c(b).
 pub record Fits (net : Network) (o : Outcome) : Type 0 where
   pub amounts-count : length (o .flow) ≡ commodities net * arcs net
   pub lengths-count : length (o .lengths) ≡ arcs net
-  pub flow : Words (o .flow)
+  pub flow : Amounts (o .flow)
   pub lengths : Words (o .lengths)
   pub answer : Words (numbersOf (o .answer))
   pub total : o .answer .total * o .answer .capacity < 2 ^ 64

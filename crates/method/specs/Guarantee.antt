@@ -4,6 +4,7 @@
 use mathlib.Core.Logic.{_↔_}
 use mathlib.Core.Path.{_≡_}
 use Prim.Native.Nat.{ℕ, _+_, _*_, _-_, _≤_, _<_}
+use lib.IntN.{ℤ}
 use Rattle.length.specs.Level.{threshold}
 use Rattle.network.specs.Network.{Network, arcs, commodities, capacity}
 use Rattle.network.specs.Flow.{Flow, Keeps, Carries, AtMost, loadOf}
@@ -22,7 +23,7 @@ pub record Guarantee (net : Network) (q : ℕ) (o : Outcome) : Type 0 where
   pub capacities : (e : ℕ) → e < arcs net → loadOf net (amounts net (o .flow)) e * o .answer .capacity ≤ capacity net e * o .answer .load
   pub some-load : 0 < o .answer .load
   -- No flow, whole or fractional, that keeps the capacities carries more than B = D / alpha: d is the common divisor of its amounts.
-  pub upper : (d : ℕ) (f : ℕ → ℕ → ℕ) → Flow net f → Keeps net d f → AtMost net f d (o .answer .bound) (o .answer .alpha)
+  pub upper : (d : ℕ) (f : ℕ → ℕ → ℤ) → Flow net f → Keeps net d f → AtMost net f d (o .answer .bound) (o .answer .alpha)
   pub some-alpha : 0 < o .answer .alpha
   -- V is at least (1 - 2/q) * B, and, sharper, at least (8q - 9) / (8q + 5) times B.
   pub near : (q - 2) * (o .answer .bound * o .answer .load) ≤ q * (o .answer .total * o .answer .capacity * o .answer .alpha)

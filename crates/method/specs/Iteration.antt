@@ -4,19 +4,21 @@ use mathlib.Core.Option.{none, some}
 use mathlib.Core.List.{List, [], _∷_, map}
 use Prim.Native.Nat.{ℕ, suc, _+_, _*_, min}
 use lib.Dec.{leb, ltb}
+use lib.IntN.{ℤ, pos}
 use lib.ListN.{getD, set, replicate}
 use Rattle.arith.specs.Lists.{exists, upTo}
 use Rattle.arith.specs.Sum.{sum}
 use Rattle.length.specs.Length.{mark, start, growth, halving}
-use Rattle.network.specs.Network.{Network, arcs, commodities, capacity}
-use Rattle.network.specs.Path.{pathLength}
+use Rattle.network.specs.Network.{Network, arcs, commodities, capacity, source}
+use Rattle.network.specs.Path.{forward, beyond, pathLength}
+use Rattle.signed.specs.Signed.{moved}
 use Rattle.method.specs.Choice.{Choice, choice}
 
--- What the method keeps: the lengths; the flow, m numbers for each commodity in turn; the load of each arc; the drawn total F; the count of
--- iterations; and of the least D over alpha so far D, alpha, the iteration that gave it, from 1, and the lengths of that iteration.
+-- What the method keeps: the lengths; the flow, m amounts for each commodity in turn; the load of each arc, all that was drawn over it; the drawn
+-- total F; the count of iterations; and of the least D over alpha so far D, alpha, the iteration that gave it, from 1, and the lengths of that iteration.
 pub record State : Type 0 where
   pub lengths : List ℕ
-  pub flow : List ℕ
+  pub flow : List ℤ
   pub loads : List ℕ
   pub total : ℕ
   pub count : ℕ
@@ -30,7 +32,7 @@ unfoldable pub initial : Network → State
 initial net =
     record {
       lengths = map (λ e. start (capacity net e)) (upTo (arcs net));
-      flow = replicate (commodities net * arcs net) 0;
+      flow = replicate (commodities net * arcs net) (pos 0);
       loads = replicate (arcs net) 0;
       total = 0;
       count = 0;
@@ -59,6 +61,15 @@ unfoldable pub update : (ℕ → ℕ → ℕ) → List ℕ → List ℕ → List
 update f [] xs = xs
 update f (e ∷ p) xs = update f p (set xs e (f e (getD xs e 0)))
 
+-- The flow after g was drawn at node v over arc e, in the row that begins at base,
+abbrev pub crossed : Network → ℕ → ℕ → ℕ → ℕ → List ℤ → List ℤ
+crossed net base g v e flow = set flow (base + e) (moved (forward net v e) g (getD flow (base + e) (pos 0)))
+
+-- and over all arcs of a path from v on.
+unfoldable pub pushed : Network → ℕ → ℕ → ℕ → List ℕ → List ℤ → List ℤ
+pushed net base g v [] flow = flow
+pushed net base g v (e ∷ p) flow = pushed net base g (beyond net v e) p (crossed net base g v e flow)
+
 -- The lengths with those of the path grown.
 unfoldable pub grown : Network → ℕ → ℕ → List ℕ → List ℕ → List ℕ
 grown net q g p l = update (λ e x. growth q g (capacity net e) x) p l
@@ -76,7 +87,7 @@ advance net q c s =
     let better = ltb (d * s .alpha) (s .bound * a) in
     record {
       lengths = settled net (grown net q g (c .path) (s .lengths));
-      flow = update (λ e x. x + g) (map (λ e. c .commodity * arcs net + e) (c .path)) (s .flow);
+      flow = pushed net (c .commodity * arcs net) g (source net (c .commodity)) (c .path) (s .flow);
       loads = update (λ e x. x + g) (c .path) (s .loads);
       total = s .total + g;
       count = suc (s .count);

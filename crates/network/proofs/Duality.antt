@@ -1,14 +1,17 @@
 -- Weak duality: a potential for each commodity bounds what every flow carries, by the capacities times the lengths over alpha.
 -- Guarantee, section 6. Assumes nothing.
+use mathlib.Core.Logic.{inl}
 use Prim.Native.Nat.{ℕ, _+_, _*_, _≤_, _<_}
 use native.Mathlib.Nat.{mul-le-mul-left}
 use native.Mathlib.Omega.{arith}
+use lib.IntN.{ℤ}
 use Rattle.arith.specs.Sum.{sum}
 use Rattle.arith.proofs.Sums.{sum-cong, sum-add, sum-scale, sum-le, sum-exchange}
+use Rattle.signed.specs.Signed.{size}
 use Rattle.network.specs.Network.{Network, arcs, commodities, capacity, source, sink}
 use Rattle.network.specs.Ends.{Ends}
 use Rattle.network.specs.Flow.{Flow, Keeps, AtMost, outflow, inflow, loadOf, leaving, entering}
-use Rattle.network.proofs.Potential.{Potential}
+use Rattle.network.proofs.Potential.{Potential, Balanced}
 use Rattle.network.proofs.OneCommodity.{potential-bound}
 
 -- All commodities together use no more length than d times the capacities have.
@@ -34,12 +37,20 @@ use-bound k m d f c l within =
 
 -- No flow, over any divisor, carries more than bound / alpha.
 abbrev pub Bounds : Network → ℕ → ℕ → Type 0
-Bounds net bound alpha = (d : ℕ) (f : ℕ → ℕ → ℕ) → Flow net f → Keeps net d f → AtMost net f d bound alpha
+Bounds net bound alpha = (d : ℕ) (f : ℕ → ℕ → ℤ) → Flow net f → Keeps net d f → AtMost net f d bound alpha
 
 module _ (net : Network) (ends : Ends net) (l : ℕ → ℕ) (alpha : ℕ) where
   -- What commodity i uses of the lengths, by the amounts f
-  used : (ℕ → ℕ → ℕ) → ℕ → ℕ
-  used f i = sum (arcs net) (λ e. f i e * l e)
+  used : (ℕ → ℕ → ℤ) → ℕ → ℕ
+  used f i = sum (arcs net) (λ e. size (f i e) * l e)
+
+  -- One commodity's amounts of a flow are balanced.
+  one-balanced : (f : ℕ → ℕ → ℤ) → Flow net f → (i : ℕ) → i < commodities net → Balanced net (f i) (source net i) (sink net i)
+  one-balanced f flow i b =
+      record {
+        nodes = λ v low high ns nt. flow .balance i v b low high ns nt;
+        backs = λ e l. inl (flow .one-way i e b l);
+      }
 
   -- Potentials that fall from alpha at the sources to 0 at the sinks: the capacities times the lengths, over alpha, bound every flow.
   pub duality :
@@ -59,6 +70,6 @@ module _ (net : Network) (ends : Ends net) (l : ℕ → ℕ) (alpha : ℕ) where
             (λ i. alpha * outflow net (f i) (source net i))
             (λ i. used f i + alpha * inflow net (f i) (source net i))
             (λ i b. potential-bound net ends (f i) l (pi i) (source net i) (sink net i) alpha (ends .sources i b) (pot i b)
-            (λ v low high ns nt. flow .balance i v b low high ns nt)),
-        use-bound (commodities net) (arcs net) d f (λ e. capacity net e) l (keeps .within),
+            (one-balanced f flow i b)),
+        use-bound (commodities net) (arcs net) d (λ i e. size (f i e)) (λ e. capacity net e) l (keeps .within),
       )

@@ -15,7 +15,7 @@ use Rattle.network.specs.Ends.{Node, Ends}
 use Rattle.network.specs.Network.{Network}
 use Rattle.network.specs.Path.{leads, Path}
 use Rattle.network.specs.Visited.{visited}
-use Rattle.network.proofs.Leads.{leads-node}
+use Rattle.network.proofs.Leads.{leads-into}
 use Rattle.network.proofs.Paths.{path-step}
 
 module _ (net : Network) where
@@ -36,7 +36,7 @@ module _ (net : Network) where
       let s = path-step net v t e p h in
       ⊎-elim
       (λ (q : u ≡ v). rw q n)
-      (λ (r : Member u (visited net (s .0) p)). visited-node ends (s .0) t p (leads-node net ends v e (s .0) (s .1)) (s .2) u r)
+      (λ (r : Member u (visited net (s .0) p)). visited-node ends (s .0) t p (leads-into net v e (s .0) (s .1) ends) (s .2) u r)
       (first-or-later (rw (s .1) at m))
 
   -- A path that visits no node twice has fewer arcs than there are nodes.

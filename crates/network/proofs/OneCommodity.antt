@@ -2,43 +2,84 @@
 -- Guarantee, section 6. Assumes nothing.
 use mathlib.Core.Path.{_≡_, refl, sym, ap, _∙_}
 use mathlib.Core.Bool.{Bool, true, false, cond}
-use Prim.Native.Nat.{ℕ, suc, _+_, _*_, _≤_}
+use mathlib.Core.Logic.{⊎-elim}
+use mathlib.Core.Option.{some}
+use Prim.Native.Nat.{ℕ, suc, _+_, _*_, _≤_, _<_}
 use native.Mathlib.Nat.{mul-le-mul-left}
 use native.Mathlib.Omega.{arith}
 use borrow.Author.Tests.{eqb-true, eqb-false}
 use lib.Dec.{eqb}
+use lib.IntN.{ℤ}
 use Rattle.arith.specs.Sum.{sum}
 use Rattle.arith.proofs.Sums.{sum-cong, sum-add, sum-le}
 use Rattle.arith.proofs.Regroup.{sum-pick, sum-regroup}
+use Rattle.signed.specs.Signed.{ahead, back, size}
 use Rattle.network.specs.Network.{Network, arcs, tail, head}
 use Rattle.network.specs.Ends.{Node, Ends}
-use Rattle.network.specs.Flow.{outflow, inflow}
+use Rattle.network.specs.Flow.{passing, outflow, inflow}
+use Rattle.network.specs.Path.{leads}
+use Rattle.network.proofs.Leads.{some-leads}
 use Rattle.network.proofs.Potential.{Potential, Balanced}
 
-module _ (net : Network) (ends : Ends net) (f pi : ℕ → ℕ) where
-  -- The sum over the arcs of amount times potential at the tail, node by node
-  by-tail : sum (arcs net) (λ e. f e * pi (tail net e)) ≡ sum (net .nodes) (λ i. pi (suc i) * outflow net f (suc i))
-  unfolding outflow
-  by-tail = sum-regroup (arcs net) (net .nodes) (λ e. tail net e) f pi (λ e l. ends .tails e l .0) (λ e l. ends .tails e l .1)
+module _ (net : Network) (ends : Ends net) (pi : ℕ → ℕ) where
+  -- Numbers x of the arcs, each times the potential at one end.
+  weighed : (ℕ → ℕ) → (ℕ → ℕ) → ℕ
+  weighed x end = sum (arcs net) (λ e. x e * pi (end e))
 
-  -- .. and at the head
-  by-head : sum (arcs net) (λ e. f e * pi (head net e)) ≡ sum (net .nodes) (λ i. pi (suc i) * inflow net f (suc i))
-  unfolding inflow
-  by-head = sum-regroup (arcs net) (net .nodes) (λ e. head net e) f pi (λ e l. ends .heads e l .0) (λ e l. ends .heads e l .1)
+  -- Those forward at one end and those back at the other, node by node
+  by-node : (x y there here : ℕ → ℕ) → ((e : ℕ) → e < arcs net → Node net (there e)) → ((e : ℕ) → e < arcs net → Node net (here e)) →
+      weighed x there + weighed y here ≡
+      sum (net .nodes) (λ i. pi (suc i) * (passing (arcs net) there x (suc i) + passing (arcs net) here y (suc i)))
+  unfolding weighed passing
+  by-node x y there here a b =
+      omega (
+        arith,
+        sum-regroup (arcs net) (net .nodes) there x pi (λ e l. a e l .0) (λ e l. a e l .1),
+        sum-regroup (arcs net) (net .nodes) here y pi (λ e l. b e l .0) (λ e l. b e l .1),
+        sum-add (net .nodes) (λ i. pi (suc i) * passing (arcs net) there x (suc i)) (λ i. pi (suc i) * passing (arcs net) here y (suc i)),
+        sum-cong
+            (net .nodes)
+            (λ i. pi (suc i) * (passing (arcs net) there x (suc i) + passing (arcs net) here y (suc i)))
+            (λ i. pi (suc i) * passing (arcs net) there x (suc i) + pi (suc i) * passing (arcs net) here y (suc i))
+            (λ i b. omega arith),
+      )
 
-module _ (net : Network) (ends : Ends net) (f l pi : ℕ → ℕ) (s t alpha : ℕ) (node : Node net s) (pot : Potential net l s t alpha pi) where
-  -- Arc by arc the potential falls by no more than the lengths.
+module _ (net : Network) (ends : Ends net) (f : ℕ → ℤ) (l pi : ℕ → ℕ) (s t alpha : ℕ) (node : Node net s) (pot : Potential net l s t alpha pi)
+    (bal : Balanced net f s t) where
+  -- what goes forward on arc e, and what goes back
+  abbrev x : ℕ → ℕ
+  x e = ahead (f e)
+
+  abbrev y : ℕ → ℕ
+  y e = back (f e)
+
+  -- Along an arc, forward and back, the potential falls by no more than the length.
+  on-arc : (e : ℕ) → e < arcs net → x e * pi (tail net e) + y e * pi (head net e) ≤ size (f e) * l e + (x e * pi (head net e) + y e * pi (tail net e))
+  on-arc e b =
+      omega (
+        arith,
+        mul-le-mul-left (x e) (pot .feasible (tail net e) e (head net e) (some-leads net (tail net e) e b refl)),
+        ⊎-elim
+            (λ (z : y e ≡ 0). rw z (omega arith))
+            (λ (h : leads net (head net e) e ≡ some (tail net e)). mul-le-mul-left (y e) (pot .feasible (head net e) e (tail net e) h))
+            (bal .backs e b),
+      )
+
   fall :
-      sum (arcs net) (λ e. f e * pi (tail net e)) ≤ sum (arcs net) (λ e. f e * l e) + sum (arcs net) (λ e. f e * pi (head net e))
+      weighed net ends pi x (tail net) + weighed net ends pi y (head net) ≤
+      sum (arcs net) (λ e. size (f e) * l e) + (weighed net ends pi x (head net) + weighed net ends pi y (tail net))
+  unfolding weighed
   fall =
       omega (
         arith,
         sum-le
             (arcs net)
-            (λ e. f e * pi (tail net e))
-            (λ e. f e * l e + f e * pi (head net e))
-            (λ e b. omega (arith, mul-le-mul-left (f e) (pot .feasible e b))),
-        sum-add (arcs net) (λ e. f e * l e) (λ e. f e * pi (head net e)),
+            (λ e. x e * pi (tail net e) + y e * pi (head net e))
+            (λ e. size (f e) * l e + (x e * pi (head net e) + y e * pi (tail net e)))
+            on-arc,
+        sum-add (arcs net) (λ e. x e * pi (tail net e)) (λ e. y e * pi (head net e)),
+        sum-add (arcs net) (λ e. size (f e) * l e) (λ e. x e * pi (head net e) + y e * pi (tail net e)),
+        sum-add (arcs net) (λ e. x e * pi (head net e)) (λ e. y e * pi (tail net e)),
       )
 
   -- At a node: balance, or the potential alpha of the source, or the potential 0 of the sink
@@ -46,22 +87,31 @@ module _ (net : Network) (ends : Ends net) (f l pi : ℕ → ℕ) (s t alpha : �
       (v : ℕ) (b c : Bool) → eqb s v ≡ b → eqb t v ≡ c → ((v ≡ s → ⊥) → (v ≡ t → ⊥) → inflow net f v ≡ outflow net f v) → pi v * outflow net f v +
       cond b (alpha * inflow net f v) 0 ≡
       pi v * inflow net f v + cond b (alpha * outflow net f v) 0
-  at-node v true c p q bal =
+  at-node v true c p q h =
       let e : pi v ≡ alpha = ap pi (sym (eqb-true s v p)) ∙ pot .top in
       rw e (omega arith)
-  at-node v false true p q bal =
+  at-node v false true p q h =
       let e : pi v ≡ 0 = ap pi (sym (eqb-true t v q)) ∙ pot .bottom in
       rw e (omega arith)
-  at-node v false false p q bal = rw (bal (λ r. eqb-false s v p (sym r)) (λ r. eqb-false t v q (sym r)))
+  at-node v false false p q h = rw (h (λ r. eqb-false s v p (sym r)) (λ r. eqb-false t v q (sym r)))
+
+  -- What leaves the nodes and what enters them, each times its potential
+  leaves : weighed net ends pi x (tail net) + weighed net ends pi y (head net) ≡ sum (net .nodes) (λ i. pi (suc i) * outflow net f (suc i))
+  unfolding outflow
+  leaves = by-node net ends pi x y (tail net) (head net) (ends .tails) (ends .heads)
+
+  enters : weighed net ends pi x (head net) + weighed net ends pi y (tail net) ≡ sum (net .nodes) (λ i. pi (suc i) * inflow net f (suc i))
+  unfolding inflow
+  enters = by-node net ends pi x y (head net) (tail net) (ends .heads) (ends .tails)
 
   -- alpha times what leaves the source is at most the lengths used, and alpha times what enters it.
-  pub potential-bound : Balanced net f s t → alpha * outflow net f s ≤ sum (arcs net) (λ e. f e * l e) + alpha * inflow net f s
-  potential-bound bal =
+  pub potential-bound : alpha * outflow net f s ≤ sum (arcs net) (λ e. size (f e) * l e) + alpha * inflow net f s
+  potential-bound =
       omega (
         arith,
         fall,
-        by-tail net ends f pi,
-        by-head net ends f pi,
+        leaves,
+        enters,
         sum-add (net .nodes) (λ i. pi (suc i) * outflow net f (suc i)) (λ i. cond (eqb s (suc i)) (alpha * inflow net f (suc i)) 0),
         sum-add (net .nodes) (λ i. pi (suc i) * inflow net f (suc i)) (λ i. cond (eqb s (suc i)) (alpha * outflow net f (suc i)) 0),
         sum-pick (net .nodes) s (λ v. alpha * inflow net f v) (node .0) (node .1),
@@ -70,5 +120,5 @@ module _ (net : Network) (ends : Ends net) (f l pi : ℕ → ℕ) (s t alpha : �
             (net .nodes)
             (λ i. pi (suc i) * outflow net f (suc i) + cond (eqb s (suc i)) (alpha * inflow net f (suc i)) 0)
             (λ i. pi (suc i) * inflow net f (suc i) + cond (eqb s (suc i)) (alpha * outflow net f (suc i)) 0)
-            (λ i b. at-node (suc i) (eqb s (suc i)) (eqb t (suc i)) refl refl (bal (suc i) (omega arith) b)),
+            (λ i b. at-node (suc i) (eqb s (suc i)) (eqb t (suc i)) refl refl (bal .nodes (suc i) (omega arith) b)),
       )

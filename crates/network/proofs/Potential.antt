@@ -1,17 +1,22 @@
 -- Potentials of the nodes of a network, and what weak duality asks of a commodity's amounts. Guarantee, section 6.
 -- Assumes nothing.
 use mathlib.Core.Path.{_≡_}
+use mathlib.Core.Logic.{_⊎_}
+use mathlib.Core.Option.{some}
 use Prim.Native.Nat.{ℕ, _+_, _≤_, _<_}
+use lib.IntN.{ℤ}
+use Rattle.signed.specs.Signed.{back}
 use Rattle.network.specs.Network.{Network, arcs, tail, head}
 use Rattle.network.specs.Flow.{outflow, inflow}
+use Rattle.network.specs.Path.{leads}
 
--- A potential by the lengths l: alpha at s, 0 at t, and no arc falls by more than its length.
+-- A potential by the lengths l: alpha at s, 0 at t, and nowhere does it fall along an arc by more than the arc's length.
 pub record Potential (net : Network) (l : ℕ → ℕ) (s t alpha : ℕ) (pi : ℕ → ℕ) : Type 0 where
   pub top : pi s ≡ alpha
   pub bottom : pi t ≡ 0
-  pub feasible : (e : ℕ) → e < arcs net → pi (tail net e) ≤ l e + pi (head net e)
+  pub feasible : (v e w : ℕ) → leads net v e ≡ some w → pi v ≤ l e + pi w
 
--- What enters a node leaves it, but at s and t: the balance of Flow, for one commodity.
-abbrev pub Balanced : Network → (ℕ → ℕ) → ℕ → ℕ → Type 0
-Balanced net f s t =
-    (v : ℕ) → 1 ≤ v → v ≤ net .nodes → (v ≡ s → ⊥) → (v ≡ t → ⊥) → inflow net f v ≡ outflow net f v
+-- What enters a node leaves it, but at s and t, and nothing goes back but where an arc leads back: Flow, for one commodity.
+pub record Balanced (net : Network) (f : ℕ → ℤ) (s t : ℕ) : Type 0 where
+  pub nodes : (v : ℕ) → 1 ≤ v → v ≤ net .nodes → (v ≡ s → ⊥) → (v ≡ t → ⊥) → inflow net f v ≡ outflow net f v
+  pub backs : (e : ℕ) → e < arcs net → (back (f e) ≡ 0) ⊎ (leads net (head net e) e ≡ some (tail net e))

@@ -61,3 +61,8 @@ itemConditions net = flat (arcConditions net) (upTo (arcs net)) ++ flat (commodi
 -- call says which.
 unfoldable pub verdictOn : Network → ℕ → List Condition → Verdict
 verdictOn net q own = verdict (sizeConditions (net .nodes) (arcs net) (commodities net) q ++ (own ++ itemConditions net))
+
+-- What a call leaves of a table: the new one where it is accepted, the old one where it is refused.
+unfoldable pub afterwards : {A : Type 0} → Verdict → A → A → A
+afterwards Accepted new old = new
+afterwards (Refused r) new old = old

@@ -5,6 +5,7 @@ pub mod Over
 pub mod Parts
 pub mod Places
 pub mod Puts
+pub mod Signed
 pub mod Splices
 pub mod Tables
 pub mod Values

@@ -2,12 +2,13 @@
 // the counts of complete numbers and items, one number read or written, a member of every item read
 // out, and a list of numbers written.
 ghost use mathlib.Core.Path.{_≡_};
-ghost use mathlib.Core.List.{_++_};
+ghost use mathlib.Core.List.{_++_, map};
 ghost use Prim.Native.Nat.{_+_, _*_, _%_, _<_, _≤_};
 ghost use lib.ListN.{length, take, drop};
 ghost use Rattle.numbers.specs.Digits.{fromBytes, toBytes};
 ghost use Rattle.numbers.specs.Numbers.{count, items, numberAt, column, written};
 ghost use Rattle.numbers.specs.Parts.{splice, putAt};
+ghost use Rattle.signed.specs.Signed.{twos};
 
 // How many complete numbers `s` holds.
 pub fn count(s: &[u8]) -> usize
@@ -113,6 +114,19 @@ pub fn write_all(s: &mut [u8], xs: &[u64], n: usize)
     let mut i = 0;
     while i < n {
         write(s, i, xs[i]);
+        i += 1;
+    }
+}
+
+// The first `n` amounts of `xs` in two's complement, into the first `8 * n` bytes of `s`; later bytes
+// keep their contents.
+pub fn write_signed(s: &mut [u8], xs: &[i64], n: usize)
+    requires { ⌜ (n ≤ length (now xs)) × (n ≤ count (now s)) ⌝ }
+    ensures { λ _. ⌜ now (s .exit) ≡ written (now (s .entry)) (map twos (take n (now (xs .entry)))) ⌝ }
+{
+    let mut i = 0;
+    while i < n {
+        write(s, i, signed::twos(xs[i]));
         i += 1;
     }
 }

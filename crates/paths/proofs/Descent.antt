@@ -16,7 +16,7 @@ use Rattle.network.specs.Network.{Network}
 use Rattle.network.specs.Path.{leads}
 use Rattle.paths.specs.Distances.{over, Way, Distances}
 use Rattle.paths.specs.Walk.{Walk, stop, step}
-use Rattle.paths.proofs.Leading.{leads-into}
+use Rattle.network.proofs.Leads.{leads-into}
 use Rattle.paths.proofs.Lowest.{lowest}
 
 -- Whether arc e is such a way is decided by where it leads, and how long that is.

@@ -14,7 +14,7 @@ use Rattle.paths.specs.Labels.{Labels}
 use Rattle.paths.specs.Listing.{Enlisted}
 use Rattle.paths.specs.Searching.{Searching, Any}
 use Rattle.paths.proofs.Filled.{filled-at, filled-room}
-use Rattle.paths.proofs.Leading.{leads-from, leads-into}
+use Rattle.network.proofs.Leads.{leads-from, leads-into}
 use Rattle.paths.proofs.Relaxing.{set-entry}
 
 module _ (net : Network) (l rest : List ℕ) (t : ℕ) (b : t ≤ net .nodes) where

@@ -4,7 +4,6 @@ pub mod Fars
 pub mod Filled
 pub mod Flags
 pub mod Labels
-pub mod Leading
 pub mod Listings
 pub mod Lower
 pub mod Lowest

@@ -14,7 +14,7 @@ use Rattle.network.specs.Path.{leads}
 use Rattle.paths.specs.Far.{far}
 use Rattle.paths.specs.Graph.{Fit, Capped}
 use Rattle.paths.specs.Relax.{Relaxing}
-use Rattle.paths.proofs.Leading.{leads-arc, leads-from, leads-into}
+use Rattle.network.proofs.Leads.{leads-arc, leads-from, leads-into}
 
 pub relaxing :
     {net : Network} {l d : List ℕ} (u e w : ℕ) → Fit net l (length d) → Capped net d far → leads net u e ≡ some w → Relaxing l d u e w

@@ -12,7 +12,7 @@ use Rattle.index.specs.Index.{begins, Into}
 use Rattle.paths.specs.Listing.{TakenOut}
 use Rattle.paths.specs.Searching.{Searching, Any, Passed}
 use Rattle.paths.proofs.Labels.{labels-rest}
-use Rattle.paths.proofs.Leading.{leads-into}
+use Rattle.network.proofs.Leads.{leads-into}
 use Rattle.paths.proofs.Listings.{listing-none}
 use Rattle.paths.proofs.Telling.{distance-tells}
 

@@ -19,7 +19,7 @@ use Rattle.paths.specs.Listing.{Enlisted}
 use Rattle.paths.specs.Relax.{shortens, relaxed}
 use Rattle.paths.specs.Searching.{Searching, Passed, Spread}
 use Rattle.paths.proofs.Labels.{labels-relaxed}
-use Rattle.paths.proofs.Leading.{leads-from}
+use Rattle.network.proofs.Leads.{leads-from}
 use Rattle.paths.proofs.Relaxing.{Shortened, relaxed-size, relaxed-entry, relaxed-le, relaxed-same, relaxed-over, relaxed-falls}
 
 module _ {net : Network} {into l : List ℕ} {t v p u e : ℕ} {d front listed : List ℕ} {size : ℕ}

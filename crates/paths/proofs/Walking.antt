@@ -18,7 +18,7 @@ use Rattle.paths.specs.Tight.{Tight}
 use Rattle.paths.specs.Walk.{Walk, stop, step}
 use Rattle.paths.specs.Walked.{Walkable, Walked}
 use Rattle.paths.proofs.Descent.{distance-path}
-use Rattle.paths.proofs.Leading.{leads-into}
+use Rattle.network.proofs.Leads.{leads-into}
 use Rattle.paths.proofs.Simple.{walk-few}
 use Rattle.paths.proofs.Telling.{walk-arcs}
 

@@ -2,10 +2,11 @@
 use mathlib.Core.Path.{_≡_, refl, sym, _∙_}
 use mathlib.Core.List.{List, _++_}
 use Prim.Native.Nat.{ℕ}
+use lib.IntN.{ℤ}
 use lib.ListN.{length, drop}
 use Rattle.network.specs.Network.{Network}
 use Rattle.network.specs.Sound.{Counts}
-use Rattle.network.specs.Verdict.{verdict, itemConditions}
+use Rattle.network.specs.Verdict.{verdict, itemConditions, afterwards}
 use Rattle.network.specs.declared.Refusal.{Refusal}
 use Rattle.network.specs.declared.Verdict.{Verdict}
 use Rattle.network.specs.declared.Verdict.the-variants.{Accepted, Refused}
@@ -17,7 +18,6 @@ use Rattle.method.specs.declared.Answer.{Answer}
 use Rattle.packed.specs.Packed.{netIn, Packed, Lent}
 use Rattle.packed.specs.declared.Shape.{Shape}
 use Rattle.packed.proofs.Columns.{arcs-is, commodities-is}
-use Rattle.host.specs.Host.{afterwards}
 use Rattle.records.specs.Records.{Replied}
 use Rattle.records.specs.Reply.{replyOf, numberIn, valuesIn}
 use Rattle.records.specs.declared.Reply.{Reply}
@@ -29,11 +29,11 @@ unfolding netIn
 lends {s} {xs} q p c h = record { sound = items-accepted (netIn s xs) q (rw (arcs-is p, commodities-is p) c) h; packed = p }
 
 -- The first k places of a table took these numbers.
-pub placed : (xs ys table : List ℕ) (k : ℕ) → xs ≡ ys → length xs ≡ k → xs ++ drop k table ≡ overlaid ys table
+pub placed : {A : Type 0} (xs ys table : List A) (k : ℕ) → xs ≡ ys → length xs ≡ k → xs ++ drop k table ≡ overlaid ys table
 unfolding overlaid
 placed xs ys table k e l = rw (← e, l) refl
 
-module _ (net : Network) (q : ℕ) (flow lengths : List ℕ) where
+module _ (net : Network) (q : ℕ) (flow : List ℤ) (lengths : List ℕ) where
   -- A refusal leaves both tables as they were.
   pub replied-refused : (v : Verdict) (w : Refusal) → v ≡ Refused w → Replied net q v flow lengths flow lengths (TurnedDown w)
   unfolding replyOf numberIn valuesIn afterwards
@@ -48,7 +48,7 @@ module _ (net : Network) (q : ℕ) (flow lengths : List ℕ) where
       }
 
   pub replied-accepted :
-      (flow' lengths' : List ℕ) (a : Answer) → a ≡ outcome net q .answer → flow' ≡ overlaid (outcome net q .flow) flow →
+      (flow' : List ℤ) (lengths' : List ℕ) (a : Answer) → a ≡ outcome net q .answer → flow' ≡ overlaid (outcome net q .flow) flow →
       lengths' ≡ overlaid (outcome net q .lengths) lengths → Guarantee net q (outcome net q) →
       Replied net q Accepted flow lengths flow' lengths' (Answered a)
   unfolding replyOf numberIn valuesIn afterwards
@@ -64,6 +64,6 @@ module _ (net : Network) (q : ℕ) (flow lengths : List ℕ) where
 
 -- What is said of a network is said of the same network by another name.
 pub replied-same :
-    {net net' : Network} {q : ℕ} {v : Verdict} {flow lengths flow' lengths' : List ℕ} {r : Reply} → net ≡ net' →
+    {net net' : Network} {q : ℕ} {v : Verdict} {flow : List ℤ} {lengths : List ℕ} {flow' : List ℤ} {lengths' : List ℕ} {r : Reply} → net ≡ net' →
     Replied net q v flow lengths flow' lengths' r → Replied net' q v flow lengths flow' lengths' r
 replied-same e p = rw (← e) p

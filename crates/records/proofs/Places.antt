@@ -14,6 +14,7 @@ use base.Fml.{Lft, fres}
 use prog.Wp.{Heap}
 use ghost.Atoms.{Atoms, sem}
 use types.Kit.{Given, ‵, _$_, _∵_, !, qed, move, keep, use1, fsplit, done}
+use denote.RattleType.{RattleType}
 use denote.Laws.{Is}
 use denote.Plain.{uint-vals, uint-tells, uint-lawful}
 use denote.Builtin.{u64}
@@ -50,9 +51,9 @@ module _ {M : Type 1} (𝓤 : URA M) (H : Heap 𝓤) (A : Atoms 𝓤) (W : Given
 
   -- a lent table that is given up holds at last what it holds now
   pub gives-up :
-      (ℓ : Lifetime) (κ : Lft) (x : RefT (List ℕ)) (vs : List Val) →
-      ent 𝓤 (sem 𝓤 H A (MutSlice ℓ κ u64 .own x vs)) (sem 𝓤 H A (finally u64 (x .name) (now x)))
-  gives-up ℓ κ x vs =
-      qed W (‵ (MutSlice ℓ κ u64 .own x vs) ∷ []) ∵ fsplit ! $ move ! (1 ∷ []) $ fsplit ! $
-      use1 W (‵ (fres (x .name) (codedHoleys u64 .code (heres u64 (now x))))) (W .names .obs-res (x .name) (codedHoleys u64 .code (heres u64 (now x)))) $
-      use1 W (‵ (finally u64 (x .name) (now x))) (res-finally 𝓤 H A W ℓ κ u64 (x .name) (now x)) $ keep ! (0 ∷ []) $ done !
+      (R : RattleType) (ℓ : Lifetime) (κ : Lft) (x : RefT (List (R .Denot))) (vs : List Val) →
+      ent 𝓤 (sem 𝓤 H A (MutSlice ℓ κ R .own x vs)) (sem 𝓤 H A (finally R (x .name) (now x)))
+  gives-up R ℓ κ x vs =
+      qed W (‵ (MutSlice ℓ κ R .own x vs) ∷ []) ∵ fsplit ! $ move ! (1 ∷ []) $ fsplit ! $
+      use1 W (‵ (fres (x .name) (codedHoleys R .code (heres R (now x))))) (W .names .obs-res (x .name) (codedHoleys R .code (heres R (now x)))) $
+      use1 W (‵ (finally R (x .name) (now x))) (res-finally 𝓤 H A W ℓ κ R (x .name) (now x)) $ keep ! (0 ∷ []) $ done !

@@ -4,6 +4,7 @@ use mathlib.Core.List.{List, _++_, append-assoc}
 use Prim.Native.Nat.{ℕ, _*_, _/_}
 use lib.Dec.{ltb}
 use borrow.Author.Tests.{ltb-false}
+use lib.IntN.{ℤ}
 use lib.ListN.{length, length-map}
 use Rattle.network.specs.Network.{Network}
 use Rattle.network.specs.Verdict.{Condition, verdict, sizeConditions, itemConditions, verdictOn}
@@ -23,7 +24,7 @@ use Rattle.records.proofs.Copying.{filled, copied}
 use Rattle.records.proofs.Judged.{replied-refused, replied-same}
 use Rattle.records.proofs.Pairs.{length-sources}
 
-room : (k m : ℕ) (flow lengths : List ℕ) → Quiet (recordConditions k m (length flow) (length lengths)) → Roomy k m flow lengths
+room : (k m : ℕ) (flow : List ℤ) (lengths : List ℕ) → Quiet (recordConditions k m (length flow) (length lengths)) → Roomy k m flow lengths
 unfolding recordConditions
 room k m flow lengths (more a none) =
     record {
@@ -31,7 +32,7 @@ room k m flow lengths (more a none) =
       for-lengths = ltb-false _ _ (or-false-right (ltb (length flow) (k * m)) (ltb (length lengths) m) a);
     }
 
-module _ (n q : ℕ) (records : List Arc) (pairs flow lengths : List ℕ) where
+module _ (n q : ℕ) (records : List Arc) (pairs : List ℕ) (flow : List ℤ) (lengths : List ℕ) where
   abbrev net : Network
   net = networkLent n records pairs
 
@@ -75,7 +76,7 @@ module _ (n q : ℕ) (records : List Arc) (pairs flow lengths : List ℕ) where
     served-loose w e = replied-refused net q flow lengths _ w (decides ∙ e)
 
     pub served-passed :
-        verdict (itemConditions copy) ≡ Accepted → (flow' lengths' : List ℕ) (r : Reply) → Replied copy q Accepted flow lengths flow' lengths' r →
+        verdict (itemConditions copy) ≡ Accepted → (flow' : List ℤ) (lengths' : List ℕ) (r : Reply) → Replied copy q Accepted flow lengths flow' lengths' r →
         Recorded n q records pairs flow lengths flow' lengths' r
     served-passed e flow' lengths' r p =
         rw (decides ∙ e) (replied-same (copied records (sizable .counts .of-arcs .most) n pairs) p)

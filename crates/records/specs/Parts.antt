@@ -2,6 +2,7 @@
 use mathlib.Core.Path.{_≡_}
 use mathlib.Core.List.{List}
 use Prim.Native.Nat.{ℕ, zero, suc, _*_, _/_, _≤_, _<_}
+use lib.IntN.{ℤ}
 use lib.ListN.{length}
 use Rattle.bounds.specs.Bounds.{mostArcs, mostCommodities}
 use Rattle.network.specs.Network.{Network}
@@ -13,12 +14,12 @@ use Rattle.packed.specs.declared.Shape.{Shape}
 use Rattle.records.specs.Records.{sourcesIn, sinksIn}
 
 -- The two tables have room for the outcome of k commodities on m arcs.
-pub record Roomy (k m : ℕ) (flow lengths : List ℕ) : Type 0 where
+pub record Roomy (k m : ℕ) (flow : List ℤ) (lengths : List ℕ) : Type 0 where
   pub for-flow : k * m ≤ length flow
   pub for-lengths : m ≤ length lengths
 
 -- The sizes of a call with m arcs are within their bounds.
-pub record SizesPassed (n q m : ℕ) (pairs flow lengths : List ℕ) : Type 0 where
+pub record SizesPassed (n q m : ℕ) (pairs : List ℕ) (flow : List ℤ) (lengths : List ℕ) : Type 0 where
   pub counts : Counts n m (length pairs / 2) q
   pub room : Roomy (length pairs / 2) m flow lengths
 
@@ -55,11 +56,11 @@ pub record Checking (m : ℕ) (pairs : List ℕ) : Type 0 where
   pub few-pairs : length pairs / 2 ≤ mostCommodities
 
 -- An accepted network, and room for its outcome.
-pub record Delivering (s : Shape) (q : ℕ) (net flow lengths : List ℕ) : Type 0 where
+pub record Delivering (s : Shape) (q : ℕ) (net : List ℕ) (flow : List ℤ) (lengths : List ℕ) : Type 0 where
   pub lent : Lent s q net
   pub room : Roomy (s .commodities) (s .arcs) flow lengths
 
 -- A call that has passed.
-pub record Passed (n q m : ℕ) (net pairs flow lengths : List ℕ) : Type 0 where
+pub record Passed (n q m : ℕ) (net pairs : List ℕ) (flow : List ℤ) (lengths : List ℕ) : Type 0 where
   pub sizes : SizesPassed n q m pairs flow lengths
   pub items : verdict (itemConditions (networkCopied n m net pairs)) ≡ Accepted

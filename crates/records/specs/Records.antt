@@ -4,16 +4,16 @@ use mathlib.Core.List.{List, [], _∷_, map}
 use mathlib.Core.Bool.{_||_}
 use Prim.Native.Nat.{ℕ, _*_}
 use lib.Dec.{ltb}
+use lib.IntN.{ℤ}
 use lib.ListN.{length}
 use Rattle.network.specs.Network.{Network, arcs, commodities}
 use Rattle.network.specs.Refusal.{hostNumber}
-use Rattle.network.specs.Verdict.{Condition, when, verdictOn}
+use Rattle.network.specs.Verdict.{Condition, when, verdictOn, afterwards}
 use Rattle.network.specs.declared.Refusal.the-variants.{ShortTable}
 use Rattle.network.specs.declared.Verdict.{Verdict}
 use Rattle.network.specs.declared.Verdict.the-variants.{Accepted}
 use Rattle.method.specs.Answer.{outcome, numbersOf, overlaid}
 use Rattle.method.specs.Guarantee.{Guarantee}
-use Rattle.host.specs.Host.{afterwards}
 use Rattle.records.specs.Reply.{replyOf, numberIn, valuesIn}
 use Rattle.records.specs.declared.Arc.{Arc}
 use Rattle.records.specs.declared.Reply.{Reply}
@@ -48,12 +48,12 @@ unfoldable pub recordConditions : ℕ → ℕ → ℕ → ℕ → List Condition
 recordConditions k m flow lengths = when (ltb flow (k * m) || ltb lengths m) ShortTable ∷ []
 
 -- The verdict on the call.
-abbrev pub verdictLent : Network → ℕ → List ℕ → List ℕ → Verdict
+abbrev pub verdictLent : Network → ℕ → List ℤ → List ℕ → Verdict
 verdictLent net q flow lengths = verdictOn net q (recordConditions (commodities net) (arcs net) (length flow) (length lengths))
 
 -- What a call with the verdict v returns and leaves: the reply, with its numbers; in both tables the outcome's numbers first, later places as they
 -- were, all of them where it is turned down; and where it is accepted, all that holds of the outcome.
-pub record Replied (net : Network) (q : ℕ) (v : Verdict) (flow lengths flow' lengths' : List ℕ) (r : Reply) : Type 0 where
+pub record Replied (net : Network) (q : ℕ) (v : Verdict) (flow : List ℤ) (lengths : List ℕ) (flow' : List ℤ) (lengths' : List ℕ) (r : Reply) : Type 0 where
   pub returned : r ≡ replyOf v (outcome net q .answer)
   pub number : numberIn r ≡ hostNumber v
   pub values : valuesIn r ≡ afterwards v (numbersOf (outcome net q .answer)) []
@@ -62,6 +62,6 @@ pub record Replied (net : Network) (q : ℕ) (v : Verdict) (flow lengths flow' l
   pub guarantee : v ≡ Accepted → Guarantee net q (outcome net q)
 
 -- The contract of the call.
-abbrev pub Recorded : ℕ → ℕ → List Arc → List ℕ → List ℕ → List ℕ → List ℕ → List ℕ → Reply → Type 0
+abbrev pub Recorded : ℕ → ℕ → List Arc → List ℕ → List ℤ → List ℕ → List ℤ → List ℕ → Reply → Type 0
 Recorded n q arcs pairs flow lengths flow' lengths' r =
     Replied (networkLent n arcs pairs) q (verdictLent (networkLent n arcs pairs) q flow lengths) flow lengths flow' lengths' r

@@ -54,7 +54,7 @@ pub fn check_copy(n: u64, m: usize, arcs: [u64; NET_NUMBERS], pairs: &[u64]) -> 
 }
 
 // An accepted network: the outcome takes the first places of both tables.
-fn deliver_in(s: Shape, q: u64, net: &[u64], flow: &mut [u64], lengths: &mut [u64]) -> Reply
+fn deliver_in(s: Shape, q: u64, net: &[u64], flow: &mut [i64], lengths: &mut [u64]) -> Reply
     requires { ⌜ Delivering s q (now net) (now flow) (now lengths) ⌝ }
     ensures { λ r. ⌜ Replied (netIn s (now (net .entry))) q Accepted (now (flow .entry)) (now (lengths .entry)) (now (flow .exit)) (now (lengths .exit)) r ⌝ }
 {
@@ -73,7 +73,7 @@ pub fn deliver(
     m: usize,
     arcs: [u64; NET_NUMBERS],
     pairs: &[u64],
-    flow: &mut [u64],
+    flow: &mut [i64],
     lengths: &mut [u64],
 ) -> Reply
     requires { ⌜ Passed n q m arcs (now pairs) (now flow) (now lengths) ⌝ }

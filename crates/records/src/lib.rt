@@ -32,7 +32,7 @@ pub fn solve(
     q: u64,
     arcs: &[Arc],
     pairs: &[u64],
-    flow: &mut [u64],
+    flow: &mut [i64],
     lengths: &mut [u64],
 ) -> Reply
     ensures { λ r. ⌜ Recorded n q (now (arcs .entry)) (now (pairs .entry)) (now (flow .entry)) (now (lengths .entry)) (now (flow .exit)) (now (lengths .exit)) r ⌝ }

@@ -6,6 +6,8 @@ use method::Answer;
 use network::Refusal;
 use records::Arc;
 use records::Reply;
+use signed::twos;
+use std::num::wrapping_sub_u64;
 ghost use Prim.Native.Nat.{_≤_};
 ghost use lib.ListN.{take};
 ghost use Rattle.records.specs.Records.{Recorded};
@@ -17,7 +19,7 @@ fn lent(
     arcs: [Arc; 2],
     m: usize,
     pairs: &[u64],
-    flow: &mut [u64],
+    flow: &mut [i64],
     lengths: &mut [u64],
 ) -> Reply
     requires { ⌜ m ≤ 2 ⌝ }
@@ -36,6 +38,25 @@ fn print_all(s: &[u64]) {
     let mut i = 0;
     while i < s.len() {
         print(s[i]);
+        i += 1;
+    }
+}
+
+// A negative number by its size, which is what its two's complement lacks of 2^64.
+fn print_amount(x: i64) {
+    if x < 0 {
+        io::write_all(STDOUT_FILENO, b" -");
+        io::print_decimal(STDOUT_FILENO, wrapping_sub_u64(0, twos(x)));
+    } else {
+        print(twos(x));
+    }
+}
+
+fn print_flow(s: &[i64]) {
+    io::write_all(STDOUT_FILENO, b" |");
+    let mut i = 0;
+    while i < s.len() {
+        print_amount(s[i]);
         i += 1;
     }
 }
@@ -67,12 +88,12 @@ fn print_reply(r: Reply) {
 fn run(name: &[u8], n: u64, q: u64, arcs: [Arc; 2], m: usize, pairs: &[u64])
     requires { ⌜ m ≤ 2 ⌝ }
 {
-    let mut flow = [9u64; 4];
+    let mut flow = [9i64; 4];
     let mut lengths = [9u64; 2];
     let reply = lent(n, q, arcs, m, pairs, &mut flow, &mut lengths);
     io::write_all(STDOUT_FILENO, name);
     print_reply(reply);
-    print_all(&flow);
+    print_flow(&flow);
     print_all(&lengths);
     io::write_all(STDOUT_FILENO, b"\n");
 }

@@ -3,9 +3,11 @@ use mathlib.Core.Path.{_≡_, refl, ap, _∙_}
 use mathlib.Core.List.{List, [], _∷_, _++_, append-nil, append-assoc}
 use Prim.Native.Nat.{ℕ, zero, suc, _+_}
 use native.Mathlib.Nat.{zero-add, zero-mul, add-zero, add-suc, suc-add}
+use lib.IntN.{ℤ, pos}
 use lib.ListN.{getD}
 use Rattle.arith.specs.Lists.{upFrom, upTo, flat}
 use Rattle.arith.specs.Sum.{sum}
+use Rattle.signed.specs.Signed.{size}
 use Rattle.network.specs.Flow.{loadOf}
 use Rattle.network.specs.Network.{Network, arcs, commodities}
 use Rattle.method.specs.Answer.{Outcome, amounts}
@@ -33,10 +35,10 @@ pub flat-more : (f : ℕ → List ℕ) (n : ℕ) → flat f (upTo (suc n)) ≡ f
 unfolding upTo flat
 flat-more f n = rw (upFrom-last 0 n, flat-append, zero-add, append-nil)
 
--- With one commodity the flow table holds the loads.
-pub one-load : (net : Network) → commodities net ≡ 1 → (t : List ℕ) (e : ℕ) → loadOf net (amounts net t) e ≡ getD t e 0
+-- With one commodity the loads are the sizes of its amounts.
+pub one-load : (net : Network) → commodities net ≡ 1 → (t : List ℤ) (e : ℕ) → loadOf net (amounts net t) e ≡ size (getD t e (pos 0))
 unfolding loadOf amounts sum
-one-load net h t e = rw (h, zero-mul) (zero-add (getD t (0 + e) 0) ∙ ap (λ j. getD t j 0) (zero-add e))
+one-load net h t e = rw (h, zero-mul) (zero-add (size (getD t (0 + e) (pos 0))) ∙ ap (λ j. size (getD t j (pos 0))) (zero-add e))
 
 pub same-rows :
     (net : Network) → commodities net ≡ 1 → (o : Outcome) →

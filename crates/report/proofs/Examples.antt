@@ -10,12 +10,13 @@ use Rattle.arith.specs.Sum.{sum}
 use Rattle.length.specs.Length.{scale, mark, start, growth, halving}
 use Rattle.length.specs.Level.{level, threshold}
 use Rattle.length.specs.Levels.{levels}
+use Rattle.signed.specs.Signed.{ahead, back}
 use Rattle.network.specs.Flow.{loadOf}
 use Rattle.network.specs.Path.{leads, follow, pathLength}
 use Rattle.network.specs.Verdict.{outside, loose, verdict, sizeConditions, arcConditions, commodityConditions, itemConditions, verdictOn}
 use Rattle.method.specs.Answer.{fullest, amounts, unjoined, outcomeOf, outcome}
 use Rattle.method.specs.Choice.{words, endsAt, paths, candidates, sooner, least, choice}
-use Rattle.method.specs.Iteration.{initial, weight, lowest, draw, update, grown, settled, advance, iteration}
+use Rattle.method.specs.Iteration.{initial, weight, lowest, draw, update, pushed, grown, settled, advance, iteration}
 use Rattle.method.specs.Run.{ended, runs, run}
 use Rattle.lines.specs.Meaning.{shaped, given, problemLine, sourceOrSink, terminalLine, arcLine, lettered, meaning}
 use Rattle.lines.specs.Number.{digit, every, fromDigits, numberOf}
@@ -70,5 +71,5 @@ unfolding
     terminalLine sourceOrSink problemLine given shaped numberOf fromDigits every digit wordsOf filled keep blank linesOf lineFeed pieces lead
     verdictOn itemConditions commodityConditions arcConditions sizeConditions verdict loose outside loadOf amounts ceil upFrom upTo exists flat sum scale
     mark start growth halving level threshold levels leads follow pathLength words endsAt paths candidates sooner least choice initial weight
-    lowest draw update grown settled advance iteration ended runs run fullest unjoined outcomeOf outcome bind
+    lowest draw update pushed grown settled advance iteration ended runs run fullest unjoined outcomeOf outcome bind ahead back
 listings = tt

@@ -5,9 +5,11 @@ use Prim.Native.Nat.{ℕ, _+_, _*_, _≤_}
 use native.Mathlib.Nat.{add-zero, le-antisymm}
 use native.Mathlib.Numerals.{add-one}
 use native.Mathlib.Omega.{arith}
+use lib.IntN.{ℤ, pos}
 use lib.ListN.{length, getD, length-append, take-append-drop}
 use Rattle.arith.specs.Lists.{upFrom, upTo, flat}
 use Rattle.lines.specs.Text.{bytes}
+use Rattle.signed.specs.Signed.{size}
 use Rattle.rows.specs.Decimal.{decimal}
 use Rattle.rows.specs.Put.{Put}
 use Rattle.rows.proofs.Digits.{decimal-short}
@@ -43,11 +45,11 @@ pub all-rowed :
 all-rowed n r h l = rw (le-antisymm l h) (r .now)
 
 -- The row of an arc has at most 90 bytes.
-pub belt-length : (tails heads loads : List ℕ) (a y e : ℕ) → length (beltOf tails heads loads a y e) ≤ 90
-belt-length tails heads loads a y e =
+pub belt-length : (tails heads : List ℕ) (flow : List ℤ) (a y e : ℕ) → length (beltOf tails heads flow a y e) ≤ 90
+belt-length tails heads flow a y e =
     omega (
       arith,
-      row-length (bytes "belt") (decimal (getD tails e 0)) (decimal (getD heads e 0)) (getD loads e 0 * a) y,
+      row-length (bytes "belt") (decimal (getD tails e 0)) (decimal (getD heads e 0)) (size (getD flow e (pos 0)) * a) y,
       decimal-short (getD tails e 0),
       decimal-short (getD heads e 0),
     )

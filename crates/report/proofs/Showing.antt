@@ -4,7 +4,9 @@ use mathlib.Core.List.{List}
 use Prim.Native.Nat.{ℕ, _+_, _*_, _^_, _≤_, _<_}
 use native.Mathlib.Nat.{one-mul}
 use native.Mathlib.Omega.{arith}
+use lib.IntN.{ℤ, pos}
 use lib.ListN.{length, getD}
+use Rattle.signed.specs.Signed.{size}
 use Rattle.network.specs.Network.{Network, arcs, commodities}
 use Rattle.network.specs.declared.Verdict.the-variants.{Accepted}
 use Rattle.method.specs.Answer.{outcome}
@@ -28,11 +30,11 @@ module _ {s : Shape} {xs : List ℕ} {at room : ℕ} (ready : Ready s xs at room
   pub one-row : (n : ℕ) → n ≡ s .arcs → n ≡ commodities net * arcs net
   one-row n h = rw (ready .one, one-mul, arcs-is (ready .lent .packed)) h
 
-  module _ {a : Answer} {flow kept : List ℕ} (v : Solved net 4 a flow kept) where
+  module _ {a : Answer} {flow : List ℤ} {kept : List ℕ} (v : Solved net 4 a flow kept) where
     pub total-small : a .total * a .capacity < 2 ^ 64
     total-small = rw (v .answers) (v .guarantee .fits .total)
 
-    load-small : (e : ℕ) → e < arcs net → getD flow e 0 * a .capacity < 2 ^ 64
+    load-small : (e : ℕ) → e < arcs net → size (getD flow e (pos 0)) * a .capacity < 2 ^ 64
     load-small e l =
         rw (v .answers, v .flows, ← one-load net (ready .one) (outcome net 4 .flow) e)
         (v .guarantee .fits .loads e l)
@@ -41,7 +43,8 @@ module _ {s : Shape} {xs : List ℕ} {at room : ℕ} (ready : Ready s xs at room
     belted next h l =
         record {
           of-heads = heads-length (ready .lent .packed);
-          of-loads = h ∙ sym (arcs-is (ready .lent .packed));
+          of-flow = h ∙ sym (arcs-is (ready .lent .packed));
+          sizes = rw (v .flows) (v .guarantee .fits .flow);
           fits = load-small;
           enough = omega (arith, ready .enough, ready .lent .sound .counts .of-arcs .most);
         }

@@ -2,13 +2,16 @@
 use mathlib.Core.Path.{_≡_}
 use mathlib.Core.List.{List, [], _∷_}
 use Prim.Native.Nat.{ℕ, _+_, _*_, _^_, _≤_, _<_}
+use lib.IntN.{ℤ, pos}
 use lib.ListN.{length, getD, take}
 use Rattle.arith.specs.Lists.{upTo, flat}
 use Rattle.bounds.specs.Bounds.{mostArcs}
+use Rattle.signed.specs.Signed.{size}
 use Rattle.network.specs.Network.{Network, commodities}
 use Rattle.network.specs.declared.Verdict.{Verdict}
 use Rattle.network.specs.declared.Verdict.the-variants.{Accepted}
 use Rattle.method.specs.Answer.{outcome}
+use Rattle.method.specs.Fits.{Amounts}
 use Rattle.method.specs.Guarantee.{Guarantee}
 use Rattle.packed.specs.Packed.{netIn, Packed, Lent, netNumbers, tableNumbers}
 use Rattle.packed.specs.declared.Shape.{Shape}
@@ -20,19 +23,20 @@ use Rattle.rows.specs.Put.{Put}
 use Rattle.rows.specs.Row.{row}
 use Rattle.report.specs.Listing.{verdictRows}
 
--- The row of arc e, whose load times a is written over y.
-abbrev pub beltOf : List ℕ → List ℕ → List ℕ → ℕ → ℕ → ℕ → List ℕ
-beltOf tails heads loads a y e = row (bytes "belt") (decimal (getD tails e 0)) (decimal (getD heads e 0)) (getD loads e 0 * a) y
+-- The row of arc e, of whose amount the size times a is written over y.
+abbrev pub beltOf : List ℕ → List ℕ → List ℤ → ℕ → ℕ → ℕ → List ℕ
+beltOf tails heads flow a y e = row (bytes "belt") (decimal (getD tails e 0)) (decimal (getD heads e 0)) (size (getD flow e (pos 0)) * a) y
 
 -- the rows of all arcs
-abbrev pub beltsOf : List ℕ → List ℕ → List ℕ → ℕ → ℕ → List ℕ
-beltsOf tails heads loads a y = flat (beltOf tails heads loads a y) (upTo (length tails))
+abbrev pub beltsOf : List ℕ → List ℕ → List ℤ → ℕ → ℕ → List ℕ
+beltsOf tails heads flow a y = flat (beltOf tails heads flow a y) (upTo (length tails))
 
--- A head and a load for each arc, products that fit, and room for the rows.
-pub record Belted (tails heads loads : List ℕ) (a at room : ℕ) : Type 0 where
+-- A head and an amount for each arc, sizes and products that fit, and room for the rows.
+pub record Belted (tails heads : List ℕ) (flow : List ℤ) (a at room : ℕ) : Type 0 where
   pub of-heads : length heads ≡ length tails
-  pub of-loads : length loads ≡ length tails
-  pub fits : (e : ℕ) → e < length tails → getD loads e 0 * a < 2 ^ 64
+  pub of-flow : length flow ≡ length tails
+  pub sizes : Amounts flow
+  pub fits : (e : ℕ) → e < length tails → size (getD flow e (pos 0)) * a < 2 ^ 64
   pub enough : at + 90 * length tails ≤ room
 
 -- The shape of a file's network, and the network: the first entries of the tables read, and one commodity.
@@ -71,7 +75,7 @@ pub record Ready (s : Shape) (net : List ℕ) (at room : ℕ) : Type 0 where
   pub enough : at + 23199 ≤ room
 
 -- And work space of its size.
-pub record Showing (s : Shape) (net flow tables : List ℕ) (at room : ℕ) : Type 0 where
+pub record Showing (s : Shape) (net : List ℕ) (flow : List ℤ) (tables : List ℕ) (at room : ℕ) : Type 0 where
   pub ready : Ready s net at room
   pub flows : length flow ≡ s .arcs
   pub places : tableNumbers ≤ length tables

@@ -13,33 +13,34 @@ ghost use Rattle.packed.specs.Packed.{netIn};
 ghost use Rattle.rows.specs.Put.{Put};
 ghost use Rattle.report.specs.Shown.{beltsOf, Belted, Ready, Showing, Shown};
 
-// The rows of the arcs in order: each load times a, over y.
+// The rows of the arcs in order: the size of each amount times a, over y.
 fn put_belts(
     out: &mut [u8],
     at: usize,
     tails: &[u64],
     heads: &[u64],
-    loads: &[u64],
+    flow: &[i64],
     a: u64,
     y: u64,
 ) -> usize
-    requires { ⌜ Belted (now tails) (now heads) (now loads) a at (length (now out)) ⌝ }
-    ensures { λ r. ⌜ Put (beltsOf (now (tails .entry)) (now (heads .entry)) (now (loads .entry)) a y) (now (out .entry)) at (now (out .exit)) r ⌝ }
+    requires { ⌜ Belted (now tails) (now heads) (now flow) a at (length (now out)) ⌝ }
+    ensures { λ r. ⌜ Put (beltsOf (now (tails .entry)) (now (heads .entry)) (now (flow .entry)) a y) (now (out .entry)) at (now (out .exit)) r ⌝ }
 {
     let mut next = at;
     let mut e = 0;
     while e < tails.len() {
-        next = put_belt(out, next, tails[e], heads[e], loads[e] * a, y);
+        let load = signed::size(flow[e]);
+        next = put_belt(out, next, tails[e], heads[e], load * a, y);
         e += 1;
     }
     next
 }
 
-// The outcome solved in lent work space, and written. With one commodity the flow table is the loads.
+// The outcome solved in lent work space, and written. With one commodity the loads are the sizes of its amounts.
 fn show_in(
     s: Shape,
     net: &[u64],
-    flow: &mut [u64],
+    flow: &mut [i64],
     tables: &mut [u64],
     out: &mut [u8],
     at: usize,
@@ -61,7 +62,7 @@ pub fn show(s: Shape, net: &[u64], out: &mut [u8], at: usize) -> usize
     ensures { λ r. ⌜ Shown (netIn s (now (net .entry))) Accepted (now (out .entry)) at (now (out .exit)) r ⌝ }
 {
     let m = s.arcs;
-    let mut flow = [0u64; MOST_ARCS];
+    let mut flow = [0i64; MOST_ARCS];
     let mut tables = [0u64; TABLE_NUMBERS];
     show_in(s, net, &mut flow[..m], &mut tables, out, at)
 }

@@ -2,6 +2,7 @@
 use mathlib.Core.Path.{_≡_, ap, _∙_}
 use mathlib.Core.List.{List}
 use Prim.Native.Nat.{ℕ}
+use lib.IntN.{ℤ}
 use Rattle.length.specs.Level.{threshold}
 use Rattle.network.specs.Network.{Network, arcs}
 use Rattle.method.specs.Iteration.{initial, weight}
@@ -16,5 +17,5 @@ module _ {net : Network} {q : ℕ} {r : Progress} {d : ℕ} (h : r ≡ begunWith
   pub begin-noted : {L : List ℕ} {t : ℕ} → d ≡ weight net L → t ≡ threshold (arcs net) q → Noted net q t L r
   begin-noted w e = record { threshold = e; weight = ap (λ x. x .weight) h ∙ w }
 
-  pub begin-running : {L F Y K : List ℕ} → Whole net q → stateOf L F Y K begun ≡ initial net → Chooses net → Running net q (stateOf L F Y K r)
+  pub begin-running : {L Y K : List ℕ} {F : List ℤ} → Whole net q → stateOf L F Y K begun ≡ initial net → Chooses net → Running net q (stateOf L F Y K r)
   begin-running lent start chooses = rw (h, start) (running-start net q (lent .sound) chooses)

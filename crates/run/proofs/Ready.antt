@@ -3,28 +3,27 @@
 use mathlib.Core.Path.{_≡_, refl, sym, ap, _∙_}
 use mathlib.Core.Option.{some}
 use mathlib.Core.List.{List}
-use Prim.Native.Nat.{ℕ, _+_, _*_, _/_, _%_, _^_, _≤_, _<_}
-use native.Mathlib.Nat.{mul-le-mul-right, div-lt-iff-lt-mul, mod-lt, div-add-mod', mul-le-mul}
+use Prim.Native.Nat.{ℕ, _^_, _≤_, _<_}
+use native.Mathlib.Nat.{mul-le-mul-right, mul-le-mul}
 use native.Mathlib.Omega.{arith}
 use lib.ListN.{length, getD}
-use Rattle.arith.proofs.Sums.{term-le-sum}
 use Rattle.bounds.specs.Bounds.{mostNodes, mostArcs, mostCapacity}
 use Rattle.length.specs.Length.{growth}
 use Rattle.network.specs.Network.{Network, arcs, commodities}
-use Rattle.network.specs.Flow.{loadOf}
 use Rattle.network.specs.Path.{pathLength}
 use Rattle.network.proofs.Sounds.{sound-ends}
-use Rattle.method.specs.Answer.{amounts}
 use Rattle.method.specs.Choice.{choiceOf, choice}
 use Rattle.method.specs.Iteration.{State, draw, grown}
 use Rattle.method.specs.Sizes.{Sizes}
 use Rattle.method.proofs.Arcs.{chosen-some}
+use Rattle.method.proofs.Fitting.{flow-below}
 use Rattle.method.proofs.Reached.{Reached, Valid, chosen-at, fair}
 use Rattle.method.proofs.Sized.{reached-sizes, grown-sizes}
 use Rattle.method.proofs.Times.{update-length}
 use Rattle.lengths.specs.Calls.{Capacities, Settling}
 use Rattle.step.specs.Steps.{Stepping}
 use Rattle.run.proofs.Whole.{Whole}
+use Rattle.tables.specs.Calls.{Pushing}
 use Rattle.tables.specs.Tables.{Under, longer}
 use Rattle.tables.proofs.OnPath.{draw-at, draw-most, below-under}
 
@@ -72,24 +71,20 @@ module _ (net : Network) (q : ℕ) (lent : Whole net q) (s : State) (r : Reached
   listed : i < commodities net
   listed = chosen-at net q (lent .sound) s v (choiceOf i p) h .commodity
 
-  -- An amount is part of its arc's load.
-  amount : (x : ℕ) → x < length (s .flow) → getD (s .flow) x 0 < 2 ^ 32
-  unfolding amounts loadOf
-  amount x l =
-      let m : ℕ = arcs net in
-      let some : 0 < m = lent .sound .counts .of-arcs .least in
-      let j : x / m < commodities net = div-lt-iff-lt-mul some .1 (omega (arith, v .table .rows)) in
-      let e : x % m < m = mod-lt x some in
-      omega (
-        arith,
-        ap (λ t. getD (s .flow) t 0) (div-add-mod' x m),
-        term-le-sum (commodities net) (λ i. getD (s .flow) (i * m + x % m) 0) (x / m) j,
-        v .table .sums (x % m) e,
-        z .load-high (x % m) e,
-      )
-
-  row-place : (j : ℕ) → j < length p → i * arcs net + getD p j 0 < length (s .flow)
-  row-place j l = omega (arith, places j l, lent .capacities, mul-le-mul-right (arcs net) listed, v .table .rows)
+  -- The amounts of the flow are below what bounds the loads.
+  pushing : Pushing net i p (draw caps p) (s .flow)
+  pushing =
+      let all = mul-le-mul (lent .sound .counts .of-commodities .most) (lent .sound .counts .of-arcs .most) in
+      let most = flow-below net (2 ^ 21) (s .flow) (s .loads) (s .total) (v .table) (lent .sound .counts .of-arcs .least) (z .load-high) in
+      record {
+        listed = listed;
+        row = omega (arith, mul-le-mul-right (arcs net) listed, v .table .rows);
+        long = omega (arith, v .table .rows, all);
+        places = λ j l. omega (arith, places j l, lent .capacities);
+        amounts = λ j l. omega (arith, most j l);
+        small = small;
+        few = few;
+      }
 
   arcs-few : length caps ≤ mostArcs
   arcs-few = omega (arith, lent .capacities, lent .sound .counts .of-arcs .most)
@@ -124,7 +119,7 @@ module _ (net : Network) (q : ℕ) (lent : Whole net q) (s : State) (r : Reached
               short = short;
             };
         grown = grown-settling;
-        flow = record { places = row-place; amounts = amount; small = small; few = few };
+        flow = pushing;
         loads =
             record {
               places = λ j l. omega (arith, places j l, v .table .places, lent .capacities);
@@ -132,7 +127,6 @@ module _ (net : Network) (q : ℕ) (lent : Whole net q) (s : State) (r : Reached
               small = small;
               few = few;
             };
-        row = omega (arith, listed, mul-le-mul (lent .sound .counts .of-commodities .most) (lent .sound .counts .of-arcs .most), mul-le-mul-right (arcs net) listed);
         total = omega (arith, z .total-high);
         count = omega (arith, z .count-high);
       }

@@ -4,6 +4,7 @@ use mathlib.Core.Option.{none, some}
 use mathlib.Core.List.{List}
 use Prim.Native.Nat.{ℕ, _*_, _-_}
 use native.Mathlib.Omega.{arith}
+use lib.IntN.{ℤ, pos}
 use lib.ListN.{length, getD, replicate}
 use Rattle.network.specs.Network.{Network, arcs, commodities}
 use Rattle.method.specs.Answer.{outcome, outcomeOf, unjoined}
@@ -23,8 +24,8 @@ use Rattle.solver.specs.Solved.{Solved, answerOf, noAnswer}
 
 -- The tables once they are cleared are those of the definition's start.
 pub initial-is :
-    {net : Network} {q : ℕ} → Whole net q → {L F Y K : List ℕ} {m y k f : ℕ} → L ≡ firstLengths (net .capacities) → Y ≡ replicate y 0 →
-    K ≡ replicate k 0 → F ≡ replicate f 0 → m ≡ arcs net → y ≡ m → k ≡ m → f ≡ commodities net * arcs net → stateOf L F Y K begun ≡ initial net
+    {net : Network} {q : ℕ} → Whole net q → {L Y K : List ℕ} {F : List ℤ} {m y k f : ℕ} → L ≡ firstLengths (net .capacities) → Y ≡ replicate y 0 →
+    K ≡ replicate k 0 → F ≡ replicate f (pos 0) → m ≡ arcs net → y ≡ m → k ≡ m → f ≡ commodities net * arcs net → stateOf L F Y K begun ≡ initial net
 unfolding initial
 initial-is whole started unloaded nothing empty em ey ek ef = rw (started, unloaded, nothing, empty, ey, ek, ef, em, whole .capacities) refl
 
@@ -43,7 +44,7 @@ outcome-none net q h = rw (h, outcome) refl
 
 -- No commodity is joined: the tables of the start are the outcome's.
 pub solved-none :
-    (net : Network) (q : ℕ) → Whole net q → (flow kept : List ℕ) → choice net (initial net .lengths) ≡ none → flow ≡ initial net .flow →
+    (net : Network) (q : ℕ) → Whole net q → (flow : List ℤ) (kept : List ℕ) → choice net (initial net .lengths) ≡ none → flow ≡ initial net .flow →
     kept ≡ initial net .bestLengths → Solved net q noAnswer flow kept
 unfolding unjoined initial
 solved-none net q lent flow kept h f k =
@@ -57,7 +58,7 @@ solved-none net q lent flow kept h f k =
 
 -- The run's tables are the outcome's.
 pub solved-some :
-    (net : Network) (q : ℕ) → Whole net q → (c : Choice) → choice net (initial net .lengths) ≡ some c → (flow kept loads lengths : List ℕ) (p : Progress) →
+    (net : Network) (q : ℕ) → Whole net q → (c : Choice) → choice net (initial net .lengths) ≡ some c → (flow : List ℤ) (kept loads lengths : List ℕ) (p : Progress) →
     stateOf lengths flow loads kept p ≡ run net q →
     Solved net q (answerOf (arcs net) (net .capacities) loads p) flow kept
 unfolding outcomeOf

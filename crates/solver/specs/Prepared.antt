@@ -2,6 +2,7 @@
 use mathlib.Core.Path.{_≡_}
 use mathlib.Core.List.{List}
 use Prim.Native.Nat.{ℕ, _*_, _≤_}
+use lib.IntN.{ℤ}
 use lib.ListN.{length}
 use Rattle.bounds.specs.Bounds.{mostNodes}
 use Rattle.network.specs.Network.{Network, arcs, commodities}
@@ -13,20 +14,20 @@ use Rattle.choice.specs.Memory.{memoryNumbers, Memory}
 use Rattle.step.specs.Progress.{stateIn, begun}
 
 -- The tables are those of the method's start, the memory holds by its lengths, and d is their D.
-pub record Cleared (s : Shape) (net : Network) (flow tables memory : List ℕ) (d : ℕ) : Type 0 where
+pub record Cleared (s : Shape) (net : Network) (flow : List ℤ) (tables memory : List ℕ) (d : ℕ) : Type 0 where
   pub state : stateIn s flow tables begun ≡ initial net
   pub memory-of : Memory s net (stateIn s flow tables begun .lengths) memory
   pub weight : d ≡ weight net (stateIn s flow tables begun .lengths)
 
 -- The sizes of the tables, for an accepted network.
-pub record Preparing (s : Shape) (q : ℕ) (net flow tables memory : List ℕ) : Type 0 where
+pub record Preparing (s : Shape) (q : ℕ) (net : List ℕ) (flow : List ℤ) (tables memory : List ℕ) : Type 0 where
   pub lent : Lent s q net
   pub flows : length flow ≡ commodities (netIn s net) * arcs (netIn s net)
   pub tabled : tableNumbers ≤ length tables
   pub memorised : memoryNumbers ≤ length memory
 
 -- What the solver asks with work space lent.
-pub record Working (s : Shape) (q : ℕ) (net indexes flow tables memory path : List ℕ) : Type 0 where
+pub record Working (s : Shape) (q : ℕ) (net indexes : List ℕ) (flow : List ℤ) (tables memory path : List ℕ) : Type 0 where
   pub preparing : Preparing s q net flow tables memory
   pub indexes-of : indexesNumbers ≤ length indexes
   pub path-of : mostNodes ≤ length path

@@ -2,6 +2,7 @@
 use mathlib.Core.Path.{_≡_}
 use mathlib.Core.List.{List}
 use Prim.Native.Nat.{ℕ, _*_, _-_, _≤_}
+use lib.IntN.{ℤ}
 use lib.ListN.{length, getD}
 use Rattle.network.specs.Network.{Network, arcs, commodities}
 use Rattle.method.specs.Answer.{fullest, outcome}
@@ -13,7 +14,7 @@ use Rattle.packed.specs.Packed.{netIn, Packed, Lent, loadsIn, tableNumbers}
 use Rattle.packed.specs.declared.Shape.{Shape}
 
 -- An accepted network, a flow table of just the size that its outcome has, and room for the tables of the arcs.
-pub record Solving (s : Shape) (q : ℕ) (net flow tables : List ℕ) : Type 0 where
+pub record Solving (s : Shape) (q : ℕ) (net : List ℕ) (flow : List ℤ) (tables : List ℕ) : Type 0 where
   pub lent : Lent s q net
   pub flows : length flow ≡ commodities (netIn s net) * arcs (netIn s net)
   pub places : tableNumbers ≤ length tables
@@ -42,7 +43,7 @@ abbrev pub noAnswer : Answer
 noAnswer = record { total = 0; capacity = 1; load = 1; bound = 0; alpha = 1; count = 0; best = 0 }
 
 -- The answer and the two tables are the outcome's, and the outcome meets the guarantee.
-pub record Solved (net : Network) (q : ℕ) (answer : Answer) (flow kept : List ℕ) : Type 0 where
+pub record Solved (net : Network) (q : ℕ) (answer : Answer) (flow : List ℤ) (kept : List ℕ) : Type 0 where
   pub answers : answer ≡ outcome net q .answer
   pub flows : flow ≡ outcome net q .flow
   pub lengths : kept ≡ outcome net q .lengths

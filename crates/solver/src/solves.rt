@@ -34,7 +34,7 @@ fn prepare(
     s: Shape,
     q: u64,
     net: &[u64],
-    flow: &mut [u64],
+    flow: &mut [i64],
     tables: &mut [u64],
     memory: &mut [u64],
 ) -> u64
@@ -49,7 +49,7 @@ fn prepare(
     );
     loads::clear(&mut tables[LOADS..LOADS + m]);
     loads::clear(&mut tables[KEPT..KEPT + m]);
-    loads::clear(flow);
+    loads::clear_flow(flow);
     loads::clear(&mut memory[BOUNDS..BOUNDS + k]);
     weight
 }
@@ -60,7 +60,7 @@ pub fn solve_in(
     q: u64,
     net: &[u64],
     indexes: &mut [u64],
-    flow: &mut [u64],
+    flow: &mut [i64],
     tables: &mut [u64],
     memory: &mut [u64],
     path: &mut [u64],

@@ -1,22 +1,19 @@
 -- What the parts of a step ask, by what the step asks: each of the tables as it is then. Assumes nothing.
 use mathlib.Core.Path.{_≡_}
 use mathlib.Core.List.{List}
-use Prim.Native.Nat.{ℕ, _*_, _^_, _<_}
+use Prim.Native.Nat.{ℕ}
 use lib.ListN.{length}
 use Rattle.network.specs.Network.{Network, arcs}
 use Rattle.method.specs.Iteration.{State, weight, draw}
-use Rattle.tables.specs.Calls.{Adding, Loading}
+use Rattle.tables.specs.Calls.{Pushing, Loading}
 use Rattle.lengths.specs.Calls.{Lengthening}
 use Rattle.step.specs.Steps.{Stepping, Kept}
 use Rattle.step.specs.declared.Progress.{Progress}
 
 module _ {net : Network} {q t i : ℕ} {path : List ℕ} {a : ℕ} {s : State} {p : Progress} (S : Stepping net q i path a s) (K : Kept net t s p) where
-  pub row-fits : {m : ℕ} → m ≡ arcs net → i * m < 2 ^ 64
-  row-fits e = rw e (S .row)
-
   module _ {g : ℕ} (drawn : g ≡ draw (net .capacities) path) where
-    pub adding : {m : ℕ} → m ≡ arcs net → Adding (s .flow) (i * m) path g
-    adding e = rw (e, drawn) (S .flow)
+    pub pushing : Pushing net i path g (s .flow)
+    pushing = rw drawn (S .flow)
 
     pub loading : {Y : List ℕ} → Y ≡ s .loads → Loading Y (net .capacities) t path g
     loading e = rw (e, drawn) (record { adding = S .loads; ending = K .ending; none = K .none })

@@ -5,12 +5,13 @@ use mathlib.Core.List.{List, map}
 use Prim.Native.Nat.{ℕ, _+_, _*_}
 use native.Mathlib.Numerals.{add-one}
 use lib.Dec.{ltb}
+use lib.IntN.{ℤ}
 use lib.ListN.{length, getD}
 use Rattle.length.specs.Length.{growth, halving}
-use Rattle.network.specs.Network.{Network, arcs}
+use Rattle.network.specs.Network.{Network, arcs, source}
 use Rattle.network.specs.Path.{pathLength}
 use Rattle.method.specs.Choice.{choiceOf}
-use Rattle.method.specs.Iteration.{weight, draw, update, grown, settled, advance}
+use Rattle.method.specs.Iteration.{weight, draw, update, pushed, grown, settled, advance}
 use Rattle.method.proofs.Times.{update-length}
 use Rattle.lengths.specs.declared.Grown.{Grown}
 use Rattle.tables.specs.Results.{Loaded}
@@ -20,7 +21,7 @@ use Rattle.step.specs.declared.Progress.{Progress}
 use Rattle.step.specs.Progress.{stateOf, counted, halves}
 use Rattle.step.specs.Steps.{Stepped}
 
-module _ (net : Network) (q t i : ℕ) (path L F Y K : List ℕ) (p : Progress) (whole : length (net .capacities) ≡ arcs net)
+module _ (net : Network) (q t i : ℕ) (path L : List ℕ) (F : List ℤ) (Y K : List ℕ) (p : Progress) (whole : length (net .capacities) ≡ arcs net)
     (same : length L ≡ length (net .capacities)) where
   abbrev caps : List ℕ
   caps = net .capacities
@@ -41,8 +42,8 @@ module _ (net : Network) (q t i : ℕ) (path L F Y K : List ℕ) (p : Progress) 
   abbrev lengths : List ℕ
   lengths = cond (halves caps q path L) (map halving G) G
 
-  abbrev flow : List ℕ
-  flow = update (λ e x. x + g) (map (λ e. i * arcs net + e) path) F
+  abbrev flow : List ℤ
+  flow = pushed net (i * arcs net) g (source net i) path F
 
   abbrev loads : List ℕ
   loads = update (λ e x. x + g) path Y
@@ -68,12 +69,12 @@ module _ (net : Network) (q t i : ℕ) (path L F Y K : List ℕ) (p : Progress) 
 
   -- The same from what each part leaves, of the tables as they were then.
   pub put-together :
-      {a g n : ℕ} {better : Bool} {K′ F′ Y₀ Y′ L₀ L′ : List ℕ} {ended : Bool} {grown : Grown} {r : Progress} →
+      {a g : ℕ} {better : Bool} {F′ : List ℤ} {K′ Y₀ Y′ L₀ L′ : List ℕ} {ended : Bool} {grown : Grown} {r : Progress} →
       p .weight ≡ weight net L → a ≡ pathLength L path → g ≡ draw caps path → better ≡ ltb (p .weight * p .alpha) (p .bound * a) →
-      K′ ≡ cond better L K → n ≡ arcs net → F′ ≡ update (λ e x. x + g) (map (λ e. i * n + e) path) F → Y₀ ≡ Y → Loaded Y₀ caps t path g Y′ ended →
+      K′ ≡ cond better L K → F′ ≡ pushed net (i * arcs net) g (source net i) path F → Y₀ ≡ Y → Loaded Y₀ caps t path g Y′ ended →
       L₀ ≡ L → Lengthened L₀ caps q g path L′ grown → r ≡ counted p g better a (grown .weight) (grown .marked) ended →
       Stepped net q t i path (stateOf L F Y K p) (stateOf L′ F′ Y′ K′ r) r
-  put-together h ea eg eb ek en ef ey loaded el long er =
+  put-together h ea eg eb ek ef ey loaded el long er =
       rw (
         er,
         long .weight,
@@ -84,7 +85,6 @@ module _ (net : Network) (q t i : ℕ) (path L F Y K : List ℕ) (p : Progress) 
         loaded .loads,
         ey,
         ef,
-        en,
         ek,
         eb,
         eg,

@@ -2,6 +2,7 @@
 use mathlib.Core.Bool.{Bool, false, cond}
 use mathlib.Core.List.{List}
 use Prim.Native.Nat.{ℕ, _+_}
+use lib.IntN.{ℤ}
 use Rattle.packed.specs.Packed.{part, put, lengthsFrom, keptFrom, lengthsIn, loadsIn, keptIn}
 use Rattle.packed.specs.declared.Shape.{Shape}
 use Rattle.method.specs.Iteration.{State, draw}
@@ -9,7 +10,7 @@ use Rattle.tables.specs.Tables.{longer, atMark}
 use Rattle.step.specs.declared.Progress.{Progress}
 
 -- The state that the tables and the numbers hold.
-abbrev pub stateOf : List ℕ → List ℕ → List ℕ → List ℕ → Progress → State
+abbrev pub stateOf : List ℕ → List ℤ → List ℕ → List ℕ → Progress → State
 stateOf lengths flow loads kept p =
     record {
       lengths = lengths;
@@ -24,7 +25,7 @@ stateOf lengths flow loads kept p =
     }
 
 -- The same where the tables of the arcs stand in one slice.
-abbrev pub stateIn : Shape → List ℕ → List ℕ → Progress → State
+abbrev pub stateIn : Shape → List ℤ → List ℕ → Progress → State
 stateIn s flow tables p = stateOf (lengthsIn s tables) flow (loadsIn s tables) (keptIn s tables) p
 
 -- Those tables, with the lengths of m arcs kept where they gave a better bound.

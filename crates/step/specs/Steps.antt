@@ -2,15 +2,16 @@
 use mathlib.Core.Path.{_≡_}
 use mathlib.Core.Bool.{false}
 use mathlib.Core.List.{List}
-use Prim.Native.Nat.{ℕ, _*_, _^_, _≤_, _<_}
+use Prim.Native.Nat.{ℕ, _^_, _≤_, _<_}
+use lib.IntN.{ℤ}
 use lib.ListN.{length}
-use Rattle.network.specs.Network.{Network, arcs}
+use Rattle.network.specs.Network.{Network}
 use Rattle.network.specs.Path.{pathLength}
 use Rattle.packed.specs.Packed.{netIn, Packed, tableNumbers}
 use Rattle.packed.specs.declared.Shape.{Shape}
 use Rattle.method.specs.Choice.{choiceOf}
 use Rattle.method.specs.Iteration.{State, weight, draw, advance}
-use Rattle.tables.specs.Calls.{Adding, Ending}
+use Rattle.tables.specs.Calls.{Pushing, Adding, Ending}
 use Rattle.lengths.specs.Calls.{Growing, Settling}
 use Rattle.tables.specs.Tables.{longer, atThreshold}
 use Rattle.step.specs.declared.Progress.{Progress}
@@ -22,9 +23,8 @@ pub record Stepping (net : Network) (q commodity : ℕ) (path : List ℕ) (a : �
   pub alpha : a ≡ pathLength (s .lengths) path
   pub growing : Growing (s .lengths) (net .capacities) q (draw (net .capacities) path) path
   pub grown : Settling (net .capacities) (longer (net .capacities) q (draw (net .capacities) path) path (s .lengths))
-  pub flow : Adding (s .flow) (commodity * arcs net) path (draw (net .capacities) path)
-  pub loads : Adding (s .loads) 0 path (draw (net .capacities) path)
-  pub row : commodity * arcs net < 2 ^ 64
+  pub flow : Pushing net commodity path (draw (net .capacities) path) (s .flow)
+  pub loads : Adding (s .loads) path (draw (net .capacities) path)
   pub total : s .total < 2 ^ 32
   pub count : s .count < 2 ^ 32
 
@@ -35,7 +35,7 @@ pub record Kept (net : Network) (threshold : ℕ) (s : State) (p : Progress) : T
   pub none : atThreshold threshold (net .capacities) (s .loads) ≡ false
 
 -- All of it, of the slices that it is lent.
-pub record Steppable (s : Shape) (q threshold commodity : ℕ) (net path : List ℕ) (a : ℕ) (flow tables : List ℕ) (p : Progress) : Type 0 where
+pub record Steppable (s : Shape) (q threshold commodity : ℕ) (net path : List ℕ) (a : ℕ) (flow : List ℤ) (tables : List ℕ) (p : Progress) : Type 0 where
   pub packed : Packed s net
   pub places : tableNumbers ≤ length tables
   pub stepping : Stepping (netIn s net) q commodity path a (stateIn s flow tables p)

@@ -80,7 +80,7 @@ pub fn step(
     commodity: usize,
     path: &[u64],
     alpha: u64,
-    flow: &mut [u64],
+    flow: &mut [i64],
     tables: &mut [u64],
     p: Progress,
 ) -> Progress
@@ -92,7 +92,7 @@ pub fn step(
     let g = draws::draw(capacities, path);
     let better = arith::less_product(p.weight, p.alpha, p.bound, alpha);
     keep(better, m, tables);
-    draws::add(flow, commodity * m, path, g);
+    draws::push(flow, s, net, commodity, path, g);
     let ended = loads::load(
         &mut tables[LOADS..LOADS + m],
         capacities,

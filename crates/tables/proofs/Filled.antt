@@ -1,4 +1,4 @@
--- A table whose places take the numbers f 0, f 1, .. in turn: what it holds on the way, and when all places have theirs.
+-- A table whose places take the values f 0, f 1, .. in turn: what it holds on the way, and when all places have theirs.
 -- Assumes nothing.
 use mathlib.Core.Path.{_≡_, refl, sym, _∙_}
 use mathlib.Core.Logic.{⊎-elim}
@@ -7,49 +7,49 @@ use Prim.Native.Nat.{ℕ, zero, suc, _+_, _≤_, _<_}
 use native.Mathlib.Nat.{le-refl, le-of-suc-le-suc, eq-or-lt-of-le}
 use native.Mathlib.Numerals.{add-one}
 use native.Mathlib.Omega.{arith}
-use lib.ListN.{length, getD, set, length-set}
+use lib.ListN.{length, getD, set, replicate, length-set, length-replicate, getD-replicate}
 use lib.Seq.{getD-set-same, getD-set-other, ext-getD}
 
--- xs after the first n places took their numbers
-unfoldable pub filled : (ℕ → ℕ) → ℕ → List ℕ → List ℕ
+-- xs after the first n places took their values
+unfoldable pub filled : {A : Type 0} → (ℕ → A) → ℕ → List A → List A
 filled f zero xs = xs
 filled f (suc n) xs = set (filled f n xs) n (f n)
 
 -- The table keeps its length.
-filled-length : (f : ℕ → ℕ) (n : ℕ) (xs : List ℕ) → length (filled f n xs) ≡ length xs
+filled-length : {A : Type 0} (f : ℕ → A) (n : ℕ) (xs : List A) → length (filled f n xs) ≡ length xs
 unfolding filled
 filled-length f zero xs = refl
 filled-length f (suc n) xs = length-set (filled f n xs) n (f n) ∙ filled-length f n xs
 
--- A place that has yet to take its number
-filled-later : (f : ℕ → ℕ) (n : ℕ) (xs : List ℕ) (j : ℕ) → n ≤ j → getD (filled f n xs) j 0 ≡ getD xs j 0
+-- A place that has yet to take its value
+filled-later : {A : Type 0} (d : A) (f : ℕ → A) (n : ℕ) (xs : List A) (j : ℕ) → n ≤ j → getD (filled f n xs) j d ≡ getD xs j d
 unfolding filled
-filled-later f zero xs j l = refl
-filled-later f (suc n) xs j l =
-    getD-set-other (filled f n xs) n j (f n) 0 (λ (e : j ≡ n). omega arith) ∙ filled-later f n xs j (omega arith)
+filled-later d f zero xs j l = refl
+filled-later d f (suc n) xs j l =
+    getD-set-other (filled f n xs) n j (f n) d (λ (e : j ≡ n). omega arith) ∙ filled-later d f n xs j (omega arith)
 
 -- and one that has taken it.
-filled-before : (f : ℕ → ℕ) (n : ℕ) (xs : List ℕ) (j : ℕ) → n ≤ length xs → j < n → getD (filled f n xs) j 0 ≡ f j
+filled-before : {A : Type 0} (d : A) (f : ℕ → A) (n : ℕ) (xs : List A) (j : ℕ) → n ≤ length xs → j < n → getD (filled f n xs) j d ≡ f j
 unfolding filled
-filled-before f zero xs j h l = absurd (omega arith)
-filled-before f (suc n) xs j h l =
-    ⊎-elim (λ (e : j ≡ n). rw e (getD-set-same (filled f n xs) n (f n) 0 (rw filled-length h)))
-    (λ (l : j < n). getD-set-other (filled f n xs) n j (f n) 0 (λ (e : j ≡ n). omega arith) ∙ filled-before f n xs j (omega arith) l)
+filled-before d f zero xs j h l = absurd (omega arith)
+filled-before d f (suc n) xs j h l =
+    ⊎-elim (λ (e : j ≡ n). rw e (getD-set-same (filled f n xs) n (f n) d (rw filled-length h)))
+    (λ (l : j < n). getD-set-other (filled f n xs) n j (f n) d (λ (e : j ≡ n). omega arith) ∙ filled-before d f n xs j (omega arith) l)
     (eq-or-lt-of-le (le-of-suc-le-suc l))
 
 -- The table ys on the way from xs, with n places done.
-pub record Filling (f : ℕ → ℕ) (n : ℕ) (xs ys : List ℕ) : Type 0 where
+pub record Filling {A : Type 0} (f : ℕ → A) (n : ℕ) (xs ys : List A) : Type 0 where
   pub now : ys ≡ filled f n xs
   pub long : length ys ≡ length xs
   pub within : n ≤ length xs
 
--- No place has taken its number.
-pub fill-none : (f : ℕ → ℕ) (xs : List ℕ) → Filling f 0 xs xs
+-- No place has taken its value.
+pub fill-none : {A : Type 0} (f : ℕ → A) (xs : List A) → Filling f 0 xs xs
 unfolding filled
 fill-none f xs = record { now = refl; long = refl; within = omega arith }
 
--- The next place takes its number.
-pub fill-more : {f : ℕ → ℕ} {n : ℕ} {xs ys : List ℕ} (v : ℕ) → Filling f n xs ys → n < length xs → v ≡ f n → Filling f (n + 1) xs (set ys n v)
+-- The next place takes its value.
+pub fill-more : {A : Type 0} {f : ℕ → A} {n : ℕ} {xs ys : List A} (v : A) → Filling f n xs ys → n < length xs → v ≡ f n → Filling f (n + 1) xs (set ys n v)
 unfolding filled
 fill-more {f} {n} {xs} {ys} v h l k =
     record {
@@ -60,12 +60,22 @@ fill-more {f} {n} {xs} {ys} v h l k =
 
 -- The next place still has what it had.
 pub fill-next : {f : ℕ → ℕ} {n : ℕ} {xs ys : List ℕ} → Filling f n xs ys → getD ys n 0 ≡ getD xs n 0
-fill-next {f} {n} {xs} {ys} h = rw (h .now) (filled-later f n xs n (le-refl n))
+fill-next {f} {n} {xs} {ys} h = rw (h .now) (filled-later 0 f n xs n (le-refl n))
 
--- When all places have taken theirs, the table is the list of those numbers.
+-- When all places have taken theirs, the table is the list of those values.
+fill-whole :
+    {A : Type 0} {f : ℕ → A} {n : ℕ} {xs ys : List A} (d : A) (zs : List A) → Filling f n xs ys → length xs ≤ n → length zs ≡ length xs →
+    ((j : ℕ) → j < length zs → getD zs j d ≡ f j) → ys ≡ zs
+fill-whole {f} {n} {xs} {ys} d zs h l e k =
+    ext-getD d ys zs (h .long ∙ sym e) (λ j b.
+    rw (h .now) (filled-before d f n xs j (h .within) (omega (arith, h .long)) ∙ sym (k j (omega (arith, h .long)))))
+
 pub fill-all :
     {f : ℕ → ℕ} {n : ℕ} {xs ys : List ℕ} (zs : List ℕ) → Filling f n xs ys → length xs ≤ n → length zs ≡ length xs →
     ((j : ℕ) → j < length zs → getD zs j 0 ≡ f j) → ys ≡ zs
-fill-all {f} {n} {xs} {ys} zs h l e k =
-    ext-getD 0 ys zs (h .long ∙ sym e) (λ j b.
-    rw (h .now) (filled-before f n xs j (h .within) (omega (arith, h .long)) ∙ sym (k j (omega (arith, h .long)))))
+fill-all = fill-whole 0
+
+-- One value at every place
+pub fill-same : {A : Type 0} {v : A} {n : ℕ} {xs ys : List A} → Filling (λ j. v) n xs ys → length xs ≤ n → ys ≡ replicate (length xs) v
+fill-same {v} {xs} h l =
+    fill-whole v _ h l (length-replicate (length xs) v) (λ j b. getD-replicate (length xs) j v v (rw length-replicate at b))

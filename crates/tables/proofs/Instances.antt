@@ -19,10 +19,10 @@ alone P x p (suc j) l = absurd (not-suc-le-zero (le-of-suc-le-suc l))
 pub some-capacity : NoneAbove mostCapacity (5 ∷ [])
 some-capacity = alone (λ x. x ≤ mostCapacity) 5 (omega arith)
 
-pub adding : Adding (3 ∷ []) 0 (0 ∷ []) 5
+pub adding : Adding (3 ∷ []) (0 ∷ []) 5
 adding =
     record {
-      places = alone (λ x. 0 + x < 1) 0 (omega arith);
+      places = alone (λ x. x < 1) 0 (omega arith);
       amounts = alone (λ x. x < 2 ^ 32) 3 (omega arith);
       small = omega arith;
       few = omega arith;

@@ -1,6 +1,7 @@
 pub mod Amounts
 pub mod Copied
 pub mod Counted
+pub mod Crossings
 pub mod Filled
 pub mod Followed
 pub mod Fuller
@@ -8,4 +9,5 @@ pub mod Instances
 pub mod Loadings
 pub mod Lowered
 pub mod OnPath
+pub mod Pushed
 pub mod Stored

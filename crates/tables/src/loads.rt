@@ -1,6 +1,7 @@
 // The loads of all arcs: when they end the run, which arc is fullest, and tables of numbers cleared and copied.
 ghost use mathlib.Core.Path.{_≡_};
 ghost use Prim.Native.Nat.{_+_, _-_, _≤_, _<_};
+ghost use lib.IntN.{pos};
 ghost use lib.ListN.{length, replicate};
 ghost use Rattle.method.specs.Answer.{fullest};
 ghost use Rattle.packed.specs.Packed.{part, put};
@@ -50,6 +51,17 @@ pub fn clear(table: &mut [u64])
     let mut e = 0;
     while e < table.len() {
         table[e] = 0;
+        e += 1;
+    }
+}
+
+// Nothing on every arc.
+pub fn clear_flow(flow: &mut [i64])
+    ensures { λ _. ⌜ now (flow .exit) ≡ replicate (length (now (flow .entry))) (pos 0) ⌝ }
+{
+    let mut e = 0;
+    while e < flow.len() {
+        flow[e] = 0;
         e += 1;
     }
 }

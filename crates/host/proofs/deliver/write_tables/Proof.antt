@@ -3,6 +3,7 @@ use borrow.Author.Needs.{needs}
 use mathlib.Core.Path.{sym, ap₂, _∙_}
 use Prim.Native.Nat.{ℕ, _*_, _≤_}
 use native.Mathlib.Nat.{mul-le-mul}
+use lib.IntN.{pos}
 use lib.ListN.{replicate, length-replicate}
 use lib.Seq.{length-take-le}
 use Rattle.packed.proofs.Columns.{arcs-is, commodities-is}
@@ -18,7 +19,7 @@ array-borrow-prefix-flows c = few (c .before .before .before .before)
 
 slice-aggregate-write-tables-in : tie.Need-slice-aggregate-write-tables-in
 slice-aggregate-write-tables-in c =
-    sym (length-take-le _ (replicate {A = ℕ} 8192 0) (rw (length-replicate {A = ℕ} 8192 0) (few (c .before .before .before .before .before))))
+    sym (length-take-le _ (replicate 8192 (pos 0)) (rw (length-replicate 8192 (pos 0)) (few (c .before .before .before .before .before))))
 
 write-tables-in-requires : tie.Need-write-tables-in-requires
 write-tables-in-requires c κs =
@@ -26,7 +27,7 @@ write-tables-in-requires c κs =
     let p = s .pre .0 .packed in (
       record {
         lent = s .pre .0;
-        flows = length-take-le _ (replicate {A = ℕ} 8192 0) (few s) ∙ sym (ap₂ _*_ (commodities-is p) (arcs-is p));
+        flows = length-take-le _ (replicate 8192 (pos 0)) (few s) ∙ sym (ap₂ _*_ (commodities-is p) (arcs-is p));
         places = search needs;
       },
       s .pre .1,

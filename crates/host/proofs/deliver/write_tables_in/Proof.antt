@@ -2,11 +2,14 @@
 use borrow.Author.Needs.{needs}
 use denote.Ref.{now}
 use mathlib.Core.Path.{_≡_, ap, ap₂, _∙_}
+use mathlib.Core.List.{List, map}
 use Prim.Native.Nat.{_*_}
 use native.Mathlib.Nat.{le-refl, le-of-eq}
 use native.Mathlib.Omega.{arith}
+use lib.IntN.{ℤ}
 use lib.ListN.{length}
 use lib.Seq.{take-length, take-all}
+use Rattle.signed.specs.Signed.{twos}
 use Rattle.numbers.specs.Numbers.{written}
 use Rattle.packed.specs.Packed.{keptFrom, keptIn}
 use Rattle.packed.proofs.Columns.{arcs-is, commodities-is, part-length}
@@ -15,12 +18,12 @@ use Rattle.host.proofs.deliver.write_tables_in.Tie as tie
 
 -- from each call back to the one before it, and from the first to the function's entry
 abbrev entry : tie.After-solve → tie.Start
-entry c = c .before .before .before .before .before .before .before .before
+entry c = c .before .before .before .before .before .before .before
 
-abbrev solve-at : tie.After-write-all → tie.After-solve
-solve-at c = c .before .before .before .before .before .before .before
+abbrev solve-at : tie.After-write-signed → tie.After-solve
+solve-at c = c .before .before .before .before .before .before
 
-abbrev flow-at : tie.After-write-all2 → tie.After-write-all
+abbrev flow-at : tie.After-write-all → tie.After-write-signed
 flow-at c = c .before .before .before .before .before .before
 
 -- the outcome's tables are of the shape's size
@@ -34,9 +37,9 @@ kept-size c =
     let p = entry c .pre .0 in
     part-length keptFrom (entry c .args .s .arcs) (c .solve .last .1 .1 .1 .1 .0) (omega (arith, c .solve .kept .1 .1 .1 .1 .0, p .places, p .lent .packed .few-arcs))
 
-write-all-requires : tie.Need-write-all-requires
-write-all-requires c κs =
-    let v = c .before .before .before .before .before .before in
+write-signed-requires : tie.Need-write-signed-requires
+write-signed-requires c κs =
+    let v = c .before .before .before .before .before in
     (le-refl _, omega (arith, flow-size v, entry v .pre .1 .for-flow))
 
 returns : tie.Need-returns
@@ -45,9 +48,9 @@ returns c =
     let s = entry v in let r = v .solve .ensures in
     record {
       answers = r .answers;
-      flows = f .write-all .ensures ∙ ap (written (now (s .args .flow))) (take-length (v .solve .last .1 .1 .1 .0) ∙ r .flows);
+      flows = f .write-signed .ensures ∙ ap (λ (xs : List ℤ). written (now (s .args .flow)) (map twos xs)) (take-length (v .solve .last .1 .1 .1 .0) ∙ r .flows);
       bests =
-          l .write-all2 .ensures ∙
+          l .write-all .ensures ∙
           ap (written (now (s .args .lengths)))
           (take-all (s .args .s .arcs) (keptIn (s .args .s) (v .solve .last .1 .1 .1 .1 .0)) (le-of-eq (kept-size v)) ∙ r .lengths);
       guarantee = r .guarantee;
@@ -55,6 +58,6 @@ returns c =
 
 pub write-tables-in-spec : {M : Type 1} → statement M
 write-tables-in-spec =
-    tie.close (tie.spec (λ c κs. search needs) write-all-requires (λ c. search needs) (λ c. search needs)
+    tie.close (tie.spec (λ c κs. search needs) write-signed-requires (λ c. search needs) (λ c. search needs)
     (λ c. search needs) (λ c. search needs) (λ c κs. search needs) (λ c. search needs) (λ c. search needs)
     (λ c. search needs) (λ c. search needs) returns)

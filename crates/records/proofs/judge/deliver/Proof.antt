@@ -28,11 +28,11 @@ module _ (s : tie.Start) where
       }
 
 abbrev entry : tie.After-put-pairs → tie.Start
-entry c = c .before .before .before .before .before
+entry c = c .before .before .before .before
 
 put-pairs-requires : tie.Need-put-pairs-requires
 put-pairs-requires c κs =
-    let s = c .before .before .before .before in
+    let s = c .before .before .before in
     record { packed = fits s (s .args .arcs) refl; each = refl }
 
 deliver-in-requires : tie.Need-deliver-in-requires
@@ -46,7 +46,7 @@ deliver-in-requires c κs =
 
 returns : tie.Need-returns
 returns c =
-    let d = c .before .before .before .before in
+    let d = c .before .before .before in
     replied-same (d .before .before .before .before .before .put-pairs .ensures) (d .deliver-in .ensures)
 
 pub deliver-spec : {M : Type 1} → statement M

@@ -28,17 +28,17 @@ module _ (s : tie.Start) where
 
 -- from the copy back to the solver, and from there to the function's entry
 abbrev entry : tie.After-solve → tie.Start
-entry c = c .before .before .before .before .before .before .before
+entry c = c .before .before .before .before .before .before
 
 abbrev solve-at : tie.After-copy → tie.After-solve
-solve-at c = c .before .before .before .before .before .before .before
+solve-at c = c .before .before .before .before .before .before
 
 slice-aggregate-solve : tie.Need-slice-aggregate-solve
-slice-aggregate-solve c = sym (flows (c .before .before .before .before .before))
+slice-aggregate-solve c = sym (flows (c .before .before .before .before))
 
 solve-requires : tie.Need-solve-requires
 solve-requires c κs =
-    let s = c .before .before .before .before .before .before in
+    let s = c .before .before .before .before .before in
     let p = s .pre .lent .packed in
     record { lent = s .pre .lent; flows = rw (commodities-is p, arcs-is p) (flows s); places = omega (arith, length-replicate {A = ℕ} 768 0) }
 
@@ -47,11 +47,11 @@ kept-many : (c : tie.After-solve) → 512 + m (entry c) ≤ length (c .solve .la
 kept-many c = omega (arith, entry c .pre .lent .packed .few-arcs, c .solve .kept .1 .1 .1 .1 .0, length-replicate {A = ℕ} 768 0)
 
 slice-aggregate-copy : tie.Need-slice-aggregate-copy
-slice-aggregate-copy c = sym (bests (entry (c .before .before .before .before .before .before)))
+slice-aggregate-copy c = sym (bests (entry (c .before .before .before .before .before)))
 
 copy-requires : tie.Need-copy-requires
 copy-requires c κs =
-    let f = c .before .before .before .before .before .before in
+    let f = c .before .before .before .before .before in
     let s = entry f in
     bests s ∙ sym (part-length _ (m s) (f .solve .last .1 .1 .1 .1 .0) (omega (arith, kept-many f)))
 

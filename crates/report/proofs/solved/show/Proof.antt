@@ -2,6 +2,7 @@
 use mathlib.Core.Path.{sym}
 use Prim.Native.Nat.{ℕ, _≤_}
 use native.Mathlib.Omega.{arith}
+use lib.IntN.{pos}
 use lib.ListN.{length, replicate, length-replicate}
 use lib.Seq.{length-take-le}
 use borrow.Author.Needs.{needs}
@@ -10,9 +11,9 @@ use Rattle.packed.specs.Packed.{tableNumbers}
 use Rattle.report.proofs.solved.show.Statement.{statement}
 use Rattle.report.proofs.solved.show.Tie as tie
 
--- 256 numbers are enough for the arcs
-room : (s : tie.Start) → s .args .s .arcs ≤ length (replicate {A = ℕ} mostArcs 0)
-room s = omega (arith, s .pre .lent .packed .few-arcs, length-replicate {A = ℕ} mostArcs 0)
+-- 256 amounts are enough for the arcs
+room : (s : tie.Start) → s .args .s .arcs ≤ length (replicate mostArcs (pos 0))
+room s = omega (arith, s .pre .lent .packed .few-arcs, length-replicate mostArcs (pos 0))
 
 slice-aggregate-show-in : tie.Need-slice-aggregate-show-in
 slice-aggregate-show-in c = sym (length-take-le _ _ (room (c .before .before .before)))

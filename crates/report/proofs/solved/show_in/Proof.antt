@@ -11,22 +11,22 @@ use Rattle.report.proofs.solved.show_in.Tie as tie
 
 -- from each call back to the one before it, and from the first to the function's entry
 abbrev entry : tie.After-solve → tie.Start
-entry c = c .before .before .before .before .before .before .before
+entry c = c .before .before .before .before .before .before
 
 abbrev solve-at : tie.After-put-answer → tie.After-solve
-solve-at c = c .before .before .before .before .before .before
+solve-at c = c .before .before .before .before .before
 
 abbrev answer-at : tie.After-put-belts → tie.After-put-answer
 answer-at c = c .before .before .before .before .before .before .before
 
 solve-requires : tie.Need-solve-requires
 solve-requires c κs =
-    let s = c .before .before .before .before .before .before in
+    let s = c .before .before .before .before .before in
     record { lent = s .pre .ready .lent; flows = one-row (s .pre .ready) _ (s .pre .flows); places = s .pre .places }
 
 put-answer-requires : tie.Need-put-answer-requires
 put-answer-requires c κs =
-    let f = c .before .before .before .before .before in
+    let f = c .before .before .before .before in
     let s = entry f in
     (total-small (s .pre .ready) (f .solve .ensures), omega (arith, s .pre .ready .enough))
 

@@ -37,12 +37,12 @@ reached s =
 
 choose-requires : tie.Need-choose-requires
 choose-requires c κs =
-    let s = c .before .before .before .before .before .before .before .before .before .before in
+    let s = c .before .before .before .before .before .before .before .before .before in
     choosing (s .pre .0) (state s) (reached s) refl (s .pre .1 .memory-of)
 
 -- the function's entry, seen from behind the search; what was found, and the table of arcs then
 abbrev entry : tie.After-choose → tie.Start
-entry c = c .before .before .before .before .before .before .before .before .before .before .before
+entry c = c .before .before .before .before .before .before .before .before .before .before
 
 abbrev arcs : tie.After-choose → List ℕ
 arcs c = c .choose .last .1 .1 .1 .1 .1 .0
@@ -81,11 +81,11 @@ abbrev choose-at : tie.After-step → tie.After-choose
 choose-at c = c .before .before .before .before .before .before .before .before
 
 abbrev step-at : tie.After-forget → tie.After-step
-step-at c = c .before .before .before .before .before .before
+step-at c = c .before .before .before .before .before
 
 forget-requires : tie.Need-forget-requires
 forget-requires c κs =
-    let f = choose-at (c .before .before .before .before .before) in
+    let f = choose-at (c .before .before .before .before) in
     (entry f .pre .0 .lent .packed .few-commodities, f .choose .ensures .memory-of .places)
 
 returns : tie.Need-returns

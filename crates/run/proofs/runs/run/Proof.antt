@@ -34,14 +34,14 @@ net s = netIn (s .args .s) (now (s .args .net))
 
 threshold-requires : tie.Need-threshold-requires Inv-loop μ-loop
 threshold-requires c κs =
-    let a = c .before .before .before .before .before .before .pre .0 .lent in
+    let a = c .before .before .before .before .before .pre .0 .lent in
     let k = a .sound .counts in
     let m = arcs-is (a .packed) in
     (omega (arith, k .of-arcs .least, m), omega (arith, k .of-arcs .most, m), k .precision .least, k .precision .most)
 
 loop-holds : tie.Need-loop-holds Inv-loop μ-loop
 loop-holds c =
-    let s = c .before .before .before .before .before .before .before .before in
+    let s = c .before .before .before .before .before .before .before in
     let a = s .pre .0 .lent in (
       begin-running (c .begin .ensures) (whole a) (s .pre .1 .start) (s .pre .1 .chooses),
       (
@@ -52,7 +52,7 @@ loop-holds c =
 
 -- from the loop's beginning to the function's entry
 abbrev entry : tie.At-loop Inv-loop μ-loop → tie.Start Inv-loop μ-loop
-entry c = c .before .before .before .before .before .before .before .before .before
+entry c = c .before .before .before .before .before .before .before .before
 
 iterate-requires : tie.Need-iterate-requires Inv-loop μ-loop
 iterate-requires c κs =
@@ -100,10 +100,10 @@ sizes c =
 
 -- the iteration, seen from where the run goes on and from where it ends
 abbrev going-at : tie.Else1 Inv-loop μ-loop → tie.After-iterate Inv-loop μ-loop
-going-at c = c .before .before .before .before .before .before .before .before .before
+going-at c = c .before .before .before .before .before .before .before .before
 
 abbrev ended-at : tie.Then1 Inv-loop μ-loop → tie.After-iterate Inv-loop μ-loop
-ended-at c = c .before .before .before .before .before .before .before .before .before
+ended-at c = c .before .before .before .before .before .before .before .before
 
 loop-less : tie.Need-loop-less Inv-loop μ-loop
 loop-less c =

@@ -9,7 +9,7 @@ use borrow.Author.Needs.{needs}
 use Rattle.network.specs.Path.{leads}
 use Rattle.packed.specs.Packed.{netIn}
 use Rattle.index.specs.Index.{endsFrom, arcAt, endAt}
-use Rattle.paths.proofs.Leading.{leads-from}
+use Rattle.network.proofs.Leads.{leads-from}
 use Rattle.paths.proofs.Rooms.{relaxing}
 use Rattle.paths.proofs.Spreading.{searching-still, searching-spread}
 use Rattle.search.proofs.relax.reach.Statement.{statement}

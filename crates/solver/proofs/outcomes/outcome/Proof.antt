@@ -31,12 +31,12 @@ first s = ap (λ t. t .lengths) (s .pre .1 .state)
 
 choose-requires : tie.Need-choose-requires
 choose-requires c κs =
-    let s = c .before .before .before .before .before .before .before .before .before .before in
+    let s = c .before .before .before .before .before .before .before .before .before in
     choosing (s .pre .0) (initial (net s)) (reached-start (net s) (s .args .q) (s .pre .0 .lent .sound)) (first s) (s .pre .1 .memory-of)
 
 -- the function's entry, seen from behind the search; what the search says of the network's choice by these lengths
 abbrev entry : tie.After-choose → tie.Start
-entry c = c .before .before .before .before .before .before .before .before .before .before .before
+entry c = c .before .before .before .before .before .before .before .before .before .before
 
 chose : (c : tie.After-choose) → Chose (net (entry c)) (initial (net (entry c)) .lengths) (c .choose .result) (c .choose .last .1 .1 .1 .1 .1 .0)
 chose c = rw (← (first (entry c))) (c .choose .ensures .chose)
@@ -92,7 +92,7 @@ loaded c =
 
 answer-requires : tie.Need-answer-requires
 answer-requires c κs =
-    let f = c .before .before .before .before .before .before .before .before .before in
+    let f = c .before .before .before .before .before .before .before .before in
     let s = start-of f in
     record {
       packed = s .pre .0 .lent .packed;
@@ -101,7 +101,7 @@ answer-requires c κs =
     }
 
 abbrev run-at : tie.After-answer → tie.After-run
-run-at c = c .before .before .before .before .before .before .before .before .before .before
+run-at c = c .before .before .before .before .before .before .before .before .before
 
 returns-2 : tie.Need-returns-2
 returns-2 c =

@@ -18,7 +18,7 @@ use Rattle.solver.proofs.solves.prepare.Tie as tie
 
 -- from each call back to the one before it, and from the first to the function's entry
 abbrev entry : tie.After-start → tie.Start
-entry c = c .before .before .before .before .before .before .before
+entry c = c .before .before .before .before .before .before
 
 abbrev start-at : tie.After-clear → tie.After-start
 start-at c = c .before .before .before .before
@@ -26,11 +26,11 @@ start-at c = c .before .before .before .before
 abbrev loads-at : tie.After-clear2 → tie.After-clear
 loads-at c = c .before .before .before .before
 
-abbrev kept-at : tie.After-clear3 → tie.After-clear2
+abbrev kept-at : tie.After-clear-flow → tie.After-clear2
 kept-at c = c .before .before .before .before
 
-abbrev flow-at : tie.After-clear4 → tie.After-clear3
-flow-at c = c .before .before .before .before
+abbrev flow-at : tie.After-clear3 → tie.After-clear-flow
+flow-at c = c .before .before .before
 
 abbrev m : tie.Start → ℕ
 m s = s .args .s .arcs
@@ -38,7 +38,7 @@ m s = s .args .s .arcs
 start-requires : tie.Need-start-requires
 unfolding netIn
 start-requires c κs =
-    let s = c .before .before .before .before .before .before in let a = s .pre .lent in
+    let s = c .before .before .before .before .before in let a = s .pre .lent in
     let full : length (part capacitiesFrom (m s) (now (s .args .net))) ≡ m s = capacities-length (a .packed) ∙ arcs-is (a .packed) in
     record {
       same = part-length lengthsFrom (m s) (now (s .args .tables)) (omega (arith, a .packed .few-arcs, s .pre .tabled)) ∙ sym full;
@@ -74,12 +74,12 @@ returns c =
     let z = s .args in let p = s .pre in let net = netIn (z .s) (now (z .net)) in
     record {
       state =
-          in-slice (cleared kept) (λ L Y K. stateOf L (flow .clear3 .last .0) Y K begun ≡ initial net)
-          (initial-is (whole (p .lent)) (start .start .ensures .lengths) (loads .clear .ensures) (kept .clear2 .ensures) (flow .clear3 .ensures)
+          in-slice (cleared kept) (λ L Y K. stateOf L (flow .clear-flow .last .0) Y K begun ≡ initial net)
+          (initial-is (whole (p .lent)) (start .start .ensures .lengths) (loads .clear .ensures) (kept .clear2 .ensures) (flow .clear-flow .ensures)
           (sym (arcs-is (p .lent .packed))) (part-size (started start) loadsFrom (omega arith)) (part-size (unloaded loads) keptFrom (omega arith)) (p .flows));
       memory-of =
-          memory-zero (now (z .memory)) (last .clear4 .last .0) (p .lent .packed .few-commodities) (sym (commodities-is (p .lent .packed))) (p .memorised)
-          (last .clear4 .ensures ∙
+          memory-zero (now (z .memory)) (last .clear3 .last .0) (p .lent .packed .few-commodities) (sym (commodities-is (p .lent .packed))) (p .memorised)
+          (last .clear3 .ensures ∙
           ap (λ (i : ℕ). replicate {A = ℕ} i 0) (part-length 0 (z .s .commodities) (now (z .memory)) (omega (arith, p .lent .packed .few-commodities, p .memorised)))) _;
       weight =
           in-slice (cleared kept) (λ L Y K. start .start .result ≡ weight net L) (weight-is (whole (p .lent)) (start .start .last .1 .0) (start .start .ensures .weight));

@@ -9,21 +9,21 @@ use Rattle.solver.proofs.solves.solve_in.Tie as tie
 
 -- from each call back to the one before it, from the first to the function's entry, and from the end of the function to the last
 abbrev entry : tie.After-index-both → tie.Start
-entry c = c .before .before .before .before .before .before .before .before
+entry c = c .before .before .before .before .before .before .before
 
 abbrev index-at : tie.After-prepare → tie.After-index-both
 index-at c = c .before .before .before .before .before .before
 
 abbrev prepare-at : tie.After-outcome → tie.After-prepare
-prepare-at c = c .before .before .before .before .before .before .before .before .before .before .before .before
+prepare-at c = c .before .before .before .before .before .before .before .before .before .before .before
 
-abbrev outcome-at : tie.After-slice-known13 → tie.After-outcome
-outcome-at c = c .before .before .before .before .before .before .before .before
+abbrev outcome-at : tie.After-slice-known10 → tie.After-outcome
+outcome-at c = c .before .before .before .before .before .before .before
 
 index-both-requires : tie.Need-index-both-requires
 unfolding netIn
 index-both-requires c κs =
-    let p = c .before .before .before .before .before .before .before .pre in
+    let p = c .before .before .before .before .before .before .pre in
     let a = p .preparing .lent in
     (record { packed = a .packed; ends = sound-ends _ _ (a .sound); nodes = a .sound .counts .of-nodes .most; numbers = omega arith }, p .indexes-of)
 
@@ -32,7 +32,7 @@ prepare-requires c κs = entry (c .before .before .before .before .before) .pre 
 
 outcome-requires : tie.Need-outcome-requires
 outcome-requires c κs =
-    let prepare = c .before .before .before .before .before .before .before .before .before .before .before in
+    let prepare = c .before .before .before .before .before .before .before .before .before .before in
     let index = index-at prepare in
     let p = entry index .pre in (
       record {

@@ -3,8 +3,8 @@
 use mathlib.Core.Path.{refl}
 use Prim.Native.Nat.{_-_}
 use native.Mathlib.Omega.{arith}
-use lib.ListN.{length, length-replicate, getD-replicate}
-use Rattle.tables.proofs.Filled.{Filling, fill-none, fill-more, fill-all}
+use lib.ListN.{length}
+use Rattle.tables.proofs.Filled.{Filling, fill-none, fill-more, fill-same}
 use Rattle.tables.proofs.loads.clear.Statement.{statement}
 use Rattle.tables.proofs.loads.clear.Tie as tie
 
@@ -21,7 +21,7 @@ loop-again : tie.Need-loop-again Inv-loop μ-loop
 loop-again c = fill-more _ (c .before .loop .inv) (omega arith) refl
 
 returns : tie.Need-returns Inv-loop μ-loop
-returns c = fill-all _ (c .before .loop .inv) (omega arith) (length-replicate _ _) (λ j l. getD-replicate _ j _ _ (rw length-replicate at l))
+returns c = fill-same (c .before .loop .inv) (omega arith)
 
 pub clear-spec : {M : Type 1} → statement M
 clear-spec =

@@ -1,0 +1,46 @@
+// Signed amounts, in an i64: what goes forward on an arc or, if it is negative, back.
+ghost use mathlib.Core.Path.{_≡_};
+ghost use Prim.Native.Nat.{_+_, _^_, _<_};
+ghost use lib.IntN.{pos, _+ℤ_, _-ℤ_};
+ghost use Rattle.signed.specs.Signed.{size, twos};
+
+// x and g more.
+pub fn more(x: i64, g: u64) -> i64
+    requires { ⌜ size x + g < 2 ^ 63 ⌝ }
+    ensures { λ r. ⌜ r ≡ x +ℤ pos g ⌝ }
+{
+    x + g as i64
+}
+
+// x and g less.
+pub fn less(x: i64, g: u64) -> i64
+    requires { ⌜ size x + g < 2 ^ 63 ⌝ }
+    ensures { λ r. ⌜ r ≡ x -ℤ pos g ⌝ }
+{
+    x - g as i64
+}
+
+// How much x is, either way.
+pub fn size(x: i64) -> u64
+    requires { ⌜ size x < 2 ^ 63 ⌝ }
+    ensures { λ r. ⌜ r ≡ size x ⌝ }
+{
+    if x < 0 {
+        let y = 0 - x;
+        y as u64
+    } else {
+        x as u64
+    }
+}
+
+// x in two's complement. A negative number has no cast, so how far x lies below -1 is taken from the highest number, which stands for -1.
+pub fn twos(x: i64) -> u64
+    ensures { λ r. ⌜ r ≡ twos x ⌝ }
+{
+    if x < 0 {
+        let y = -1 - x;
+        0xffff_ffff_ffff_ffff - y as u64
+    } else {
+        x as u64
+    }
+}
