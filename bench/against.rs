@@ -4,7 +4,8 @@
 //! of the ratios of all rounds is far from it, so were these. Where the two make
 //! different counts of choices, their times a choice are compared. `--q N` keeps to
 //! that precision (4, 8 and 16 otherwise), `--seed N` takes other floors, `--rounds N`
-//! more samples, `--layout NAME` another call of the other archive than this tree's.
+//! more samples, `--marked` makes all belts reversible, `--layout NAME` is another call
+//! of the other archive than this tree's.
 
 // Of the comparison's modules not everything is needed here.
 #![allow(dead_code)]
@@ -42,15 +43,17 @@ struct Options {
     seed: u64,
     rounds: usize,
     layout: Layout,
+    marked: bool,
 }
 
 fn main() -> ExitCode {
     let Some(options) = options(std::env::args().skip(1)) else {
         eprint!("bench: with --against the options are --q NUMBER, --seed NUMBER, ");
-        eprintln!("--rounds NUMBER (from {ROUNDS}) and --layout base");
+        eprintln!("--rounds NUMBER (from {ROUNDS}), --marked and --layout base (without --marked)");
         return ExitCode::from(2);
     };
-    print!("n 64, m 256, k 32, capacities 1 to 1,000, seed {}; ", options.seed);
+    let belts = if options.marked { "belts all reversible, " } else { "" };
+    print!("n 64, m 256, k 32, {belts}capacities 1 to 1,000, seed {}; ", options.seed);
     println!("here is this tree, there the other archive");
     for q in &options.precisions {
         compare(*q, &options);
@@ -59,21 +62,23 @@ fn main() -> ExitCode {
 }
 
 fn options(mut words: impl Iterator<Item = String>) -> Option<Options> {
-    let mut options =
-        Options { precisions: Vec::new(), seed: 1, rounds: ROUNDS, layout: Layout::HERE };
+    let (precisions, layout) = (Vec::new(), Layout::HERE);
+    let mut options = Options { precisions, seed: 1, rounds: ROUNDS, layout, marked: false };
     while let Some(word) = words.next() {
         match word.as_str() {
             "--q" => options.precisions.push(precision(&words.next()?)?),
             "--seed" => options.seed = words.next()?.parse().ok()?,
             "--rounds" => options.rounds = rounds(&words.next()?)?,
             "--layout" => options.layout = Layout::named(&words.next()?)?,
+            "--marked" => options.marked = true,
             _ => return None,
         }
     }
     if options.precisions.is_empty() {
         options.precisions = full::PRECISIONS.into();
     }
-    Some(options)
+    let possible = !options.marked || options.layout.has_marks();
+    possible.then_some(options)
 }
 
 fn rounds(word: &str) -> Option<usize> {
@@ -85,7 +90,7 @@ fn compare(q: u64, options: &Options) {
     let heads = ["floor", "q", "choices here", "choices there", "here ms", "there ms"];
     show_line(heads.map(String::from), ["here/there", "middle"].map(String::from), "");
     let mut rows = Vec::new();
-    for (name, floor) in floors_at(q, options.seed) {
+    for (name, floor) in floors_at(q, options.seed, options.marked) {
         let row = measure(name, &floor, options);
         row.show(q);
         rows.push(row);

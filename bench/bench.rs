@@ -2,7 +2,8 @@
 //! full-size floors, in one run: each is handed the same bytes and writes the
 //! same tables. Exits with 1 if the tables differ or the stack grows too deep.
 //! `--q N` keeps to that precision (4, 8 and 16 otherwise), `--fast` leaves the
-//! plain form out, `--seed N` takes other floors.
+//! plain form out, `--seed N` takes other floors, `--marked` makes all their belts
+//! reversible and leaves the plain form out.
 
 // Of the comparison's modules not everything is needed here.
 #![allow(dead_code)]
@@ -46,6 +47,7 @@ struct Options {
     precisions: Vec<u64>,
     plain: bool,
     seed: u64,
+    marked: bool,
 }
 
 struct Times {
@@ -56,14 +58,13 @@ struct Times {
 
 fn main() -> ExitCode {
     let Some(options) = options(std::env::args().skip(1)) else {
-        eprintln!("bench: the options are --q NUMBER, --fast and --seed NUMBER");
+        eprintln!("bench: the options are --q NUMBER, --fast, --seed NUMBER and --marked");
         return ExitCode::from(2);
     };
-    println!(
-        "n 64, m 256, k 32, capacities 1 to 1,000, seed {}; each run on a fresh copy, tables zero",
-        options.seed
-    );
-    let shallow = report_stack(options.seed);
+    let belts = if options.marked { "belts all reversible, " } else { "" };
+    print!("n 64, m 256, k 32, {belts}capacities 1 to 1,000, seed {}; ", options.seed);
+    println!("each run on a fresh copy, tables zero");
+    let shallow = report_stack(&options);
     let mut alike = true;
     for q in &options.precisions {
         alike &= bench(*q, &options);
@@ -72,12 +73,13 @@ fn main() -> ExitCode {
 }
 
 fn options(mut words: impl Iterator<Item = String>) -> Option<Options> {
-    let mut options = Options { precisions: Vec::new(), plain: true, seed: 1 };
+    let mut options = Options { precisions: Vec::new(), plain: true, seed: 1, marked: false };
     while let Some(word) = words.next() {
         match word.as_str() {
             "--q" => options.precisions.push(precision(&words.next()?)?),
             "--seed" => options.seed = words.next()?.parse().ok()?,
             "--fast" => options.plain = false,
+            "--marked" => options.marked = true,
             _ => return None,
         }
     }
@@ -94,8 +96,8 @@ fn bench(q: u64, options: &Options) -> bool {
     show_row(["floor", "q", "choices", library, fast, plain, level, gain].map(String::from));
     let mut rows = Vec::new();
     let mut alike = true;
-    for (name, call) in floors_at(q, options.seed) {
-        let (times, same, choices) = measure(&call, options.plain);
+    for (name, call) in floors_at(q, options.seed, options.marked) {
+        let (times, same, choices) = measure(&call, options.plain && !options.marked);
         show(&name, q, choices, &times);
         if !same {
             println!("DIFFERENT {name}: the library's tables are not the second solver's");
@@ -174,8 +176,8 @@ fn show_means(q: u64, rows: &[Times]) {
 
 /// The deepest of one call on each floor: what is on the stack does not depend
 /// on the precision.
-fn report_stack(seed: u64) -> bool {
-    let calls = floors_at(4, seed).into_iter();
+fn report_stack(options: &Options) -> bool {
+    let calls = floors_at(4, options.seed, options.marked).into_iter();
     let depths = calls.map(|(_, call)| stack::depth_of(move || drop(solve(call))));
     match depths.collect::<std::io::Result<Vec<usize>>>() {
         Ok(depths) => {

@@ -13,10 +13,12 @@ pub fn precision(word: &str) -> Option<u64> {
     word.parse().ok().filter(|q| floors::PRECISIONS.contains(q))
 }
 
-pub fn floors_at(q: u64, seed: u64) -> Vec<(String, Call)> {
+/// With `marked` every belt is reversible.
+pub fn floors_at(q: u64, seed: u64, marked: bool) -> Vec<(String, Call)> {
     let mut random = Random::new(seed);
     let mut call = |shape| {
-        let net = floors::floor(shape, FULL_SIZE, Capacities::Mixed, &mut random);
+        let mut net = floors::floor(shape, FULL_SIZE, Capacities::Mixed, &mut random);
+        net.arcs.iter_mut().for_each(|arc| arc.mark = u64::from(marked));
         Call::new(&net, q)
     };
     SHAPES.into_iter().map(|shape| (format!("{shape:?}"), call(shape))).collect()

@@ -2,7 +2,7 @@
 //! this tree. A change of the call adds an arm for the new one and keeps the
 //! adapters of those before, so that older archives can still be timed.
 
-use crate::call::Call;
+use crate::call::{get, Call, BELT, NUMBER};
 use crate::clock::spent;
 use std::mem::transmute;
 use std::time::Duration;
@@ -12,17 +12,24 @@ pub enum Layout {
     /// n and q; belts of three numbers, pairs; flow, lengths, an answer of seven
     /// numbers, the running count.
     Base,
+    /// Belts of four numbers, the last their mark, and a signed flow (request C-12).
+    Marks,
 }
 
 impl Layout {
     /// This tree's, that of tests/second/library.rs.
-    pub const HERE: Layout = Layout::Base;
+    pub const HERE: Layout = Layout::Marks;
 
     pub fn named(name: &str) -> Option<Layout> {
         match name {
             "base" => Some(Layout::Base),
+            "marks" => Some(Layout::Marks),
             _ => None,
         }
+    }
+
+    pub fn has_marks(self) -> bool {
+        self != Layout::Base
     }
 }
 
@@ -66,7 +73,8 @@ impl Archive {
     /// leaves what was written where this tree's library would.
     pub fn solve(&self, call: &mut Call) -> Run {
         match self.layout {
-            Layout::Base => base(self.symbol, call),
+            Layout::Base => solve(self.symbol, &without_marks(&call.belts), call),
+            Layout::Marks => solve(self.symbol, &call.belts.clone(), call),
         }
     }
 }
@@ -80,8 +88,18 @@ fn timed(call: impl FnOnce() -> u64) -> Run {
 type Read = *const u8;
 type Written = *mut u8;
 
+/// Such a belt cannot be reversible; an unmarked floor's flow is the same for both.
+fn without_marks(belts: &[u8]) -> Vec<u8> {
+    let belts = belts.chunks_exact(BELT);
+    let unmarked = |belt: &[u8]| {
+        assert_eq!(get(belt, 3), 0, "this layout has no marks");
+        belt[..3 * NUMBER].to_vec()
+    };
+    belts.flat_map(unmarked).collect()
+}
+
 #[rustfmt::skip]
-type Base = unsafe extern "C" fn(
+type Solve = unsafe extern "C" fn(
     n: u64, q: u64,
     belts: Read, belts_len: usize,
     pairs: Read, pairs_len: usize,
@@ -91,13 +109,14 @@ type Base = unsafe extern "C" fn(
     count: Written, count_len: usize,
 ) -> u64;
 
+/// For the layouts that differ in their belts alone.
 #[rustfmt::skip]
-fn base(symbol: Symbol, call: &mut Call) -> Run {
-    let Call { n, q, belts, pairs, flow, length, answer, count } = call;
-    // SAFETY: an archive of this layout has these arguments, and asks of its caller
+fn solve(symbol: Symbol, belts: &[u8], call: &mut Call) -> Run {
+    let Call { n, q, pairs, flow, length, answer, count, .. } = call;
+    // SAFETY: an archive of these layouts has these arguments, and asks of its caller
     // only that each pointer and count be a slice of its own, as borrowed ones are.
     timed(|| unsafe {
-        transmute::<Symbol, Base>(symbol)(
+        transmute::<Symbol, Solve>(symbol)(
             *n, *q,
             belts.as_ptr(), belts.len(),
             pairs.as_ptr(), pairs.len(),

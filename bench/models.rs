@@ -45,7 +45,8 @@ fn sinks(net: &Network) -> Vec<u64> {
 
 /// Row N T V: what leaves node V with sink T is what enters it and what pairs
 /// send from there. Row C E: arc E's capacity. Column F I is pair I's amount,
-/// column X T E the amount with sink T on arc E. MPS minimises, so F counts -1.
+/// column X T E the amount with sink T on arc E, and column Y T E that from head to
+/// tail, if E is reversible. MPS minimises, so F counts -1.
 fn model(net: &Network) -> String {
     let sinks = sinks(net);
     let mut rows = String::from("NAME floor\nROWS\n N obj\n");
@@ -65,13 +66,21 @@ fn model(net: &Network) -> String {
     }
     for sink in &sinks {
         for (e, arc) in net.arcs.iter().enumerate() {
-            writeln!(columns, " X{sink}_{e} C{e} 1").unwrap();
-            for (node, sign) in [(arc.tail, 1), (arc.head, -1)] {
-                if node != *sink {
-                    writeln!(columns, " X{sink}_{e} N{sink}_{node} {sign}").unwrap();
-                }
+            columns += &column("X", *sink, e, [arc.tail, arc.head]);
+            if arc.reversible() {
+                columns += &column("Y", *sink, e, [arc.head, arc.tail]);
             }
         }
     }
     rows + &columns + &sides + "ENDATA\n"
+}
+
+fn column(name: &str, sink: u64, e: usize, [from, to]: [u64; 2]) -> String {
+    let mut column = format!(" {name}{sink}_{e} C{e} 1\n");
+    for (node, sign) in [(from, 1), (to, -1)] {
+        if node != sink {
+            writeln!(column, " {name}{sink}_{e} N{sink}_{node} {sign}").unwrap();
+        }
+    }
+    column
 }

@@ -37,7 +37,7 @@ static void print(void)
     for (size_t e = 0; e < BELTS; e++) {
         uint64_t load = 0;
         for (size_t p = 0; p < PAIRS; p++)
-            load += vithmork_get(flow, p * BELTS + e);
+            load += vithmork_size(vithmork_get_signed(flow, p * BELTS + e));
         printf("belt %u to %u carries %.3f of %u\n", (unsigned)belt[e][0],
                (unsigned)belt[e][1], vithmork_scaled(answer, load), (unsigned)belt[e][2]);
     }

@@ -43,7 +43,8 @@ static double solve(size_t first, size_t number, double *carried)
     }
     for (size_t p = 0; p < number; p++)
         for (size_t e = 0; e < BELTS; e++)
-            carried[e] += vithmork_scaled(answer, vithmork_get(flow, p * BELTS + e));
+            carried[e] +=
+                vithmork_scaled(answer, vithmork_size(vithmork_get_signed(flow, p * BELTS + e)));
     return vithmork_scaled(answer, vithmork_get(answer, VITHMORK_DRAWN));
 }
 

@@ -19,10 +19,10 @@ extern "C" {
 /* The first number rises with every change of a call, in what it takes, writes
  * or returns: a host then has to be looked at anew. The second rises with what
  * is new beside that, the third with what is put right. */
-#define VITHMORK_VERSION_MAJOR 1
+#define VITHMORK_VERSION_MAJOR 2
 #define VITHMORK_VERSION_MINOR 0
 #define VITHMORK_VERSION_PATCH 0
-#define VITHMORK_VERSION "1.0.0"
+#define VITHMORK_VERSION "2.0.0"
 
 /* Bounds. What lies outside them is refused, so a host need not test first. */
 enum {
@@ -42,7 +42,7 @@ enum {
  * an incomplete last one is not read. The tables to write may be longer than m
  * and k ask: their later bytes keep their contents. */
 #define VITHMORK_NUMBER_BYTES ((size_t)8)
-#define VITHMORK_BELT_NUMBERS ((size_t)3)
+#define VITHMORK_BELT_NUMBERS ((size_t)4)
 #define VITHMORK_PAIR_NUMBERS ((size_t)2)
 #define VITHMORK_ANSWER_NUMBERS ((size_t)7)
 #define VITHMORK_BELTS_BYTES(m) ((size_t)(m) * VITHMORK_BELT_NUMBERS * VITHMORK_NUMBER_BYTES)
@@ -54,12 +54,12 @@ enum {
 
 /* Places of the answer table, from 0. The scale is CAPACITY / LOAD: the total
  * carried is DRAWN times the scale, and what a pair sends over a belt is its
- * number in the flow table times the scale. The bound is D / ALPHA. Nothing is
+ * amount in the flow table times the scale. The bound is D / ALPHA. Nothing is
  * reduced or rounded. */
 enum {
     VITHMORK_DRAWN = 0,          /* F, the sum of all draws */
     VITHMORK_SCALE_CAPACITY = 1, /* c(b), capacity of the fullest belt b */
-    VITHMORK_SCALE_LOAD = 2,     /* Y(b), what was drawn over it */
+    VITHMORK_SCALE_LOAD = 2,     /* Y(b), what was drawn over it, either way */
     VITHMORK_BOUND_D = 3,        /* capacity * length, summed over all belts */
     VITHMORK_BOUND_ALPHA = 4,    /* the shortest route under the same lengths */
     VITHMORK_CHOICES = 5,        /* routes chosen; 0 says that no pair is joined */
@@ -84,9 +84,14 @@ enum {
  *
  *   n       stations, numbered from 1
  *   q       precision: the total is at least 1 - 2/q of the bound
- *   belts   m items: tail, head, capacity. A belt that runs either way is two
+ *   belts   m items: tail, head, capacity, mark. The mark is 0, or anything else
+ *           if the belt is reversible: then routes take it either way, and one
+ *           capacity holds what goes both ways together
  *   pairs   k items: source, sink. A pair may be listed twice
- *   flow    written: m numbers for each pair, pair by pair, to be scaled (above)
+ *   flow    written: m amounts for each pair, pair by pair, to be scaled (above).
+ *           They are signed, in two's complement: a negative one runs from head
+ *           to tail, which only reversible belts have. It is what is left where
+ *           a pair's draws went both ways and cancelled
  *   lengths written: m lengths that give the bound
  *   answer  written: seven numbers (above)
  *   count   read and written: the running count, raised by the choices made. It
@@ -108,7 +113,8 @@ enum {
  *
  * A call cannot be interrupted; it always ends. Of eleven floors of 64 stations,
  * 256 belts and 32 pairs the slowest took 37 ms at q = 4 and 0.6 s at q = 16, on
- * one core of an AMD EPYC (docs/SPEED.md of the sources has them all). */
+ * one core of an AMD EPYC, and twice that with every belt reversible
+ * (docs/SPEED.md of the sources has them all). */
 uint64_t vithmork_solve(uint64_t n, uint64_t q,
                         const uint8_t *belts, size_t belts_len,
                         const uint8_t *pairs, size_t pairs_len,
@@ -161,21 +167,51 @@ static inline uint64_t vithmork_get(const uint8_t *table, size_t place)
     return number;
 }
 
+/* The same of the flow table, whose amounts are signed. */
+static inline int64_t vithmork_get_signed(const uint8_t *table, size_t place)
+{
+    uint64_t number = vithmork_get(table, place);
+    return number <= INT64_MAX ? (int64_t)number : -(int64_t)(UINT64_MAX - number) - 1;
+}
+
+/* How much an amount is, whichever way it runs: the sizes of all pairs' amounts
+ * on a belt, scaled, are together within its capacity. */
+static inline uint64_t vithmork_size(int64_t amount)
+{
+    return amount < 0 ? (uint64_t)-(amount + 1) + 1 : (uint64_t)amount;
+}
+
 static inline void vithmork_put(uint8_t *table, size_t place, uint64_t number)
 {
     for (size_t i = 0; i < VITHMORK_NUMBER_BYTES; i++)
         table[place * VITHMORK_NUMBER_BYTES + i] = (uint8_t)(number >> 8 * i);
 }
 
-/* Belt e and pair p, from 0, written into their slices. */
-static inline void vithmork_put_belt(uint8_t *belts, size_t e, uint64_t tail, uint64_t head,
-                                     uint64_t capacity)
+/* Belt e, from 0, written into its slice: with any mark, from tail to head alone,
+ * and reversible. */
+static inline void vithmork_put_marked_belt(uint8_t *belts, size_t e, uint64_t tail,
+                                            uint64_t head, uint64_t capacity, uint64_t mark)
 {
     uint8_t *item = belts + VITHMORK_BELTS_BYTES(e);
     vithmork_put(item, 0, tail);
     vithmork_put(item, 1, head);
     vithmork_put(item, 2, capacity);
+    vithmork_put(item, 3, mark);
 }
+
+static inline void vithmork_put_belt(uint8_t *belts, size_t e, uint64_t tail, uint64_t head,
+                                     uint64_t capacity)
+{
+    vithmork_put_marked_belt(belts, e, tail, head, capacity, 0);
+}
+
+static inline void vithmork_put_reversible_belt(uint8_t *belts, size_t e, uint64_t tail,
+                                                uint64_t head, uint64_t capacity)
+{
+    vithmork_put_marked_belt(belts, e, tail, head, capacity, 1);
+}
+
+/* Pair p, from 0. */
 
 static inline void vithmork_put_pair(uint8_t *pairs, size_t p, uint64_t source, uint64_t sink)
 {
@@ -185,7 +221,9 @@ static inline void vithmork_put_pair(uint8_t *pairs, size_t p, uint64_t source, 
 }
 
 /* What pair p, from 0, of a floor of m belts carries by itself: what leaves its
- * source less what enters it. To be scaled, as a number of the flow table is. */
+ * source less what enters it, which is never negative. To be scaled, as an
+ * amount of the flow table is. Unsigned sums wrap, so negative amounts count
+ * right. */
 static inline uint64_t vithmork_pair_total(const uint8_t *belts, size_t m, const uint8_t *pairs,
                                            size_t p, const uint8_t *flow)
 {
@@ -201,12 +239,20 @@ static inline uint64_t vithmork_pair_total(const uint8_t *belts, size_t m, const
     return total;
 }
 
-/* A number of the flow table, or the sum of some, in totes an hour: times the
- * scale, and rounded as a double is. The exact fraction is in the answer. */
+/* The size of an amount of the flow table, or the sum of some, in totes an hour:
+ * times the scale, and rounded as a double is. The exact fraction is in the
+ * answer. */
 static inline double vithmork_scaled(const uint8_t *answer, uint64_t amount)
 {
     return (double)(amount * vithmork_get(answer, VITHMORK_SCALE_CAPACITY)) /
            (double)vithmork_get(answer, VITHMORK_SCALE_LOAD);
+}
+
+/* The same of an amount with its sign. */
+static inline double vithmork_scaled_signed(const uint8_t *answer, int64_t amount)
+{
+    double size = vithmork_scaled(answer, vithmork_size(amount));
+    return amount < 0 ? -size : size;
 }
 
 static inline double vithmork_bound(const uint8_t *answer)

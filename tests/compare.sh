@@ -1,6 +1,6 @@
 #!/usr/bin/env bash
 # Compares the static library with the second solver, byte for byte. Arguments go
-# to the program: --quick, --seed 7.
+# to the program: --quick, --seed 7, --forms (the second solver's forms alone).
 set -eu
 cd "$(dirname "$0")/.."
 tests/second/archive.sh

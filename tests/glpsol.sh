@@ -1,6 +1,8 @@
 #!/usr/bin/env bash
 # Holds listings against GLPK's exact optimum, which must lie between total and bound: on the samples that GLPK brings with it and
-# on examples/ and the network of such a sample. Exit status 77 says that glpsol (Debian's glpk-utils) is absent.
+# on examples/ and the network of such a sample. Then the library and the second solver, on linear programs of small floors with
+# reversible belts and several pairs; arguments go to that program (tests/second/lp.rs): --seed 7, --forms (without the library).
+# Exit status 77 says that glpsol (Debian's glpk-utils) is absent.
 set -eu
 cd "$(dirname "$0")/.."
 if ! command -v glpsol >/dev/null; then
@@ -41,3 +43,7 @@ for floor in /usr/share/doc/glpk*/examples/*.max* examples/*.max tests/listing/g
 done
 echo "glpsol: optimum between total and bound on $held floors, $samples of them GLPK's own samples"
 [ "$held" -gt 0 ]
+
+tests/second/archive.sh
+rustc --edition 2021 -O -C overflow-checks=on -L native=target/staticlib -o target/second/lp tests/second/lp.rs
+target/second/lp "$work" "$@"

@@ -1,5 +1,5 @@
-/* What the header adds to the call: versions, absent slices and a pair's own
- * total. Compiled as C99 and as C++17; exits with 1 if something is otherwise. */
+/* What the header adds to the call: versions, absent slices, marks, signed
+ * amounts and a pair's own total. Compiled as C99 and as C++17; exits with 1 if something is otherwise. */
 #include "vithmork.h"
 
 #include <stdio.h>
@@ -40,24 +40,60 @@ static void fill(void)
     vithmork_put_belt(belts, 2, 2, 3, 250);
     vithmork_put_belt(belts, 3, 2, 4, 500);
     vithmork_put_belt(belts, 4, 3, 4, 450);
-    vithmork_put_belt(belts, 5, 3, 1, 100);
+    vithmork_put_reversible_belt(belts, 5, 3, 1, 100);
     vithmork_put_pair(pairs, 0, 1, 4);
     vithmork_put_pair(pairs, 1, 2, 3);
     vithmork_put_pair(pairs, 2, 3, 1);
     vithmork_put(count, 0, 0);
 }
 
-/* Amounts by hand: pair 1 sends 7 + 2 from station 1 and has 3 of them come back. */
+/* A number of the flow table, the amount that it stands for, and its size. */
+static void sign(uint64_t number, int64_t amount, uint64_t size)
+{
+    vithmork_put(flow, 0, number);
+    expect("an amount against its own", vithmork_get_signed(flow, 0) == amount, 1);
+    expect("a size", vithmork_size(vithmork_get_signed(flow, 0)), size);
+}
+
+static void signs(void)
+{
+    sign(0, 0, 0);
+    sign(5, 5, 5);
+    sign(INT64_MAX, INT64_MAX, INT64_MAX);
+    sign(UINT64_MAX, -1, 1);
+    sign(UINT64_MAX - 4, -5, 5);
+    sign((uint64_t)INT64_MAX + 1, INT64_MIN, (uint64_t)INT64_MAX + 1);
+}
+
+static void marks(void)
+{
+    expect("the mark of a belt", vithmork_get(belts, 4 * VITHMORK_BELT_NUMBERS + 3), 0);
+    expect("that of a reversible one", vithmork_get(belts, 5 * VITHMORK_BELT_NUMBERS + 3), 1);
+}
+
+/* Scaled by 3 over 4, with its sign. */
+static void scaled(void)
+{
+    vithmork_put(answer, VITHMORK_SCALE_CAPACITY, 3);
+    vithmork_put(answer, VITHMORK_SCALE_LOAD, 4);
+    expect("8 scaled", vithmork_scaled_signed(answer, 8) == 6.0, 1);
+    expect("-8 scaled", vithmork_scaled_signed(answer, -8) == -6.0, 1);
+}
+
+/* Amounts by hand: pair 1 sends 7 + 2 from station 1 and has 3 of them come back;
+ * on the reversible belt from 3 to 1 pair 3 has 1 that runs from 1 to 3. */
 static void by_hand(void)
 {
     static const uint64_t amounts[PAIRS][BELTS] = {
-        {7, 2, 1, 6, 0, 3}, {0, 0, 5, 0, 0, 0}, {0, 0, 0, 0, 0, 0}};
+        {7, 2, 1, 6, 0, 3}, {0, 0, 5, 0, 0, 0}, {0, 0, 0, 0, 0, UINT64_MAX}};
     for (size_t p = 0; p < PAIRS; p++)
         for (size_t e = 0; e < BELTS; e++)
             vithmork_put(flow, p * BELTS + e, amounts[p][e]);
     expect("pair 1 by hand", vithmork_pair_total(belts, BELTS, pairs, 0, flow), 6);
     expect("pair 2 by hand", vithmork_pair_total(belts, BELTS, pairs, 1, flow), 5);
-    expect("pair 3 by hand", vithmork_pair_total(belts, BELTS, pairs, 2, flow), 0);
+    vithmork_put_pair(pairs, 2, 1, 3);
+    expect("pair 3 by hand", vithmork_pair_total(belts, BELTS, pairs, 2, flow), 1);
+    vithmork_put_pair(pairs, 2, 3, 1);
 }
 
 /* Of the library's own plan the pairs' totals make the drawn total. */
@@ -90,6 +126,9 @@ int main(void)
 {
     versions();
     fill();
+    signs();
+    marks();
+    scaled();
     by_hand();
     of_a_plan();
     absent();

@@ -63,7 +63,8 @@ static void draw_floor(floor_lent *f, uint64_t n, size_t m, size_t k, size_t tim
     f->times = times;
     for (size_t e = 0; e < m; e++) {
         uint64_t tail = up_to(n);
-        vithmork_put_belt(f->belts, e, tail, other_than(tail, n), up_to(VITHMORK_MAX_CAPACITY));
+        uint64_t head = other_than(tail, n), capacity = up_to(VITHMORK_MAX_CAPACITY);
+        vithmork_put_marked_belt(f->belts, e, tail, head, capacity, up_to(2) - 1);
     }
     for (size_t p = 0; p < k; p++) {
         uint64_t source = up_to(n);

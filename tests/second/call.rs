@@ -1,10 +1,10 @@
-//! The host's call by document 01: byte slices in, what is returned and every
-//! byte of the slices out.
+//! The host's call by document 01 and request C-12: byte slices in, what is
+//! returned and every byte of the slices out.
 
 use crate::network::{Arc, Commodity, Network, Solution};
 
 pub const NUMBER: usize = 8;
-pub const BELT: usize = 3 * NUMBER;
+pub const BELT: usize = 4 * NUMBER;
 pub const PAIR: usize = 2 * NUMBER;
 pub const ANSWER: usize = 7 * NUMBER;
 pub const FULL: u64 = 1 << 63;
@@ -70,7 +70,8 @@ impl Call {
             count: vec![0; NUMBER],
         };
         for (e, arc) in net.arcs.iter().enumerate() {
-            put_all(&mut call.belts[e * BELT..], &[arc.tail, arc.head, arc.capacity]);
+            let item = [arc.tail, arc.head, arc.capacity, arc.mark];
+            put_all(&mut call.belts[e * BELT..], &item);
         }
         for (i, commodity) in net.commodities.iter().enumerate() {
             put_all(&mut call.pairs[i * PAIR..], &[commodity.source, commodity.sink]);
@@ -80,8 +81,10 @@ impl Call {
 
     /// The network as the slices have it, checked or not.
     pub fn network(&self) -> Network {
-        let belt =
-            |item: &[u8]| Arc { tail: get(item, 0), head: get(item, 1), capacity: get(item, 2) };
+        let belt = |item: &[u8]| {
+            let [tail, head, capacity, mark] = [0, 1, 2, 3].map(|place| get(item, place));
+            Arc { tail, head, capacity, mark }
+        };
         let pair = |item: &[u8]| Commodity { source: get(item, 0), sink: get(item, 1) };
         Network {
             nodes: self.n,
@@ -98,9 +101,11 @@ impl Call {
         }
     }
 
+    /// Amounts by two's complement.
     pub fn written(&self, solution: &Solution) -> Call {
         let mut after = self.clone();
-        put_all(&mut after.flow, &solution.flow);
+        let amounts: Vec<u64> = solution.flow.iter().map(|amount| *amount as u64).collect();
+        put_all(&mut after.flow, &amounts);
         put_all(&mut after.length, &solution.lengths);
         put_all(&mut after.answer, &solution.answer);
         put(&mut after.count, 0, get(&self.count, 0) + solution.answer[5]);

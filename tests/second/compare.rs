@@ -1,6 +1,7 @@
 //! Compares the static library with the second solver, byte for byte, on sound
 //! and damaged calls; exits with 1 on any difference. `--quick` takes a few
-//! hundred floors, `--seed N` other ones.
+//! hundred floors, `--seed N` other ones. `--forms` leaves the library out and
+//! compares the forms of the second solver with each other.
 
 mod call;
 mod damage;
@@ -10,16 +11,19 @@ mod floors;
 mod guarded;
 mod library;
 mod literal;
+mod marked;
 mod method;
 mod network;
 mod outside;
 mod random;
 mod rare;
+mod reversible;
 mod search;
 mod shapes;
 mod solver;
 mod tally;
 mod ties;
+mod wrong;
 
 use call::{numbers, Call};
 use floors::{Capacities, CAPACITIES, PRECISIONS};
@@ -41,6 +45,7 @@ struct Amounts {
     medium: u64,
     full: usize,
     plain: u64,
+    marked: marked::Amounts,
 }
 
 const WHOLE: Amounts = Amounts {
@@ -51,17 +56,32 @@ const WHOLE: Amounts = Amounts {
     medium: 130,
     full: 5,
     plain: 4,
+    marked: marked::Amounts { ties: 650, cancelling: 650, small: 9_750, medium: 39, full: 2 },
 };
-const QUICK: Amounts =
-    Amounts { levels: 51, damaged: 1_000, ties: 260, small: 390, medium: 13, full: 0, plain: 0 };
+const QUICK: Amounts = Amounts {
+    levels: 51,
+    damaged: 1_000,
+    ties: 260,
+    small: 390,
+    medium: 13,
+    full: 0,
+    plain: 0,
+    marked: marked::Amounts { ties: 65, cancelling: 65, small: 390, medium: 13, full: 0 },
+};
+
+struct Options {
+    amounts: Amounts,
+    seed: u64,
+    forms: bool,
+}
 
 fn main() -> ExitCode {
-    let Some((amounts, seed)) = options(std::env::args().skip(1)) else {
-        eprintln!("compare: the options are --quick and --seed NUMBER");
+    let Some(Options { amounts, seed, forms }) = options(std::env::args().skip(1)) else {
+        eprintln!("compare: the options are --quick, --seed NUMBER and --forms");
         return ExitCode::from(2);
     };
     println!("seed {seed}");
-    let mut tally = Tally::default();
+    let mut tally = Tally::new(forms);
     timed("document 01's figures", &mut tally, compare_figures);
     timed("rare floors", &mut tally, compare_rare);
     timed("damaged calls, stated", &mut tally, compare_damaged);
@@ -81,19 +101,21 @@ fn main() -> ExitCode {
     timed("full-size floors", &mut tally, |tally| {
         compare_full(tally, &amounts, &mut Random::new(seed + 3))
     });
+    marked::compare(&mut tally, &amounts.marked, amounts.plain, seed + 5);
     tally.close()
 }
 
-fn options(mut words: impl Iterator<Item = String>) -> Option<(Amounts, u64)> {
-    let (mut amounts, mut seed) = (WHOLE, 1);
+fn options(mut words: impl Iterator<Item = String>) -> Option<Options> {
+    let mut options = Options { amounts: WHOLE, seed: 1, forms: false };
     while let Some(word) = words.next() {
         match word.as_str() {
-            "--quick" => amounts = QUICK,
-            "--seed" => seed = words.next()?.parse().ok()?,
+            "--quick" => options.amounts = QUICK,
+            "--seed" => options.seed = words.next()?.parse().ok()?,
+            "--forms" => options.forms = true,
             _ => return None,
         }
     }
-    Some((amounts, seed))
+    Some(options)
 }
 
 fn timed(name: &str, tally: &mut Tally, part: impl FnOnce(&mut Tally)) {
@@ -147,8 +169,10 @@ fn compare_random_damage(tally: &mut Tally, amount: u64, random: &mut Random) {
 fn compare_levels(tally: &mut Tally, every: usize) {
     for m in (1..=256).step_by(every) {
         for q in PRECISIONS {
-            let net = floors::one_joining(m, 1 + m % 1000);
-            tally.compare(&format!("load mark, m {m}, q {q}"), &Call::new(&net, q), fast::solve);
+            let (net, name) = (floors::one_joining(m, 1 + m), format!("load mark, m {m}, q {q}"));
+            tally.compare(&name, &Call::new(&net, q), fast::solve);
+            let net = reversible::one_joining(m, 1 + m);
+            tally.compare(&(name + ", reversible"), &Call::new(&net, q), fast::solve);
         }
     }
 }
@@ -185,16 +209,27 @@ fn compare_ties(tally: &mut Tally, amount: u64, random: &mut Random) {
 fn compare_small(tally: &mut Tally, amount: u64, random: &mut Random) {
     for (i, q) in (0..amount).zip(PRECISIONS.cycle()) {
         let net = floors::small(random);
-        let call = floors::lent(&net, q, random);
-        let name = format!("small floor {i}");
-        let plain = solver::solve(&net, q);
-        tally.judge(&name, Some(&call), agree(&plain, &fast::solve(&net, q)));
-        if random.one_in(8) {
-            let listed = solver::solve_by(literal::choose, &net, q);
-            tally.judge(&name, Some(&call), agree(&plain, &listed));
-        }
-        tally.compare_with(&name, &call, (0, call.written(&plain)));
+        compare_forms(tally, &format!("small floor {i}"), &net, q, random);
     }
+}
+
+/// The fast form has its say too, and one time in eight that which lists every path.
+fn compare_forms(
+    tally: &mut Tally,
+    name: &str,
+    net: &Network,
+    q: u64,
+    random: &mut Random,
+) -> Solution {
+    let call = floors::lent(net, q, random);
+    let plain = solver::solve(net, q);
+    tally.judge(name, Some(&call), agree(&plain, &fast::solve(net, q)));
+    if random.one_in(8) {
+        let listed = solver::solve_by(literal::choose, net, q);
+        tally.judge(name, Some(&call), agree(&plain, &listed));
+    }
+    tally.compare_with(name, &call, (0, call.written(&plain)));
+    plain
 }
 
 fn compare_medium(tally: &mut Tally, amount: u64, random: &mut Random) {
@@ -205,23 +240,34 @@ fn compare_medium(tally: &mut Tally, amount: u64, random: &mut Random) {
     }
 }
 
-/// The fast form speaks for the plain one where that would take minutes.
 fn compare_full(tally: &mut Tally, amounts: &Amounts, random: &mut Random) {
     let all = SHAPES.into_iter().cycle().zip(PRECISIONS.cycle());
     for (i, (shape, q)) in all.take(amounts.full * SHAPES.len()).enumerate() {
         let capacities = CAPACITIES[i / SHAPES.len() % CAPACITIES.len()];
         let net = floors::floor(shape, FULL_SIZE, capacities, random);
         let name = format!("{shape:?}, {capacities:?}, q {q}");
-        let call = floors::lent(&net, q, random);
-        tally.compare(&name, &call, fast::solve);
-        if q <= amounts.plain {
-            let plain = solver::solve(&net, q);
-            tally.judge(&name, Some(&call), agree(&plain, &fast::solve(&net, q)));
-        }
+        compare_large(tally, &name, &net, q, amounts.plain, random);
     }
     let net = floors::unjoined(Shape::Dense, FULL_SIZE, Capacities::Mixed, random);
     let call = floors::lent(&net, 4, random);
     tally.compare("full-size and unjoined", &call, fast::solve);
+}
+
+/// The fast form speaks for the plain one where that would take minutes.
+fn compare_large(
+    tally: &mut Tally,
+    name: &str,
+    net: &Network,
+    q: u64,
+    plain: u64,
+    random: &mut Random,
+) {
+    let call = floors::lent(net, q, random);
+    tally.compare(name, &call, fast::solve);
+    if q <= plain {
+        let agreed = agree(&solver::solve(net, q), &fast::solve(net, q));
+        tally.judge(name, Some(&call), agreed);
+    }
 }
 
 /// On the second solver's own behalf: its number is the stated one.

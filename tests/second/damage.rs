@@ -6,6 +6,7 @@ use crate::call::{put, Call, Refusal, BELT, FULL, NUMBER, PAIR};
 use crate::floors::{floor, lent, small, unjoined, Capacities};
 use crate::network::network;
 use crate::random::Random;
+use crate::reversible::{marked, MARKS, SHARES};
 use crate::shapes::{Shape, FULL_SIZE};
 
 pub struct Case {
@@ -26,10 +27,11 @@ const PAIRS: usize = 3;
 /// Above every bound; the lower bits of the first two alone would pass.
 const BIG: [u64; 4] = [(1 << 16) + 5, (1 << 32) + 5, u64::MAX - 1, u64::MAX];
 
-/// A sound floor of 5 stations that the faults are put into.
+/// A sound floor of 5 stations that the faults are put into; belts 1 and 4 are
+/// reversible.
 fn sound() -> Call {
     let belts = [(1, 2, 3), (2, 3, 2), (3, 5, 4), (1, 4, 2), (4, 5, 1), (2, 5, 1000)];
-    let net = network(5, &belts, &[(1, 5), (2, 5), (1, 3)]);
+    let net = network(5, &belts, &[(1, 5), (2, 5), (1, 3)]).reversible(&[1, 4]);
     lent(&net, 7, &mut Random::new(5))
 }
 
@@ -139,20 +141,25 @@ fn set(slice: &mut [u8], place: usize, number: u64) {
     }
 }
 
+/// A number of the belt at a place, from 1.
+fn set_belt(call: &mut Call, place: usize, which: usize, number: u64) {
+    set(&mut call.belts, (place - 1) * BELT / NUMBER + which, number);
+}
+
 fn full_count(count: u64) -> Fault {
     fault(format!("count {count}"), 11, 0, move |call| set(&mut call.count, 0, count))
 }
 
 fn loose_belt(place: usize, (tail, head): (u64, u64)) -> Fault {
     let apply = move |call: &mut Call| {
-        set(&mut call.belts, 3 * (place - 1), tail);
-        set(&mut call.belts, 3 * (place - 1) + 1, head);
+        set_belt(call, place, 0, tail);
+        set_belt(call, place, 1, head);
     };
     fault(format!("belt {place} from {tail} to {head}"), 6, place as u64, apply)
 }
 
 fn capacity(place: usize, number: u64) -> Fault {
-    let apply = move |call: &mut Call| set(&mut call.belts, 3 * (place - 1) + 2, number);
+    let apply = move |call: &mut Call| set_belt(call, place, 2, number);
     fault(format!("belt {place} of capacity {number}"), 7, place as u64, apply)
 }
 
@@ -189,6 +196,9 @@ fn edges() -> Vec<Case> {
         let size = BELTS * BELT + more;
         pass(format!("{more} bytes after the belts"), &|call| call.belts.resize(size, 0xa5));
     }
+    for size in 3 * NUMBER..BELT {
+        pass(format!("a belt of {size} bytes after the belts"), &|call| add_part(call, size));
+    }
     for more in 0..PAIR {
         let size = PAIRS * PAIR + more;
         pass(format!("{more} bytes after the pairs"), &|call| call.pairs.resize(size, 0xa5));
@@ -204,8 +214,17 @@ fn edges() -> Vec<Case> {
     cases
 }
 
+/// A belt that is sound up to its mark, which is not whole.
+fn add_part(call: &mut Call, size: usize) {
+    call.belts.resize((BELTS + 1) * BELT, 0);
+    for (which, number) in [1, 5, 1000].into_iter().enumerate() {
+        set_belt(call, BELTS + 1, which, number);
+    }
+    call.belts.truncate(BELTS * BELT + size);
+}
+
 fn passing_values() -> Vec<Case> {
-    let mut cases = Vec::new();
+    let mut cases = passing_marks();
     let mut pass = |name: &str, apply: &dyn Fn(&mut Call)| cases.push(passing(name.into(), apply));
     pass("as it is", &|_| ());
     pass("n 64", &|call| call.n = 64);
@@ -236,6 +255,17 @@ fn passing_values() -> Vec<Case> {
     cases
 }
 
+/// No mark is refused, those of no capacity too.
+fn passing_marks() -> Vec<Case> {
+    let marks = [0, 3, 1000, 1001, 1 << 32].into_iter().chain(MARKS);
+    let places = marks.flat_map(|mark| (1..=BELTS).map(move |place| (place, mark)));
+    let case = |(place, mark)| {
+        let name = format!("mark {mark} on belt {place}");
+        passing(name, &|call| set_belt(call, place, 3, mark))
+    };
+    places.map(case).collect()
+}
+
 fn passing(name: String, apply: &dyn Fn(&mut Call)) -> Case {
     let mut call = sound();
     apply(&mut call);
@@ -245,8 +275,8 @@ fn passing(name: String, apply: &dyn Fn(&mut Call)) -> Case {
 /// A small floor with a few faults anywhere; whether it still passes, and what
 /// is returned, is for the second solver to say.
 pub fn at_random(random: &mut Random) -> Call {
-    let net = small(random);
-    let q = random.between(4, 16);
+    let (net, share) = (small(random), random.pick(&SHARES));
+    let (net, q) = (marked(net, share, random), random.between(4, 16));
     let mut call = lent(&net, q, random);
     for _ in 0..random.between(1, 3) {
         disturb(&mut call, random);

@@ -80,11 +80,10 @@ impl Floor {
         match words {
             [b"n", node, b"s"] if self.source.is_none() => self.source = Some(number(node)?),
             [b"n", node, b"t"] if self.sink.is_none() => self.sink = Some(number(node)?),
-            [b"a", tail, head, capacity] if self.arcs.len() < self.belts => self.arcs.push(Arc {
-                tail: number(tail)?,
-                head: number(head)?,
-                capacity: number(capacity)?,
-            }),
+            [b"a", tail, head, capacity] if self.arcs.len() < self.belts => {
+                let arc = Arc::one_way(number(tail)?, number(head)?, number(capacity)?);
+                self.arcs.push(arc);
+            }
             _ => return None,
         }
         Some(self)

@@ -8,7 +8,7 @@ mod method;
 mod network;
 mod solver;
 
-use network::{network, Network, Solution};
+use network::{network, Arc, Network, Solution};
 use std::process::ExitCode;
 
 /// An example's floor, and the precision at which it is solved.
@@ -22,8 +22,9 @@ fn main() -> ExitCode {
     let print = match name.as_str() {
         "floor" => print_floor,
         "one_by_one" => print_one_by_one,
+        "reversible" => print_reversible,
         _ => {
-            eprintln!("expected: name an example, floor or one_by_one");
+            eprintln!("expected: name an example, floor, one_by_one or reversible");
             return ExitCode::from(2);
         }
     };
@@ -33,16 +34,27 @@ fn main() -> ExitCode {
 }
 
 fn example(source: &str) -> Example {
-    let belts = numbers(after(source, "belt[BELTS][3] ="));
-    let pairs = numbers(after(source, "pair[PAIRS][2] ="));
-    let belts: Vec<_> = belts.chunks(3).map(|belt| (belt[0], belt[1], belt[2])).collect();
-    let pairs: Vec<_> = pairs.chunks(2).map(|pair| (pair[0], pair[1])).collect();
+    let [belts, pairs] = ["belt[BELTS]", "pair[PAIRS]"].map(|name| items(after(source, name)));
     let [nodes, q] = ["STATIONS =", "PRECISION ="].map(|name| numbers(after(source, name))[0]);
-    Example { net: network(nodes, &belts, &pairs), q }
+    let ends: Vec<_> = pairs.iter().map(|pair| (pair[0], pair[1])).collect();
+    let arcs = belts.iter().map(|belt| arc(belt)).collect();
+    Example { net: Network { arcs, ..network(nodes, &[], &ends) }, q }
+}
+
+/// A mark that is left out is zero, as in C.
+fn arc(belt: &[u64]) -> Arc {
+    let mark = belt.get(3).copied().unwrap_or(0);
+    Arc { mark, ..Arc::one_way(belt[0], belt[1], belt[2]) }
 }
 
 fn after<'a>(source: &'a str, name: &str) -> &'a str {
     source.split_once(name).expect("the example has it").1
+}
+
+/// What a table is set to, each item in braces.
+fn items(text: &str) -> Vec<Vec<u64>> {
+    let table = after(text, "=").split(';').next().unwrap_or_default();
+    table.split('}').filter_map(|part| Some(numbers(part.rsplit_once('{')?.1))).collect()
 }
 
 /// The numbers up to a semicolon; the comments before it have none.
@@ -57,12 +69,10 @@ fn print_floor(Example { net, q }: &Example) {
     println!("total {:.3}", scaled(&solution, solution.answer[0]));
     println!("bound {:.3}", bound(&solution));
     for (pair, row) in net.commodities.iter().zip(solution.flow.chunks(m)) {
-        let arcs = net.arcs.iter().zip(row);
-        let leaves: u64 = arcs.filter(|(arc, _)| arc.tail == pair.source).map(|(_, x)| x).sum();
-        let carried = scaled(&solution, leaves);
+        let carried = scaled(&solution, carried(net, row, pair.source));
         println!("pair {} to {} carries {carried:.3}", pair.source, pair.sink);
     }
-    for (arc, load) in net.arcs.iter().zip(loads(net, &solution)) {
+    for (arc, load) in net.arcs.iter().zip(loads(&solution)) {
         println!("belt {} to {} carries {load:.3} of {}", arc.tail, arc.head, arc.capacity);
     }
     let choices = solution.answer[5];
@@ -77,13 +87,43 @@ fn print_one_by_one(Example { net, q }: &Example) {
         let total = scaled(&solution, solution.answer[0]);
         println!("pair {} to {} alone {total:.3}", pair.source, pair.sink);
         sum += total;
-        apart.iter_mut().zip(loads(&alone, &solution)).for_each(|(load, more)| *load += more);
+        apart.iter_mut().zip(loads(&solution)).for_each(|(load, more)| *load += more);
     }
     print_loads("added up", sum, net, &apart);
     let together = solver::solve(net, *q);
     let total = scaled(&together, together.answer[0]);
-    print_loads("in one call", total, net, &loads(net, &together));
+    print_loads("in one call", total, net, &loads(&together));
     println!("bound {:.3}", bound(&together));
+}
+
+fn print_reversible(Example { net, q }: &Example) {
+    let opposite = solver::solve(&two_for_one(net), *q);
+    print_total("as two opposite belts", &opposite);
+    let solution = solver::solve(net, *q);
+    print_total("as one reversible belt", &solution);
+    let rows: Vec<_> = solution.flow.chunks(net.arcs.len()).collect();
+    for (e, (arc, load)) in net.arcs.iter().zip(loads(&solution)).enumerate() {
+        print!("belt {} to {} carries {load:.3} of {}:", arc.tail, arc.head, arc.capacity);
+        let amounts = rows.iter().zip(1..).map(|(row, pair)| {
+            let size = scaled(&solution, row[e].unsigned_abs());
+            format!(" pair {pair} {:.3}", if row[e] < 0 { -size } else { size })
+        });
+        println!("{}", amounts.collect::<Vec<_>>().join(","));
+    }
+}
+
+/// Two opposite belts for each reversible one, the second behind the others.
+fn two_for_one(net: &Network) -> Network {
+    let one_way = |arc: &Arc| Arc { mark: 0, ..*arc };
+    let back = |arc: &Arc| Arc::one_way(arc.head, arc.tail, arc.capacity);
+    let reversible = net.arcs.iter().filter(|arc| arc.reversible());
+    let arcs = net.arcs.iter().map(one_way).chain(reversible.map(back)).collect();
+    Network { arcs, ..net.clone() }
+}
+
+fn print_total(what: &str, solution: &Solution) {
+    let total = scaled(solution, solution.answer[0]);
+    println!("{what}: total {total:.3}, bound {:.3}", bound(solution));
 }
 
 fn print_loads(what: &str, total: f64, net: &Network, loads: &[f64]) {
@@ -91,6 +131,14 @@ fn print_loads(what: &str, total: f64, net: &Network, loads: &[f64]) {
     for (arc, load) in net.arcs.iter().zip(loads) {
         println!("  belt {} to {}: {load:.3} of {}", arc.tail, arc.head, arc.capacity);
     }
+}
+
+/// What leaves the source less what enters it: never below zero, as no path comes back
+/// to its source.
+fn carried(net: &Network, row: &[i64], source: u64) -> u64 {
+    let out = |arc: &Arc| i64::from(arc.tail == source) - i64::from(arc.head == source);
+    let sum: i64 = net.arcs.iter().zip(row).map(|(arc, amount)| out(arc) * amount).sum();
+    sum.unsigned_abs()
 }
 
 fn scaled(solution: &Solution, amount: u64) -> f64 {
@@ -102,9 +150,10 @@ fn bound(solution: &Solution) -> f64 {
     solution.answer[3] as f64 / solution.answer[4] as f64
 }
 
-/// What each arc carries of all commodities, scaled.
-fn loads(net: &Network, solution: &Solution) -> Vec<f64> {
-    let m = net.arcs.len();
-    let load = |e| solution.flow.iter().skip(e).step_by(m).sum();
+/// What each arc carries of all commodities in both directions, scaled.
+fn loads(solution: &Solution) -> Vec<f64> {
+    let m = solution.lengths.len();
+    let amounts = |e| solution.flow.iter().skip(e).step_by(m);
+    let load = |e| amounts(e).map(|amount| amount.unsigned_abs()).sum();
     (0..m).map(|e| scaled(solution, load(e))).collect()
 }

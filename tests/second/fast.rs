@@ -6,7 +6,7 @@ use crate::method::{
     fraction_below, fullest, grown, halved, start, threshold, weight, Bound, MARK,
 };
 use crate::network::{Network, Solution};
-use crate::search::Search;
+use crate::search::{Link, Search};
 
 struct Run<'a> {
     net: &'a Network,
@@ -14,7 +14,7 @@ struct Run<'a> {
     threshold: u64,
     lengths: Vec<u64>,
     weight: u64,
-    flow: Vec<u64>,
+    flow: Vec<i64>,
     loads: Vec<u64>,
     drawn: u64,
     iterations: u64,
@@ -74,15 +74,16 @@ impl<'a> Run<'a> {
     }
 
     /// Whether a length has come to the mark.
-    fn draw(&mut self, commodity: usize, path: &[usize]) -> bool {
+    fn draw(&mut self, commodity: usize, path: &[Link]) -> bool {
         let arcs = &self.net.arcs;
-        let draw = path.iter().fold(u64::MAX, |least, &e| least.min(arcs[e].capacity));
+        let draw = path.iter().fold(u64::MAX, |least, link| least.min(arcs[link.arc].capacity));
         let mut marked = false;
-        for &e in path {
+        for &Link { arc: e, forward, .. } in path {
             let next = grown(self.lengths[e], &arcs[e], draw, self.q);
             self.weight += arcs[e].capacity * (next - self.lengths[e]);
             self.lengths[e] = next;
-            self.flow[commodity * arcs.len() + e] += draw;
+            let signed = if forward { draw as i64 } else { -(draw as i64) };
+            self.flow[commodity * arcs.len() + e] += signed;
             self.loads[e] += draw;
             marked |= next >= MARK;
         }
@@ -90,8 +91,9 @@ impl<'a> Run<'a> {
         marked
     }
 
-    fn reached(&self, path: &[usize]) -> bool {
-        path.iter().any(|&e| self.loads[e] >= self.threshold * self.net.arcs[e].capacity)
+    fn reached(&self, path: &[Link]) -> bool {
+        let full = |e: usize| self.loads[e] >= self.threshold * self.net.arcs[e].capacity;
+        path.iter().any(|link| full(link.arc))
     }
 
     fn halve(&mut self) {
@@ -103,10 +105,7 @@ impl<'a> Run<'a> {
         let b = fullest(self.net, &self.loads);
         let (capacity, load) = (self.net.arcs[b].capacity, self.loads[b]);
         let Bound { weight, alpha, iteration, lengths } = self.bound;
-        Solution {
-            flow: self.flow,
-            lengths,
-            answer: [self.drawn, capacity, load, weight, alpha, self.iterations, iteration],
-        }
+        let answer = [self.drawn, capacity, load, weight, alpha, self.iterations, iteration];
+        Solution { flow: self.flow, lengths, loads: self.loads, answer }
     }
 }

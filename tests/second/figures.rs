@@ -45,7 +45,7 @@ pub fn runs() -> Vec<Run> {
 /// what was found and what is printed.
 pub fn arithmetic() -> Vec<(&'static str, u64, u64)> {
     let starts = |capacity| start(&network(2, &[(1, 2, capacity)], &[(1, 2)]))[0];
-    let belt = |capacity| Arc { tail: 1, head: 2, capacity };
+    let belt = |capacity| Arc::one_way(1, 2, capacity);
     vec![
         ("L for m = 1, q = 4", level(1, 4), 1),
         ("L for m = 2, q = 4", level(2, 4), 4),

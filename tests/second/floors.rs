@@ -29,7 +29,7 @@ pub fn floor(shape: Shape, size: Size, capacities: Capacities, random: &mut Rand
         Capacities::Few => random.pick(&[1, 2, 3, 5]),
         Capacities::Mixed => random.between(1, 1000),
     };
-    let arc = |(tail, head)| Arc { tail, head, capacity: capacity(random) };
+    let arc = |(tail, head)| Arc::one_way(tail, head, capacity(random));
     let arcs = ends.into_iter().map(arc).collect();
     let commodities = (0..size.commodities).map(|_| commodity(shape, size, random));
     Network { nodes: size.nodes, arcs, commodities: commodities.collect() }
@@ -83,9 +83,9 @@ pub fn unjoined(shape: Shape, size: Size, capacities: Capacities, random: &mut R
 
 /// Of m belts only the last joins the pair.
 pub fn one_joining(m: u64, capacity: u64) -> Network {
-    let apart = |_| Arc { tail: 2, head: 1, capacity: 1 };
+    let apart = |_| Arc::one_way(2, 1, 1);
     let mut arcs: Vec<Arc> = (1..m).map(apart).collect();
-    arcs.push(Arc { tail: 1, head: 2, capacity });
+    arcs.push(Arc::one_way(1, 2, capacity));
     Network { nodes: 2, arcs, commodities: vec![Commodity { source: 1, sink: 2 }] }
 }
 

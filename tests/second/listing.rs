@@ -24,7 +24,6 @@ pub fn accepted(file: &[u8]) -> Result<Network, Refusal> {
     }
 }
 
-/// With one pair a belt's amount over all pairs is its place in the flow table.
 fn plan(net: &Network, solution: &Solution) -> Vec<String> {
     let [drawn, capacity, load, weight, alpha, iterations, which] = solution.answer;
     let mut rows = vec![
@@ -32,8 +31,8 @@ fn plan(net: &Network, solution: &Solution) -> Vec<String> {
         format!("bound,,,{weight},{alpha}"),
         format!("steps,,,{iterations},{which}"),
     ];
-    rows.extend(net.arcs.iter().zip(&solution.flow).map(|(arc, amount)| {
-        format!("belt,{},{},{},{load}", arc.tail, arc.head, amount * capacity)
-    }));
+    for (arc, drawn) in net.arcs.iter().zip(&solution.loads) {
+        rows.push(format!("belt,{},{},{},{load}", arc.tail, arc.head, drawn * capacity));
+    }
     rows
 }

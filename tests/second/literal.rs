@@ -1,6 +1,7 @@
-//! The choice word for word, of document 01 with the tie rule of request C-16, by
-//! listing every path: slow, and free of the thought behind distances, so that it
-//! can judge the searches. Tie rules that are wrong stand beside the right one.
+//! The choice word for word, of document 01 with the tie rule of request C-16 and the
+//! reversible belts of C-12, by listing every path: slow, and free of the thought
+//! behind distances, so that it can judge the searches. Tie rules that are wrong stand
+//! beside the right one.
 
 use crate::network::Network;
 use crate::solver::{self, Choice};
@@ -15,6 +16,8 @@ struct Listing<'a> {
     before: Rule,
     commodity: usize,
     path: Vec<usize>,
+    /// Those that the path has left.
+    nodes: Vec<u64>,
     first: Option<Choice>,
 }
 
@@ -56,8 +59,8 @@ fn tied(new: &Choice, old: &Choice) -> bool {
 /// A path that meets a node twice is longer than some other, as lengths are at
 /// least 1, and is not listed.
 fn by_rule(net: &Network, lengths: &[u64], before: Rule) -> Option<Choice> {
-    let (path, first) = (Vec::new(), None);
-    let mut listing = Listing { net, lengths, before, commodity: 0, path, first };
+    let (path, nodes, first) = (Vec::new(), Vec::new(), None);
+    let mut listing = Listing { net, lengths, before, commodity: 0, path, nodes, first };
     for (i, commodity) in net.commodities.iter().enumerate() {
         listing.commodity = i;
         listing.extend(commodity.source, 0);
@@ -71,18 +74,16 @@ impl Listing<'_> {
             self.offer(length);
             return;
         }
+        self.nodes.push(node);
         for (e, arc) in self.net.arcs.iter().enumerate() {
-            if arc.tail == node && !self.meets(arc.head) {
+            let Some(next) = arc.leads(node) else { continue };
+            if !self.nodes.contains(&next) {
                 self.path.push(e);
-                self.extend(arc.head, length + self.lengths[e]);
+                self.extend(next, length + self.lengths[e]);
                 self.path.pop();
             }
         }
-    }
-
-    fn meets(&self, node: u64) -> bool {
-        node == self.net.commodities[self.commodity].source
-            || self.path.iter().any(|&e| self.net.arcs[e].head == node)
+        self.nodes.pop();
     }
 
     fn offer(&mut self, alpha: u64) {

@@ -1,12 +1,36 @@
 //! A network and what a solver says of it. Stations of document 01 are nodes
 //! here, belts arcs, pairs commodities, routes paths, choices iterations.
-//! Nodes count from 1; an arc or a commodity stands at its number less 1.
+//! Nodes count from 1; an arc or a commodity stands at its number less 1. Belts may
+//! be reversible (request C-12).
 
 #[derive(Clone, Copy, Debug, PartialEq)]
 pub struct Arc {
     pub tail: u64,
     pub head: u64,
     pub capacity: u64,
+    pub mark: u64,
+}
+
+impl Arc {
+    pub fn one_way(tail: u64, head: u64, capacity: u64) -> Arc {
+        Arc { tail, head, capacity, mark: 0 }
+    }
+
+    /// Request C-12: any mark but zero.
+    pub fn reversible(&self) -> bool {
+        self.mark != 0
+    }
+
+    /// The node that a path comes to if it takes the arc at this one.
+    pub fn leads(&self, from: u64) -> Option<u64> {
+        if from == self.tail {
+            Some(self.head)
+        } else if from == self.head && self.reversible() {
+            Some(self.tail)
+        } else {
+            None
+        }
+    }
 }
 
 #[derive(Clone, Copy, Debug, PartialEq)]
@@ -22,9 +46,10 @@ pub struct Network {
     pub commodities: Vec<Commodity>,
 }
 
-/// A network written out: belts as (tail, head, capacity), pairs as (source, sink).
+/// A network written out: belts as (tail, head, capacity), none of them reversible,
+/// pairs as (source, sink).
 pub fn network(nodes: u64, belts: &[(u64, u64, u64)], pairs: &[(u64, u64)]) -> Network {
-    let arc = |&(tail, head, capacity): &(u64, u64, u64)| Arc { tail, head, capacity };
+    let arc = |&(tail, head, capacity): &(u64, u64, u64)| Arc::one_way(tail, head, capacity);
     let commodity = |&(source, sink): &(u64, u64)| Commodity { source, sink };
     Network {
         nodes,
@@ -33,15 +58,26 @@ pub fn network(nodes: u64, belts: &[(u64, u64, u64)], pairs: &[(u64, u64)]) -> N
     }
 }
 
+impl Network {
+    /// With the belts of these numbers, from 1, reversible.
+    pub fn reversible(mut self, belts: &[usize]) -> Network {
+        belts.iter().for_each(|belt| self.arcs[belt - 1].mark = 1);
+        self
+    }
+}
+
 /// The seven numbers of the answer, in document 01's order: F, c(b), Y(b), the
 /// bound's D and alpha, the count of iterations, and which gave the bound.
 pub type Answer = [u64; 7];
 
-/// `flow` holds the amounts commodity by commodity, `lengths` the kept ones.
+/// `flow` holds the amounts commodity by commodity, below zero from head to tail,
+/// `lengths` the kept ones. `loads`, which no lent table has, are all that was drawn
+/// over each arc, before opposite draws of one commodity cancel.
 #[derive(Clone, Debug, PartialEq)]
 pub struct Solution {
-    pub flow: Vec<u64>,
+    pub flow: Vec<i64>,
     pub lengths: Vec<u64>,
+    pub loads: Vec<u64>,
     pub answer: Answer,
 }
 
@@ -51,6 +87,7 @@ impl Solution {
         Solution {
             flow: vec![0; net.commodities.len() * net.arcs.len()],
             lengths: vec![0; net.arcs.len()],
+            loads: vec![0; net.arcs.len()],
             answer: [0, 1, 1, 0, 1, 0, 0],
         }
     }

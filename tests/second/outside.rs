@@ -1,19 +1,23 @@
-//! What must hold of any accepted call, read off the library's bytes and not off
-//! a run of the method: document 01's flow and capacities, and the promises of
-//! total, bound and count.
+//! What must hold of any accepted call, read off the bytes that it leaves and not off
+//! a run of the method: document 01's flow and capacities with the signs of request
+//! C-12, and the promises of total, bound and count. Of the second solver it shares
+//! the load mark T alone.
 
 use crate::call::{get, numbers, Call};
-use crate::method::{threshold, weight};
-use crate::network::{Commodity, Network};
-use crate::solver::{distances, UNREACHED};
+use crate::method::threshold;
+use crate::network::{Arc, Commodity, Network};
 
+/// Longer than any path, and the sum of two still fits.
+const NONE: u64 = u64::MAX / 4;
+
+/// `sizes` has for each arc the sum of all commodities' amounts, without their signs.
 struct Plan {
     net: Network,
     q: u64,
-    flow: Vec<u64>,
+    flow: Vec<i64>,
     lengths: Vec<u64>,
     answer: Vec<u64>,
-    loads: Vec<u64>,
+    sizes: Vec<u64>,
 }
 
 /// The name of the first thing that fails.
@@ -39,21 +43,23 @@ impl Plan {
     fn read(before: &Call, after: &Call) -> Plan {
         let net = before.network();
         let (m, k) = (net.arcs.len(), net.commodities.len());
-        let flow = numbers(&after.flow)[..k * m].to_vec();
-        let loads = (0..m).map(|e| flow.iter().skip(e).step_by(m).sum()).collect();
+        let flow: Vec<i64> = numbers(&after.flow)[..k * m].iter().map(|x| *x as i64).collect();
+        let amounts = |e| flow.iter().skip(e).step_by(m);
+        let sizes = (0..m).map(|e| amounts(e).map(|x| x.unsigned_abs()).sum()).collect();
         let lengths = numbers(&after.length)[..m].to_vec();
-        Plan { net, q: before.q, flow, lengths, answer: numbers(&after.answer), loads }
+        Plan { net, q: before.q, flow, lengths, answer: numbers(&after.answer), sizes }
     }
 
     fn check_unjoined(&self) -> Result<(), &'static str> {
         let ones = vec![1; self.net.arcs.len()];
-        holds(self.alpha(&ones) == UNREACHED.length, "said to be unjoined, and a pair is joined")?;
+        holds(self.alpha(&ones) == NONE, "said to be unjoined, and a pair is joined")?;
         holds(self.answer[..7] == [0, 1, 1, 0, 1, 0, 0], "an unjoined answer has other numbers")?;
-        let zeros = self.flow.iter().chain(&self.lengths).all(|number| *number == 0);
+        let zeros = self.flow.iter().all(|x| *x == 0) && self.lengths.iter().all(|l| *l == 0);
         holds(zeros, "an unjoined plan is not zero")
     }
 
     fn check_joined(&self) -> Result<(), &'static str> {
+        holds(self.runs_as_it_may(), "an amount runs against a belt that is not reversible")?;
         holds(self.balanced(), "what enters a station does not leave it")?;
         holds(self.total() == i128::from(self.answer[0]), "the pairs' amounts do not sum to F")?;
         self.check_scale()?;
@@ -65,11 +71,11 @@ impl Plan {
 
     fn check_scale(&self) -> Result<(), &'static str> {
         let (capacity, load) = (self.answer[1], self.answer[2]);
-        let arcs = || self.net.arcs.iter().zip(&self.loads);
+        let arcs = || self.net.arcs.iter().zip(&self.sizes);
         let mut fits =
             arcs().map(|(arc, y)| wide(*y) * wide(capacity) <= wide(arc.capacity) * wide(load));
         holds(fits.all(|fits| fits), "a belt is over its capacity after the scale")?;
-        let mut given = arcs().map(|(arc, y)| (arc.capacity, *y) == (capacity, load));
+        let mut given = arcs().map(|(arc, y)| arc.capacity == capacity && drawn(arc, *y, load));
         holds(given.any(|given| given), "the scale is no belt's")?;
         holds(load >= capacity * threshold(&self.net, self.q), "ended below the load mark")
     }
@@ -77,7 +83,9 @@ impl Plan {
     /// The lengths are a certificate: D and alpha follow from them.
     fn check_bound(&self) -> Result<(), &'static str> {
         let [drawn, capacity, load, d, alpha] = [0, 1, 2, 3, 4].map(|i| wide(self.answer[i]));
-        holds(wide(weight(&self.net, &self.lengths)) == d, "D is not that of the lengths")?;
+        let weights = self.net.arcs.iter().zip(&self.lengths);
+        let weight: u128 = weights.map(|(arc, l)| wide(arc.capacity) * wide(*l)).sum();
+        holds(weight == d, "D is not that of the lengths")?;
         holds(wide(self.alpha(&self.lengths)) == alpha, "alpha is not that of the lengths")?;
         holds(drawn * capacity * alpha <= d * load, "the total is above the bound")?;
         let q = wide(self.q);
@@ -86,9 +94,14 @@ impl Plan {
     }
 
     fn alpha(&self, lengths: &[u64]) -> u64 {
-        let to = |pair: &Commodity| distances(&self.net, lengths, pair.sink);
-        let of = |pair: &Commodity| to(pair)[pair.source as usize].length;
-        self.net.commodities.iter().map(of).min().unwrap_or(UNREACHED.length)
+        let shortest = shortest(&self.net, lengths);
+        let of = |pair: &Commodity| shortest[pair.source as usize][pair.sink as usize];
+        self.net.commodities.iter().map(of).min().unwrap_or(NONE)
+    }
+
+    fn runs_as_it_may(&self) -> bool {
+        let arcs = self.net.arcs.iter().cycle();
+        arcs.zip(&self.flow).all(|(arc, amount)| *amount >= 0 || arc.mark != 0)
     }
 
     /// What leaves a node less what enters it, of one commodity.
@@ -112,4 +125,32 @@ impl Plan {
         let pairs = self.net.commodities.iter().enumerate();
         pairs.map(|(i, pair)| self.net_out(i, pair.source)).sum()
     }
+}
+
+/// Whether so much can have been drawn over an arc whose amounts have these sizes:
+/// what cancels is drawn twice, once in each direction.
+fn drawn(arc: &Arc, size: u64, load: u64) -> bool {
+    size == load || arc.mark != 0 && size < load && (load - size) % 2 == 0
+}
+
+/// The least length of a path between any two nodes, through more and more of them
+/// (Floyd and Warshall).
+fn shortest(net: &Network, lengths: &[u64]) -> Vec<Vec<u64>> {
+    let nodes = net.nodes as usize + 1;
+    let mut shortest = vec![vec![NONE; nodes]; nodes];
+    for (arc, length) in net.arcs.iter().zip(lengths) {
+        let (tail, head) = (arc.tail as usize, arc.head as usize);
+        shortest[tail][head] = shortest[tail][head].min(*length);
+        if arc.mark != 0 {
+            shortest[head][tail] = shortest[head][tail].min(*length);
+        }
+    }
+    for through in 1..nodes {
+        let onward = shortest[through].clone();
+        for row in &mut shortest {
+            let so_far = row[through];
+            row.iter_mut().zip(&onward).for_each(|(l, more)| *l = (*l).min(so_far + more));
+        }
+    }
+    shortest
 }

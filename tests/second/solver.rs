@@ -1,6 +1,6 @@
-//! The second solver, plain form: written from document 01 and the tie rule of
-//! request C-16, step by step, with a Bellman-Ford search for every commodity at
-//! every iteration.
+//! The second solver, plain form: written from document 01, the tie rule of request
+//! C-16 and the reversible belts of C-12, step by step, with a Bellman-Ford search
+//! for every commodity at every iteration.
 
 use crate::method::{
     fraction_below, fullest, grown, halved, start, threshold, weight, Bound, MARK,
@@ -40,7 +40,7 @@ struct Run<'a> {
     net: &'a Network,
     q: u64,
     lengths: Vec<u64>,
-    flow: Vec<u64>,
+    flow: Vec<i64>,
     loads: Vec<u64>,
     drawn: u64,
     iterations: u64,
@@ -92,11 +92,14 @@ pub fn distances(net: &Network, lengths: &[u64], sink: u64) -> Distances {
 fn relax_all(net: &Network, lengths: &[u64], distances: &mut Distances) -> bool {
     let mut changed = false;
     for (arc, length) in net.arcs.iter().zip(lengths) {
-        let onward = distances[arc.head as usize];
-        let tail = &mut distances[arc.tail as usize];
-        if onward != UNREACHED && onward.after(*length) < *tail {
-            *tail = onward.after(*length);
-            changed = true;
+        for from in [arc.tail, arc.head] {
+            let Some(to) = arc.leads(from) else { continue };
+            let onward = distances[to as usize];
+            let known = &mut distances[from as usize];
+            if onward != UNREACHED && onward.after(*length) < *known {
+                *known = onward.after(*length);
+                changed = true;
+            }
         }
     }
     changed
@@ -111,16 +114,16 @@ fn first_path(net: &Network, lengths: &[u64], distances: &Distances, i: usize) -
         let next = (0..net.arcs.len()).find(|&e| tight(net, lengths, distances, node, e));
         let arc = next.expect("a node that reaches the sink has a tight arc");
         path.push(arc);
-        node = net.arcs[arc].head;
+        node = net.arcs[arc].leads(node).expect("a tight arc leads on");
     }
     path
 }
 
 fn tight(net: &Network, lengths: &[u64], distances: &Distances, node: u64, e: usize) -> bool {
-    let onward = distances[net.arcs[e].head as usize];
-    net.arcs[e].tail == node
-        && onward != UNREACHED
-        && onward.after(lengths[e]) == distances[node as usize]
+    net.arcs[e].leads(node).is_some_and(|next| {
+        let onward = distances[next as usize];
+        onward != UNREACHED && onward.after(lengths[e]) == distances[node as usize]
+    })
 }
 
 impl<'a> Run<'a> {
@@ -164,10 +167,13 @@ impl<'a> Run<'a> {
         let arcs = &self.net.arcs;
         let capacities = choice.path.iter().map(|&e| arcs[e].capacity);
         let draw = capacities.min().expect("a path has an arc, as its ends differ");
+        let mut node = self.net.commodities[choice.commodity].source;
         for &e in &choice.path {
-            self.flow[choice.commodity * arcs.len() + e] += draw;
+            let amount = &mut self.flow[choice.commodity * arcs.len() + e];
+            *amount += if arcs[e].tail == node { draw as i64 } else { -(draw as i64) };
             self.loads[e] += draw;
             self.lengths[e] = grown(self.lengths[e], &arcs[e], draw, self.q);
+            node = arcs[e].leads(node).expect("an arc of a path leads on");
         }
         self.drawn += draw;
     }
@@ -180,18 +186,15 @@ impl<'a> Run<'a> {
     fn solution(self) -> Solution {
         let b = fullest(self.net, &self.loads);
         let bound = self.bound.expect("the threshold is reached by drawing");
-        Solution {
-            flow: self.flow,
-            lengths: bound.lengths,
-            answer: [
-                self.drawn,
-                self.net.arcs[b].capacity,
-                self.loads[b],
-                bound.weight,
-                bound.alpha,
-                self.iterations,
-                bound.iteration,
-            ],
-        }
+        let answer = [
+            self.drawn,
+            self.net.arcs[b].capacity,
+            self.loads[b],
+            bound.weight,
+            bound.alpha,
+            self.iterations,
+            bound.iteration,
+        ];
+        Solution { flow: self.flow, lengths: bound.lengths, loads: self.loads, answer }
     }
 }

@@ -2,6 +2,7 @@
 //! solver's, and the count of what was seen.
 
 use crate::call::{get, Call};
+use crate::fast;
 use crate::guarded;
 use crate::network::{Arc, Commodity, Network, Solution};
 use crate::outside;
@@ -12,6 +13,7 @@ const SHOWN: usize = 10;
 
 #[derive(Clone, Copy, Default)]
 pub struct Tally {
+    forms: bool,
     pub solved: u64,
     pub unjoined: u64,
     pub refused: u64,
@@ -19,6 +21,11 @@ pub struct Tally {
 }
 
 impl Tally {
+    /// With `forms` the fast form stands in for the library.
+    pub fn new(forms: bool) -> Tally {
+        Tally { forms, ..Tally::default() }
+    }
+
     fn calls(&self) -> u64 {
         self.solved + self.unjoined + self.refused
     }
@@ -35,7 +42,10 @@ impl Tally {
 
     pub fn compare_with(&mut self, name: &str, call: &Call, wanted: (u64, Call)) -> Call {
         self.count(&wanted);
-        let found = guarded::call_library(call);
+        let found = match self.forms {
+            true => Ok(call.answered(fast::solve)),
+            false => guarded::call_library(call),
+        };
         let verdict = found.as_ref().map_err(String::clone).and_then(|found| {
             first_difference(&wanted, found)?;
             checked(call, found)
@@ -62,7 +72,7 @@ impl Tally {
     }
 
     pub fn close(&self) -> ExitCode {
-        let Tally { solved, unjoined, refused, differences } = self;
+        let Tally { solved, unjoined, refused, differences, .. } = self;
         println!(
             "compare: {} calls ({solved} solved, {unjoined} unjoined, {refused} refused), \
              {differences} differences",
@@ -108,7 +118,10 @@ fn slices<'a>(a: &'a Call, b: &'a Call) -> [(&'static str, &'a [u8], &'a [u8]); 
 /// Enough to make the call again.
 fn describe(call: &Call) {
     let net = call.network();
-    let belt = |arc: &Arc| format!(" {}-{}:{}", arc.tail, arc.head, arc.capacity);
+    let belt = |arc: &Arc| match arc.mark {
+        0 => format!(" {}-{}:{}", arc.tail, arc.head, arc.capacity),
+        mark => format!(" {}-{}:{}*{mark}", arc.tail, arc.head, arc.capacity),
+    };
     let pair = |pair: &Commodity| format!(" {}-{}", pair.source, pair.sink);
     let belts: String = net.arcs.iter().take(256).map(belt).collect();
     let pairs: String = net.commodities.iter().take(32).map(pair).collect();

@@ -90,7 +90,7 @@ fn tangle(random: &mut Random) -> Network {
     let most = random.pick(&[2, 4]);
     let arc = |random: &mut Random| {
         let (tail, head) = two_nodes(1, nodes, random);
-        Arc { tail, head, capacity: power(most, random) }
+        Arc::one_way(tail, head, power(most, random))
     };
     let commodity = |random: &mut Random| {
         let (source, sink) = two_nodes(1, nodes, random);

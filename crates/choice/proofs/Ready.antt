@@ -24,7 +24,7 @@ sound-survey {net} {q} sound bounds long =
 
 -- One arc and one commodity, from 1 to 2.
 pair : Network
-pair = record { nodes = 2; tails = 1 ∷ []; heads = 2 ∷ []; capacities = 1 ∷ []; sources = 1 ∷ []; sinks = 2 ∷ [] }
+pair = record { nodes = 2; tails = 1 ∷ []; heads = 2 ∷ []; capacities = 1 ∷ []; marks = 0 ∷ []; sources = 1 ∷ []; sinks = 2 ∷ [] }
 
 -- What holds of 0 holds below 1.
 only : (P : ℕ → Type 0) → P 0 → (i : ℕ) → i < 1 → P i

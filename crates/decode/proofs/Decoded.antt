@@ -1,24 +1,25 @@
 -- Columns read to their places, one after the other, are the network in the bytes. Assumes nothing.
-use mathlib.Core.Path.{_≡_, refl, ap, _∙_}
+use mathlib.Core.Path.{_≡_, refl, _∙_}
 use mathlib.Core.List.{List, _++_, append-nil}
+use mathlib.Core.Logic.{_⊎_, inl, inr, ⊎-elim}
 use Prim.Native.Nat.{ℕ, _+_, _-_, _≤_}
 use native.Mathlib.Nat.{le-of-eq}
 use native.Mathlib.Omega.{arith}
 use borrow.Rule.Slice.PartMut.{putMid, same-len-mid}
 use lib.ListN.{length, drop, drop-of-length-le}
-use Rattle.numbers.specs.Numbers.{items, column}
+use Rattle.numbers.specs.Numbers.{column}
 use Rattle.packed.specs.Packed as packed
-use Rattle.packed.specs.Packed.{netIn}
+use Rattle.packed.specs.Packed.{netIn, tailsFrom, headsFrom, capacitiesFrom, sourcesFrom, sinksFrom, marksFrom}
 use Rattle.packed.specs.declared.Shape.{Shape}
-use Rattle.packed.proofs.Columns.{part-length, part-put, part-before}
-use Rattle.decode.specs.Calls.{Decoding}
+use Rattle.packed.proofs.Columns.{part-length, part-put, part-before, part-behind}
+use Rattle.decode.specs.Calls.{OfPairs, PairsRead, OfBelts, BeltsRead, Decoding}
 use Rattle.decode.specs.Decode.{networkIn}
 
--- Member j of the first n items stands from place a on, and what was before it still does.
+-- Member j of the first n items stands from place a on, and every other column is as it was.
 pub record Filled (bytes : List ℕ) (k j a n : ℕ) (xs new : List ℕ) : Type 0 where
   pub size : length new ≡ length xs
   pub holds : packed.part a n new ≡ column bytes k j n
-  pub kept : (b i : ℕ) → b + i ≤ a → packed.part b i new ≡ packed.part b i xs
+  pub kept : (b i : ℕ) → (b + i ≤ a) ⊎ (a + n ≤ b) → packed.part b i new ≡ packed.part b i xs
 
 -- So it is where those n places were lent and read into.
 pub fills :
@@ -29,65 +30,77 @@ fills bytes k j a n xs ys same read h =
     record {
       size = same-len-mid a (a + n - a) xs ys same;
       holds = part-put a n xs ys h (same ∙ size) ∙ (read ∙ rw (drop-of-length-le (packed.part a n xs) {i = n} (le-of-eq size), append-nil) refl);
-      kept = λ b i past. part-before a n xs b i ys (omega arith) past;
+      kept = λ b i.
+          ⊎-elim
+          (λ (past : b + i ≤ a). part-before a n xs b i ys (omega arith) past)
+          (λ (past : a + n ≤ b). part-behind a n xs ys h (same ∙ size) b i past);
     }
 
--- One column after the other, where the slice has its places.
-module _ {s : Shape} {belts pairs x₀ x₁ x₂ x₃ x₄ x₅ : List ℕ} (d : Decoding s belts pairs x₀)
-    (tails : 0 + s .arcs ≤ length x₀ → Filled belts 3 0 0 (s .arcs) x₀ x₁)
-    (heads : 256 + s .arcs ≤ length x₁ → Filled belts 3 1 256 (s .arcs) x₁ x₂)
-    (capacities : 512 + s .arcs ≤ length x₂ → Filled belts 3 2 512 (s .arcs) x₂ x₃)
-    (sources : 768 + s .commodities ≤ length x₃ → Filled pairs 2 0 768 (s .commodities) x₃ x₄)
-    (sinks : 800 + s .commodities ≤ length x₄ → Filled pairs 2 1 800 (s .commodities) x₄ x₅) where
-  few-arcs : s .arcs ≤ 256
-  few-arcs = d .packed .few-arcs
+-- The two columns of the pairs,
+module _ {s : Shape} {pairs x₀ x₁ x₂ : List ℕ} (d : OfPairs s pairs x₀)
+    (sources : sourcesFrom + s .commodities ≤ length x₀ → Filled pairs 2 0 sourcesFrom (s .commodities) x₀ x₁)
+    (sinks : sinksFrom + s .commodities ≤ length x₁ → Filled pairs 2 1 sinksFrom (s .commodities) x₁ x₂) where
+  pub pairs-read : PairsRead s pairs x₀ x₂
+  pairs-read =
+      let few = d .packed .few-commodities in let places = d .packed .places in
+      let first = sources (omega (arith, few, places)) in
+      let second = sinks (omega (arith, few, places, first .size)) in
+      record {
+        size = second .size ∙ first .size;
+        sources = second .kept sourcesFrom (s .commodities) (inl (omega (arith, few))) ∙ first .holds;
+        sinks = second .holds;
+      }
 
-  few-commodities : s .commodities ≤ 32
-  few-commodities = d .packed .few-commodities
+-- and the four of the belts.
+module _ {s : Shape} {belts x₀ x₁ x₂ x₃ x₄ : List ℕ} (d : OfBelts s belts x₀)
+    (tails : tailsFrom + s .arcs ≤ length x₀ → Filled belts 4 0 tailsFrom (s .arcs) x₀ x₁)
+    (heads : headsFrom + s .arcs ≤ length x₁ → Filled belts 4 1 headsFrom (s .arcs) x₁ x₂)
+    (capacities : capacitiesFrom + s .arcs ≤ length x₂ → Filled belts 4 2 capacitiesFrom (s .arcs) x₂ x₃)
+    (marks : marksFrom + s .arcs ≤ length x₃ → Filled belts 4 3 marksFrom (s .arcs) x₃ x₄) where
+  few : s .arcs ≤ 256
+  few = d .packed .few-arcs
 
-  first : Filled belts 3 0 0 (s .arcs) x₀ x₁
-  first = tails (omega (arith, few-arcs, d .packed .places))
+  places : 1088 ≤ length x₀
+  places = d .packed .places
 
-  second : Filled belts 3 1 256 (s .arcs) x₁ x₂
-  second = heads (omega (arith, few-arcs, d .packed .places, first .size))
+  first : Filled belts 4 0 tailsFrom (s .arcs) x₀ x₁
+  first = tails (omega (arith, few, places))
 
-  third : Filled belts 3 2 512 (s .arcs) x₂ x₃
-  third = capacities (omega (arith, few-arcs, d .packed .places, first .size, second .size))
+  second : Filled belts 4 1 headsFrom (s .arcs) x₁ x₂
+  second = heads (omega (arith, few, places, first .size))
 
-  fourth : Filled pairs 2 0 768 (s .commodities) x₃ x₄
-  fourth = sources (omega (arith, few-commodities, d .packed .places, first .size, second .size, third .size))
+  third : Filled belts 4 2 capacitiesFrom (s .arcs) x₂ x₃
+  third = capacities (omega (arith, few, places, first .size, second .size))
 
-  fifth : Filled pairs 2 1 800 (s .commodities) x₄ x₅
-  fifth = sinks (omega (arith, few-commodities, d .packed .places, first .size, second .size, third .size, fourth .size))
+  fourth : Filled belts 4 3 marksFrom (s .arcs) x₃ x₄
+  fourth = marks (omega (arith, few, places, first .size, second .size, third .size))
 
-  pub decoded-size : length x₅ ≡ length x₀
-  decoded-size = omega (arith, first .size, second .size, third .size, fourth .size, fifth .size)
+  -- A column between capacities and marks is left alone by all.
+  between : (b i : ℕ) → capacitiesFrom + s .arcs ≤ b → b + i ≤ marksFrom → packed.part b i x₄ ≡ packed.part b i x₀
+  between b i low high =
+      fourth .kept b i (inl high) ∙
+      (third .kept b i (inr low) ∙ (second .kept b i (inr (omega arith)) ∙ first .kept b i (inr (omega arith))))
 
-  of-tails : packed.part 0 (s .arcs) x₅ ≡ column belts 3 0 (items 3 belts)
-  of-tails =
-      fifth .kept 0 (s .arcs) (omega (arith, few-arcs)) ∙
-      (fourth .kept 0 (s .arcs) (omega (arith, few-arcs)) ∙
-      (third .kept 0 (s .arcs) (omega (arith, few-arcs)) ∙
-      (second .kept 0 (s .arcs) (omega (arith, few-arcs)) ∙ (first .holds ∙ ap (column belts 3 0) (d .arcs)))))
+  pub belts-read : BeltsRead s belts x₀ x₄
+  belts-read =
+      let k = d .packed .few-commodities in
+      record {
+        size = fourth .size ∙ (third .size ∙ (second .size ∙ first .size));
+        tails =
+            fourth .kept tailsFrom (s .arcs) (inl (omega (arith, few))) ∙
+            (third .kept tailsFrom (s .arcs) (inl (omega (arith, few))) ∙ (second .kept tailsFrom (s .arcs) (inl (omega (arith, few))) ∙ first .holds));
+        heads =
+            fourth .kept headsFrom (s .arcs) (inl (omega (arith, few))) ∙
+            (third .kept headsFrom (s .arcs) (inl (omega (arith, few))) ∙ second .holds);
+        capacities = fourth .kept capacitiesFrom (s .arcs) (inl (omega (arith, few))) ∙ third .holds;
+        marks = fourth .holds;
+        sources = between sourcesFrom (s .commodities) (omega (arith, few)) (omega (arith, k));
+        sinks = between sinksFrom (s .commodities) (omega (arith, few)) (omega (arith, k));
+      }
 
-  of-heads : packed.part 256 (s .arcs) x₅ ≡ column belts 3 1 (items 3 belts)
-  of-heads =
-      fifth .kept 256 (s .arcs) (omega (arith, few-arcs)) ∙
-      (fourth .kept 256 (s .arcs) (omega (arith, few-arcs)) ∙
-      (third .kept 256 (s .arcs) (omega (arith, few-arcs)) ∙ (second .holds ∙ ap (column belts 3 1) (d .arcs))))
-
-  of-capacities : packed.part 512 (s .arcs) x₅ ≡ column belts 3 2 (items 3 belts)
-  of-capacities =
-      fifth .kept 512 (s .arcs) (omega (arith, few-arcs)) ∙
-      (fourth .kept 512 (s .arcs) (omega (arith, few-arcs)) ∙ (third .holds ∙ ap (column belts 3 2) (d .arcs)))
-
-  of-sources : packed.part 768 (s .commodities) x₅ ≡ column pairs 2 0 (items 2 pairs)
-  of-sources =
-      fifth .kept 768 (s .commodities) (omega (arith, few-commodities)) ∙ (fourth .holds ∙ ap (column pairs 2 0) (d .commodities))
-
-  of-sinks : packed.part 800 (s .commodities) x₅ ≡ column pairs 2 1 (items 2 pairs)
-  of-sinks = fifth .holds ∙ ap (column pairs 2 1) (d .commodities)
-
-  pub decoded : netIn s x₅ ≡ networkIn (s .nodes) belts pairs
-  unfolding netIn networkIn
-  decoded = rw (of-tails, of-heads, of-capacities, of-sources, of-sinks) refl
+-- All of them are the network.
+pub decoded :
+    {s : Shape} {belts pairs x₀ x₁ x₂ : List ℕ} → Decoding s belts pairs x₀ → PairsRead s pairs x₀ x₁ → BeltsRead s belts x₁ x₂ →
+    netIn s x₂ ≡ networkIn (s .nodes) belts pairs
+unfolding netIn networkIn
+decoded d p b = rw (b .tails, b .heads, b .capacities, b .marks, b .sources, b .sinks, p .sources, p .sinks, d .arcs, d .commodities) refl

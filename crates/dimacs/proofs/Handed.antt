@@ -4,7 +4,7 @@ use mathlib.Core.Path.{_≡_, refl, sym, ap, _∙_}
 use mathlib.Core.List.{List, [], _∷_}
 use Prim.Native.Nat.{ℕ}
 use native.Mathlib.Omega.{arith}
-use lib.ListN.{length, getD, take}
+use lib.ListN.{length, getD, take, replicate}
 use lib.Seq.{take-at}
 use Rattle.network.specs.Network.{Network}
 use Rattle.network.specs.declared.Refusal.{Refusal}
@@ -23,6 +23,7 @@ handedOver r =
       tails = take (r .arcs) (r .tails);
       heads = take (r .arcs) (r .heads);
       capacities = take (r .arcs) (r .capacities);
+      marks = replicate (r .arcs) 0;
       sources = r .source ∷ [];
       sinks = r .sink ∷ [];
     }
@@ -43,6 +44,7 @@ unpadded net s =
       cut (net .tails) refl,
       cut (net .heads) (s .of-heads),
       cut (net .capacities) (s .of-capacities),
+      s .of-marks,
       one (net .sources) (s .of-sources),
       one (net .sinks) (s .of-sinks),
     )

@@ -35,6 +35,7 @@ module _ (p : Progress) (k : Kept p) where
         of-arcs = rw (eqb-true (length (p .tails)) (p .wanted) e) (k .wanted);
         of-heads = k .heads;
         of-capacities = k .capacities;
+        of-marks = refl;
         of-sources = refl;
         of-sinks = refl;
       }

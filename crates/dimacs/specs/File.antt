@@ -4,7 +4,7 @@ use mathlib.Core.List.{List, [], _∷_}
 use mathlib.Core.Option.{Option, none, some}
 use Prim.Native.Nat.{ℕ}
 use lib.Dec.{ltb, eqb}
-use lib.ListN.{length}
+use lib.ListN.{length, replicate}
 use Rattle.bounds.specs.Bounds.{mostBytes}
 use Rattle.network.specs.Network.{Network}
 use Rattle.network.specs.declared.Refusal.{Refusal}
@@ -18,10 +18,18 @@ pub data File : Type 0 where
   holds : Network → File
   refused : Refusal → File
 
--- the network of what was read: the node with s and the node with t "are source and sink of the only pair"
+-- the network of what was read: the node with s and the node with t "are source and sink of the only pair", and no arc is marked
 unfoldable pub networkRead : Progress → ℕ → ℕ → Network
 networkRead p s t =
-    record { nodes = p .nodes; tails = p .tails; heads = p .heads; capacities = p .capacities; sources = s ∷ []; sinks = t ∷ [] }
+    record {
+      nodes = p .nodes;
+      tails = p .tails;
+      heads = p .heads;
+      capacities = p .capacities;
+      marks = replicate (length (p .tails)) 0;
+      sources = s ∷ [];
+      sinks = t ∷ [];
+    }
 
 -- The end of the file shows a missing s, t or a line: the place is then 0.
 unfoldable pub complete : Progress → Option ℕ → Option ℕ → File

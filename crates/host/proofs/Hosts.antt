@@ -78,13 +78,13 @@ module _ (n m k q : ℕ) (s : Slices) (h : verdict (callConditions n m k q s) �
   call-open = open-for k m s (quiet-accepted (each-right (sizeConditions n m k q) quiet))
 
 -- By the counts m and k of complete items.
-module _ (n q : ℕ) (belts pairs : List ℕ) (s : Slices) {m k : ℕ} (e : m ≡ items 3 belts) (f : k ≡ items 2 pairs) where
+module _ (n q : ℕ) (belts pairs : List ℕ) (s : Slices) {m k : ℕ} (e : m ≡ items 4 belts) (f : k ≡ items 2 pairs) where
   abbrev net : Network
   net = networkIn n belts pairs
 
   by-items : verdictIn net q s ≡ verdict (callConditions n m k q s ++ itemConditions net)
   unfolding verdictOn networkIn
-  by-items = rw (e, f, length-column belts 3 0 (items 3 belts), length-column pairs 2 0 (items 2 pairs), append-assoc) refl
+  by-items = rw (e, f, length-column belts 4 0 (items 4 belts), length-column pairs 2 0 (items 2 pairs), append-assoc) refl
 
   pub refused-in : (w : Refusal) → verdict (callConditions n m k q s) ≡ Refused w → verdictIn net q s ≡ Refused w
   refused-in w h = by-items ∙ first-refuses (callConditions n m k q s) _ w h

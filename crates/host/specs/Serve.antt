@@ -16,7 +16,7 @@ callConditions n m k q s = sizeConditions n m k q ++ hostConditions k m s
 
 -- The shape counts the complete items, within their bounds, and the tables have room for it.
 pub record Sizable (s : Shape) (q : ℕ) (belts pairs : List ℕ) (t : Slices) : Type 0 where
-  pub arcs : s .arcs ≡ items 3 belts
+  pub arcs : s .arcs ≡ items 4 belts
   pub commodities : s .commodities ≡ items 2 pairs
   pub counts : Counts (s .nodes) (s .arcs) (s .commodities) q
   pub open-for : Open (s .commodities) (s .arcs) t

@@ -24,7 +24,7 @@ pub fn solve(
 {
     let s = Shape {
         nodes: n,
-        arcs: numbers::items(belts, 3),
+        arcs: numbers::items(belts, 4),
         commodities: numbers::items(pairs, 2),
     };
     let v = room::check_call(s, q, flow, lengths, answer, running);

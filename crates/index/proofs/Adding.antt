@@ -1,31 +1,33 @@
 -- One arc more in an index on its way: there is room for it, and it is put behind the others of its node.
 -- Assumes nothing.
-use mathlib.Core.Path.{_≡_, refl, sym, ap, _∙_}
+use mathlib.Core.Path.{_≡_, sym, _∙_}
 use mathlib.Core.Logic.{_⊎_, ⊎-elim}
 use mathlib.Core.List.{List}
 use Prim.Native.Nat.{ℕ, _+_, _≤_, _<_}
 use native.Mathlib.Nat.{eq-or-lt-of-le, le-refl}
 use native.Mathlib.Omega.{arith}
-use lib.ListN.{length, getD}
-use Rattle.bounds.specs.Bounds.{mostArcs}
 use Rattle.index.specs.Index.{begins, Place}
-use Rattle.index.specs.Indexing.{Joins, Upto, Building, Putting, placed}
-use Rattle.index.proofs.Counts.{taken-within, taken-put}
+use Rattle.index.specs.Indexing.{Side, Joining, forth, back, Joins, Seeing, Upto, Building, Putting, placed}
+use Rattle.index.proofs.Counts.{used-within, used-put}
 use Rattle.index.proofs.Putting.{put-length, put-next, put-begins, put-place, place-put, put-places}
 
-module _ {here there : List ℕ} {v : ℕ} {e : ℕ} {ix : List ℕ} (B : Building here there v e ix) (few : length here ≤ mostArcs) (b : e < length here) where
-  -- There is room for one more,
-  pub building-room : Putting v ix
-  building-room =
-      record {
-        node = B .index .nodes;
-        place = omega (arith, B .few, taken-within here v e (omega arith));
-        numbers = B .index .numbers;
-      }
+-- An arc has one other end, seen from v.
+joining-same : {c : Side} {v e w x : ℕ} → Joining c v e w → Joining c v e x → w ≡ x
+joining-same (forth p q) (forth r s) = sym q ∙ s
+joining-same (forth p q) (back m r s) = sym q ∙ (r ∙ (sym p ∙ s))
+joining-same (back m p q) (forth r s) = sym q ∙ (r ∙ (sym p ∙ s))
+joining-same (back m p q) (back n r s) = sym q ∙ s
 
-  module _ (q : getD here e 0 ≡ v) where
-    abbrev w : ℕ
-    w = getD there e 0
+module _ {c : Side} {v : ℕ} {e : ℕ} {ix : List ℕ} (B : Building c v e ix) (S : Seeing c e) where
+  module _ {w : ℕ} (J : Joining c v e w) where
+    -- There is room for one more,
+    pub building-room : Putting v ix
+    building-room =
+        record {
+          node = B .index .nodes;
+          place = omega (arith, B .few, used-put c v e w J, used-within c v (e + 1) (S .columns) (omega (arith, S .arc)), S .columns .few);
+          numbers = B .index .numbers;
+        }
 
     -- the place that is added
     abbrev New : ℕ → ℕ → ℕ → ℕ → Type 0
@@ -45,25 +47,25 @@ module _ {here there : List ℕ} {v : ℕ} {e : ℕ} {ix : List ℕ} (B : Buildi
         (eq-or-lt-of-le c)
 
     -- the arcs that it has now
-    new : Upto here there v (e + 1) v e w
-    new = record { joins = record { arc = b; at = q; other = refl }; first = λ s. omega arith }
+    new : Upto c v (e + 1) v e w
+    new = record { joins = record { arc = S .arc; way = J }; first = λ s. omega arith }
 
-    on : {u f x : ℕ} → Upto here there v e u f x → Upto here there v (e + 1) u f x
+    on : {u f x : ℕ} → Upto c v e u f x → Upto c v (e + 1) u f x
     on U = record { joins = U .joins; first = λ s. omega (arith, U .first s) }
 
     -- an arc that was there
-    old : {u f x : ℕ} → u ≤ v → Upto here there v e u f x → (p : ℕ) × Place (placed v e w ix) u p f x
+    old : {u f x : ℕ} → u ≤ v → Upto c v e u f x → (p : ℕ) × Place (placed v e w ix) u p f x
     old {u} {f} {x} c U =
         let r = B .index .whole u f x c U in
         (r .0, place-put building-room e w c (B .order (u + 1) (omega arith)) (r .1))
 
     -- the arc that is put
-    put-arc : {u f x : ℕ} → u ≡ v → f ≡ e → Joins here there u f x → (p : ℕ) × Place (placed v e w ix) u p f x
-    put-arc {u} {f} {x} s r J =
-        let z : x ≡ w = sym (J .other) ∙ ap (λ i. getD there i 0) r in
+    put-arc : {u f x : ℕ} → u ≡ v → f ≡ e → Joins c u f x → (p : ℕ) × Place (placed v e w ix) u p f x
+    put-arc {u} {f} {x} s r K =
+        let z : x ≡ w = joining-same (rw (s, r) at (K .way)) J in
         (begins ix (v + 1), rw (s, r, z) (put-place building-room e w (B .order v (omega arith))))
 
-    whole : (u f x : ℕ) → u ≤ v → Upto here there v (e + 1) u f x → (p : ℕ) × Place (placed v e w ix) u p f x
+    whole : (u f x : ℕ) → u ≤ v → Upto c v (e + 1) u f x → (p : ℕ) × Place (placed v e w ix) u p f x
     whole u f x c U =
         ⊎-elim
         (λ (s : u ≡ v). ⊎-elim
@@ -74,7 +76,7 @@ module _ {here there : List ℕ} {v : ℕ} {e : ℕ} {ix : List ℕ} (B : Buildi
         (eq-or-lt-of-le c)
 
     -- and it is put behind the others.
-    pub building-put : Building here there v (e + 1) (placed v e (getD there e 0) ix)
+    pub building-put : Building c v (e + 1) (placed v e w ix)
     building-put =
         record {
           index =
@@ -99,5 +101,5 @@ module _ {here there : List ℕ} {v : ℕ} {e : ℕ} {ix : List ℕ} (B : Buildi
                     (places c P);
               };
           order = order;
-          few = omega (arith, next, taken-put here v e q, B .few);
+          few = omega (arith, next, used-put c v e w J, B .few);
         }

@@ -1,16 +1,16 @@
 -- An index on its way: empty at first, arcs at other nodes passed by, and the whole of it.
 -- Assumes nothing.
-use mathlib.Core.Path.{_≡_, sym, ap, _∙_}
+use mathlib.Core.Path.{_≡_, _∙_}
 use mathlib.Core.Logic.{⊎-elim}
 use mathlib.Core.List.{List}
 use Prim.Native.Nat.{ℕ, zero, suc, _+_, _≤_, _<_}
 use native.Mathlib.Nat.{eq-or-lt-of-le}
 use native.Mathlib.Omega.{arith}
-use lib.ListN.{length, getD, set, length-set}
+use lib.ListN.{length, set, length-set}
 use lib.Seq.{getD-set-same, getD-set-other}
 use Rattle.index.specs.Index.{indexNumbers, begins, Place, Index}
-use Rattle.index.specs.Indexing.{Joins, Building}
-use Rattle.index.proofs.Counts.{taken-on}
+use Rattle.index.specs.Indexing.{Side, Columns, Joining, forth, back, Joins, Building}
+use Rattle.index.proofs.Counts.{used-on}
 
 -- The same index by another relation that tells the same.
 pub index-same :
@@ -27,7 +27,7 @@ index-same to from I =
     }
 
 -- Node 0 has no arc.
-module _ (here there ix : List ℕ) (ends : (e : ℕ) → e < length here → 1 ≤ getD here e 0) (h : indexNumbers ≤ length ix) where
+module _ (c : Side) (C : Columns c) (ix : List ℕ) (h : indexNumbers ≤ length ix) where
   abbrev none : List ℕ
   none = set (set ix 0 0) 1 0
 
@@ -39,7 +39,12 @@ module _ (here there ix : List ℕ) (ends : (e : ℕ) → e < length here → 1 
   none-place : {v p e w : ℕ} → v ≤ 0 → Place none v p e w → ⊥
   none-place {v} b P = omega (arith, P .below, none-at (v + 1) (omega arith))
 
-  pub building-none : Building here there 0 (length here) none
+  -- no arc is there
+  none-joins : {v e w : ℕ} → v ≤ 0 → e < length (c .here) → Joining c v e w → ⊥
+  none-joins {v} {e} b l (forth q r) = omega (arith, C .ends e l)
+  none-joins {v} {e} b l (back m q r) = omega (arith, C .other-ends e l)
+
+  pub building-none : Building c 0 (length (c .here)) none
   building-none =
       record {
         index =
@@ -48,16 +53,16 @@ module _ (here there ix : List ℕ) (ends : (e : ℕ) → e < length here → 1 
               numbers = simp length-set h;
               within = λ v b. omega (arith, none-at (v + 1) (omega arith));
               sound = λ v p e w b P. absurd (none-place b P);
-              whole = λ v e w b U. absurd (omega (arith, ends e (U .joins .arc), U .joins .at));
+              whole = λ v e w b U. absurd (none-joins b (U .joins .arc) (U .joins .way));
               ascending = λ v p q e f w x b P Q l. absurd (none-place b P);
             };
         order = λ v b. omega (arith, none-at v b);
         few = omega (arith, none-at 1 (omega arith));
       }
 
-module _ {here there : List ℕ} {v : ℕ} where
+module _ {c : Side} {v : ℕ} where
   -- An arc at another node is passed by.
-  pub building-on : {e : ℕ} {ix : List ℕ} → Building here there v e ix → (getD here e 0 ≡ v → ⊥) → Building here there v (e + 1) ix
+  pub building-on : {e : ℕ} {ix : List ℕ} → Building c v e ix → ((w : ℕ) → Joining c v e w → ⊥) → Building c v (e + 1) ix
   building-on {e} B other =
       record {
         index =
@@ -66,17 +71,17 @@ module _ {here there : List ℕ} {v : ℕ} where
             (λ u f w b U. record {
               joins = U .joins;
               first = λ q. ⊎-elim
-                  (λ (s : f ≡ e). absurd (other (ap (λ i. getD here i 0) (sym s) ∙ (U .joins .at ∙ q))))
+                  (λ (s : f ≡ e). absurd (other w (rw (s, q) at (U .joins .way))))
                   (λ (l : f < e). l)
                   (eq-or-lt-of-le (omega (arith, U .first q)));
             })
             (B .index);
         order = B .order;
-        few = omega (arith, B .few, taken-on here v e);
+        few = omega (arith, B .few, used-on c v e);
       }
 
   -- All of them.
-  pub building-all : {ix : List ℕ} → Building here there v (length here) ix → Index (Joins here there) v ix
+  pub building-all : {ix : List ℕ} → Building c v (length (c .here)) ix → Index (Joins c) v ix
   building-all B =
       index-same
       (λ u f w b U. U .joins)

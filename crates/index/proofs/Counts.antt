@@ -1,4 +1,4 @@
--- How many arcs are put into an index: no more than there are.
+-- How many arcs are put into an index: no more than have an end there.
 -- Assumes nothing.
 use mathlib.Core.Path.{_≡_, refl}
 use mathlib.Core.Bool.{Bool, true, false}
@@ -13,7 +13,7 @@ use lib.ListN.{length, getD}
 use borrow.Author.Tests.{ltb-true, ltb-false, eqb-true, eq-eqb}
 use Rattle.arith.specs.Sum.{sum}
 use Rattle.arith.proofs.Sums.{sum-const, sum-add, sum-le}
-use Rattle.index.specs.Indexing.{bit, taken}
+use Rattle.index.specs.Indexing.{Side, Columns, Joining, forth, back, bit, taken, used}
 
 -- A number is before v or is v: at most one of them,
 before-or-at : (x v : ℕ) → bit (ltb x v) + bit (eqb x v) ≤ 1
@@ -79,3 +79,19 @@ module _ (here : List ℕ) (v : ℕ) where
         sum-add (length here) before at,
         sum-le (length here) (λ i. before i + at i) (λ i. bit (ltb (getD here i 0) (v + 1))) (λ i c. before-next (getD here i 0) v),
       )
+
+-- Both columns together: an arc that is put is counted by the end at which it is,
+module _ (c : Side) (v : ℕ) where
+  pub used-within : (e : ℕ) → Columns c → e ≤ length (c .here) → used c v e ≤ length (c .here) + length (c .here)
+  used-within e C h = omega (arith, taken-within (c .here) v e h, taken-within (c .there) v e (omega (arith, C .others)), C .others)
+
+  pub used-on : (e : ℕ) → used c v e ≤ used c v (e + 1)
+  used-on e = omega (arith, taken-on (c .here) v e, taken-on (c .there) v e)
+
+  pub used-put : (e w : ℕ) → Joining c v e w → used c v e + 1 ≤ used c v (e + 1)
+  used-put e w (forth q r) = omega (arith, taken-put (c .here) v e q, taken-on (c .there) v e)
+  used-put e w (back m q r) = omega (arith, taken-put (c .there) v e q, taken-on (c .here) v e)
+
+  -- and all arcs of one node more.
+  pub used-next : Columns c → used c v (length (c .here)) ≤ used c (v + 1) 0
+  used-next C = omega (arith, taken-next (c .here) v, rw (C .others) at (taken-next (c .there) v))

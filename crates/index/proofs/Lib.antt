@@ -4,3 +4,4 @@ pub mod Counts
 pub mod Indexes
 pub mod Opening
 pub mod Putting
+pub mod Seeing

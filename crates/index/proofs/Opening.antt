@@ -10,10 +10,10 @@ use lib.ListN.{length, getD, set, length-set}
 use lib.Seq.{getD-set-same, getD-set-other}
 use Rattle.bounds.specs.Bounds.{mostNodes}
 use Rattle.index.specs.Index.{arcsFrom, endsFrom, begins, Place}
-use Rattle.index.specs.Indexing.{Building}
-use Rattle.index.proofs.Counts.{taken-next}
+use Rattle.index.specs.Indexing.{Side, Columns, Building}
+use Rattle.index.proofs.Counts.{used-next}
 
-module _ {here there : List ℕ} {v : ℕ} {ix : List ℕ} (B : Building here there v (length here) ix) (b : v < mostNodes) where
+module _ {c : Side} {v : ℕ} {ix : List ℕ} (B : Building c v (length (c .here)) ix) (C : Columns c) (b : v < mostNodes) where
   -- the index with the node after v
   abbrev on : List ℕ
   on = set ix (v + 1 + 1) (begins ix (v + 1))
@@ -38,7 +38,7 @@ module _ {here there : List ℕ} {v : ℕ} {ix : List ℕ} (B : Building here th
       )
 
   -- the places of the others are the same
-  module _ {u p e w : ℕ} (c : u < v + 1) where
+  module _ {u p e w : ℕ} (k : u < v + 1) where
     was : Place on u p e w → Place ix u p e w
     was P =
         record {
@@ -58,7 +58,7 @@ module _ {here there : List ℕ} {v : ℕ} {ix : List ℕ} (B : Building here th
         }
 
   -- All arcs of v are put; the node after it has none yet.
-  pub building-next : Building here there (v + 1) 0 on
+  pub building-next : Building c (v + 1) 0 on
   building-next =
       record {
         index =
@@ -85,7 +85,7 @@ module _ {here there : List ℕ} {v : ℕ} {ix : List ℕ} (B : Building here th
                   (eq-or-lt-of-le c);
             };
         order = order;
-        few = omega (arith, last, B .few, taken-next here v);
+        few = omega (arith, last, B .few, used-next c v C);
       }
     where
       order : (u : ℕ) → u ≤ v + 1 + 1 → begins on u ≤ begins on (v + 1 + 1)

@@ -19,38 +19,70 @@ pub record Indexable (s : Shape) (xs : List ℕ) (size : ℕ) : Type 0 where
   pub nodes : netIn s xs .nodes ≤ mostNodes
   pub numbers : indexNumbers ≤ size
 
--- The same of the two columns, here and there.
-pub record Indexing (n : ℕ) (here there : List ℕ) (size : ℕ) : Type 0 where
+-- The columns that an index is made by: the ends of the arcs here, their other ends there, and their marks.
+pub record Side : Type 0 where
+  pub here : List ℕ
+  pub there : List ℕ
+  pub marks : List ℕ
+
+abbrev pub side : List ℕ → List ℕ → List ℕ → Side
+side here there marks = record { here = here; there = there; marks = marks }
+
+-- A column of each for at most 256 arcs, whose ends are nodes.
+pub record Columns (c : Side) : Type 0 where
+  pub few : length (c .here) ≤ mostArcs
+  pub others : length (c .there) ≡ length (c .here)
+  pub marked : length (c .marks) ≡ length (c .here)
+  pub ends : (e : ℕ) → e < length (c .here) → 1 ≤ getD (c .here) e 0
+  pub other-ends : (e : ℕ) → e < length (c .here) → 1 ≤ getD (c .there) e 0
+
+-- They are lent with room for the index of n nodes.
+pub record Indexing (n : ℕ) (c : Side) (size : ℕ) : Type 0 where
   pub nodes : n ≤ mostNodes
-  pub few : length here ≤ mostArcs
-  pub ends : (e : ℕ) → e < length here → 1 ≤ getD here e 0
-  pub others : length here ≤ length there
+  pub columns : Columns c
   pub numbers : indexNumbers ≤ size
 
--- Arc e is at node v, and its other end is w.
-pub record Joins (here there : List ℕ) (v e w : ℕ) : Type 0 where
-  pub arc : e < length here
-  pub at : getD here e 0 ≡ v
-  pub other : getD there e 0 ≡ w
+-- Arc e is at node v by its end here, and its other end w is there; or, if it is reversible, the other way round.
+pub data Joining (c : Side) (v e w : ℕ) : Type 0 where
+  forth : getD (c .here) e 0 ≡ v → getD (c .there) e 0 ≡ w → Joining c v e w
+  back : (getD (c .marks) e 0 ≡ 0 → ⊥) → getD (c .there) e 0 ≡ v → getD (c .here) e 0 ≡ w → Joining c v e w
+
+pub record Joins (c : Side) (v e w : ℕ) : Type 0 where
+  pub arc : e < length (c .here)
+  pub way : Joining c v e w
+
+-- Arc e is one of those in the columns.
+pub record Seeing (c : Side) (e : ℕ) : Type 0 where
+  pub columns : Columns c
+  pub arc : e < length (c .here)
+
+-- w is the other end of arc e, seen from node v; 0 where it is not at v.
+pub record Seen (c : Side) (v e w : ℕ) : Type 0 where
+  pub at : (w ≡ 0 → ⊥) → Joining c v e w
+  pub not-at : w ≡ 0 → (x : ℕ) → Joining c v e x → ⊥
 
 -- So it is, and where v is the last node it is one of the first arcs.
-pub record Upto (here there : List ℕ) (last arcs v e w : ℕ) : Type 0 where
-  pub joins : Joins here there v e w
+pub record Upto (c : Side) (last arcs v e w : ℕ) : Type 0 where
+  pub joins : Joins c v e w
   pub first : v ≡ last → e < arcs
 
 -- 1 where the test holds, else 0.
 abbrev pub bit : Bool → ℕ
 bit b = cond b 1 0
 
--- How many arcs these are: those at nodes before the last, and those of the first arcs that are at it.
+-- How many arcs have an end of this column at nodes before the last, and how many of the first arcs at the last.
 unfoldable pub taken : List ℕ → ℕ → ℕ → ℕ
-taken here last arcs = sum (length here) (λ e. bit (ltb (getD here e 0) last)) + sum arcs (λ e. bit (eqb (getD here e 0) last))
+taken ends last arcs = sum (length ends) (λ e. bit (ltb (getD ends e 0) last)) + sum arcs (λ e. bit (eqb (getD ends e 0) last))
+
+-- No more places are used than these, by either end.
+abbrev pub used : Side → ℕ → ℕ → ℕ
+used c last arcs = taken (c .here) last arcs + taken (c .there) last arcs
 
 -- The index has the nodes up to the last, and of the last one the first arcs.
-pub record Building (here there : List ℕ) (last arcs : ℕ) (ix : List ℕ) : Type 0 where
-  pub index : Index (Upto here there last arcs) last ix
+pub record Building (c : Side) (last arcs : ℕ) (ix : List ℕ) : Type 0 where
+  pub index : Index (Upto c last arcs) last ix
   pub order : (v : ℕ) → v ≤ last + 1 → begins ix v ≤ begins ix (last + 1)
-  pub few : begins ix (last + 1) ≤ taken here last arcs
+  pub few : begins ix (last + 1) ≤ used c last arcs
 
 -- Node v is one of those of an index, and there is a place for one more arc.
 pub record Putting (v : ℕ) (ix : List ℕ) : Type 0 where
@@ -63,16 +95,13 @@ unfoldable pub placed : ℕ → ℕ → ℕ → List ℕ → List ℕ
 placed v e w ix =
     set (set (set ix (arcsFrom + begins ix (v + 1)) e) (endsFrom + begins ix (v + 1)) w) (v + 1) (begins ix (v + 1) + 1)
 
--- Arc e is next; there are no more than 256, and each has another end.
-pub record AddingArc (here there : List ℕ) (v e : ℕ) (ix : List ℕ) : Type 0 where
-  pub building : Building here there v e ix
-  pub few : length here ≤ mostArcs
-  pub others : length here ≤ length there
-  pub arc : e < length here
+-- Arc e is next.
+pub record AddingArc (c : Side) (v e : ℕ) (ix : List ℕ) : Type 0 where
+  pub building : Building c v e ix
+  pub seeing : Seeing c e
 
 -- The node after the last is next.
-pub record Opening (here there : List ℕ) (last : ℕ) (ix : List ℕ) : Type 0 where
-  pub building : Building here there last (length here) ix
-  pub few : length here ≤ mostArcs
-  pub others : length here ≤ length there
+pub record Opening (c : Side) (last : ℕ) (ix : List ℕ) : Type 0 where
+  pub building : Building c last (length (c .here)) ix
+  pub columns : Columns c
   pub node : last < mostNodes

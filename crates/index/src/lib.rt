@@ -1,8 +1,9 @@
 // The index of the arcs at each node, the arcs of one node side by side in ascending order: a search goes through those into a node, a walk through those
-// out of it.
+// out of it. A reversible arc is at both of its ends: here alone the code asks for marks.
 use bounds::MOST_ARCS;
 use bounds::MOST_NODES;
 use packed::HEADS;
+use packed::MARKS;
 use packed::Shape;
 use packed::TAILS;
 ghost use mathlib.Core.Path.{_≡_};
@@ -10,7 +11,7 @@ ghost use Prim.Native.Nat.{_+_};
 ghost use lib.ListN.{length};
 ghost use Rattle.packed.specs.Packed.{netIn};
 ghost use Rattle.index.specs.Index.{Index, Into, Out};
-ghost use Rattle.index.specs.Indexing.{Indexable, Indexing, Joins, Building, Putting, placed, AddingArc, Opening};
+ghost use Rattle.index.specs.Indexing.{side, Indexable, Indexing, Joins, Seeing, Seen, Building, Putting, placed, AddingArc, Opening};
 
 // First stands for each node, and one past the last, the place where its arcs begin; the arcs of the places stand from here on,
 pub const ARCS: usize = MOST_NODES as usize + 2;
@@ -32,41 +33,59 @@ fn put(v: usize, e: usize, w: u64, ix: &mut [u64])
     ix[v + 1] = p as u64 + 1;
 }
 
-// Arc e is put there if it is at node v.
-fn add(here: &[u64], there: &[u64], v: usize, e: usize, ix: &mut [u64])
-    requires { ⌜ AddingArc (now here) (now there) v e (now ix) ⌝ }
-    ensures { λ r. ⌜ Building (now (here .entry)) (now (there .entry)) v (e + 1) (now (ix .exit)) ⌝ }
+// The other end of arc e where it is at node v, by its end here or, if it is reversible, by its end there; 0 where it is not.
+fn other(here: &[u64], there: &[u64], marks: &[u64], v: u64, e: usize) -> u64
+    requires { ⌜ Seeing (side (now here) (now there) (now marks)) e ⌝ }
+    ensures { λ r. ⌜ Seen (side (now (here .entry)) (now (there .entry)) (now (marks .entry))) v e r ⌝ }
 {
-    if here[e] != v as u64 {
+    if here[e] == v {
+        return there[e];
+    }
+    if marks[e] == 0 {
+        return 0;
+    }
+    if there[e] == v {
+        return here[e];
+    }
+    0
+}
+
+// Arc e is put there if it is at node v.
+fn add(here: &[u64], there: &[u64], marks: &[u64], v: usize, e: usize, ix: &mut [u64])
+    requires { ⌜ AddingArc (side (now here) (now there) (now marks)) v e (now ix) ⌝ }
+    ensures { λ r. ⌜ Building (side (now (here .entry)) (now (there .entry)) (now (marks .entry))) v (e + 1) (now (ix .exit)) ⌝ }
+{
+    let w = other(here, there, marks, v as u64, e);
+    if w == 0 {
         return;
     }
-    put(v, e, there[e], ix);
+    put(v, e, w, ix);
 }
 
 // The arcs of the node after the last.
-fn row(here: &[u64], there: &[u64], last: usize, ix: &mut [u64])
-    requires { ⌜ Opening (now here) (now there) last (now ix) ⌝ }
-    ensures { λ r. ⌜ Building (now (here .entry)) (now (there .entry)) (last + 1) (length (now (here .entry))) (now (ix .exit)) ⌝ }
+fn row(here: &[u64], there: &[u64], marks: &[u64], last: usize, ix: &mut [u64])
+    requires { ⌜ Opening (side (now here) (now there) (now marks)) last (now ix) ⌝ }
+    ensures { λ r. ⌜ Building (side (now (here .entry)) (now (there .entry)) (now (marks .entry))) (last + 1) (length (now (here .entry))) (now (ix .exit)) ⌝ }
 {
     let v = last + 1;
     ix[v + 1] = ix[v];
     let mut e = 0;
     while e < here.len() {
-        add(here, there, v, e, ix);
+        add(here, there, marks, v, e, ix);
         e += 1;
     }
 }
 
 // The index of the arcs by the ends that they have here; their other ends are there. No arc is at node 0.
-fn index_by(n: u64, here: &[u64], there: &[u64], ix: &mut [u64])
-    requires { ⌜ Indexing n (now here) (now there) (length (now ix)) ⌝ }
-    ensures { λ r. ⌜ Index (Joins (now (here .entry)) (now (there .entry))) n (now (ix .exit)) ⌝ }
+fn index_by(n: u64, here: &[u64], there: &[u64], marks: &[u64], ix: &mut [u64])
+    requires { ⌜ Indexing n (side (now here) (now there) (now marks)) (length (now ix)) ⌝ }
+    ensures { λ r. ⌜ Index (Joins (side (now (here .entry)) (now (there .entry)) (now (marks .entry)))) n (now (ix .exit)) ⌝ }
 {
     ix[0] = 0;
     ix[1] = 0;
     let mut v = 0;
     while v < n as usize {
-        row(here, there, v, ix);
+        row(here, there, marks, v, ix);
         v += 1;
     }
 }
@@ -77,7 +96,10 @@ pub fn index_into(s: Shape, net: &[u64], ix: &mut [u64])
     ensures { λ r. ⌜ Into (netIn s (now (net .entry))) (now (ix .exit)) ⌝ }
 {
     let m = s.arcs;
-    index_by(s.nodes, &net[HEADS..HEADS + m], &net[TAILS..TAILS + m], ix);
+    let tails = &net[TAILS..TAILS + m];
+    let heads = &net[HEADS..HEADS + m];
+    let marks = &net[MARKS..MARKS + m];
+    index_by(s.nodes, heads, tails, marks, ix);
 }
 
 // The index of the arcs out of each node.
@@ -86,5 +108,8 @@ pub fn index_out(s: Shape, net: &[u64], ix: &mut [u64])
     ensures { λ r. ⌜ Out (netIn s (now (net .entry))) (now (ix .exit)) ⌝ }
 {
     let m = s.arcs;
-    index_by(s.nodes, &net[TAILS..TAILS + m], &net[HEADS..HEADS + m], ix);
+    let tails = &net[TAILS..TAILS + m];
+    let heads = &net[HEADS..HEADS + m];
+    let marks = &net[MARKS..MARKS + m];
+    index_by(s.nodes, tails, heads, marks, ix);
 }

@@ -9,7 +9,7 @@ use Rattle.arith.specs.Sum.{sum}
 use Rattle.signed.specs.Signed.{ahead, back}
 use Rattle.network.specs.Path.{Joined, follow, pathLength}
 use Rattle.network.specs.Flow.{AtMost, Carries, passing, outflow, inflow, leaving, entering}
-use Rattle.network.proofs.Leads.{leads-some}
+use Rattle.network.proofs.Leads.{leads-arc, leads-one-way}
 use Rattle.network.proofs.Paths.{path-step, path-arcs}
 use Rattle.arith.specs.Member.{first}
 use Rattle.method.specs.Iteration.{weight}
@@ -36,8 +36,9 @@ cut : (i : ℕ) → i < 1 → Joined (net 2 1) i → ⊥
 unfolding follow
 cut zero b ([], path) = omega (arith, Option·some-injective 2 1 path)
 cut zero b (e ∷ p, path) = let s = path-step (net 2 1) 2 1 e p path in
-    let h = leads-some (net 2 1) 2 e (s .0) (s .1) in
-    omega (arith, h .1, arc-at 1 e (h .0))
+    let l = leads-arc (net 2 1) 2 e (s .0) (s .1) in
+    let at = arc-at 0 e l in
+    omega (arith, leads-one-way (net 2 1) 2 e (s .0) (s .1) (rw at refl) .0, arc-at 1 e l)
 cut (suc i) b j = omega arith
 
 at-most-nothing : AtMost (net 2 1) ones 1 0 1

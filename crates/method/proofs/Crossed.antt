@@ -1,29 +1,28 @@
 -- A draw over one arc: what it does to the amounts of a flow table, at each node, and to the sizes on each arc.
 -- Assumes nothing.
-use mathlib.Core.Path.{_≡_, refl, sym, ap, subst, _∙_}
+use mathlib.Core.Path.{_≡_, refl, sym, ap, subst}
 use mathlib.Core.Bool.{Bool, true, false, cond}
 use mathlib.Core.List.{List}
-use mathlib.Core.Logic.{⊎-elim}
 use mathlib.Core.Option.{some}
 use Prim.Native.Nat.{ℕ, _+_, _*_, _≤_, _<_}
 use native.Mathlib.Nat.{mul-le-mul-right, add-left-cancel}
 use native.Mathlib.Omega.{arith}
-use borrow.Author.Tests.{eqb-true, eqb-false}
+use borrow.Author.Tests.{eqb-true, eqb-false, eq-eqb}
 use lib.Dec.{eqb}
 use lib.IntN.{ℤ, pos}
-use lib.ListN.{length, getD, set}
+use lib.ListN.{length}
 use lib.Seq.{getD-set-same, getD-set-other}
 use Rattle.arith.proofs.Order.{Compared, below, equal, above, compare}
 use Rattle.arith.proofs.Sums.{sum-cong, sum-swap}
 use Rattle.signed.specs.Signed.{ahead, back, size, moved}
 use Rattle.signed.proofs.Signed.{more-parts, less-parts, more-back, moved-size}
 use Rattle.network.specs.Flow.{passing, outflow, inflow, loadOf}
-use Rattle.network.specs.Network.{Network, arcs, commodities, tail, head}
+use Rattle.network.specs.Network.{Network, arcs, commodities, tail, head, reversible}
 use Rattle.network.specs.Path.{forward, leads}
-use Rattle.network.proofs.Leads.{leads-arc, leads-near, leads-beyond, leads-forward}
+use Rattle.network.proofs.Leads.{leads-arc, leads-near, leads-beyond, leads-one-way}
 use Rattle.method.specs.Answer.{amounts}
 use Rattle.method.specs.Iteration.{crossed}
-use Rattle.method.proofs.Times.{once, once-same}
+use Rattle.method.proofs.Times.{once}
 
 -- Two places of a table of rows of m numbers are the same only in the same row.
 same-row : (m i j x e : ℕ) → x < m → e < m → i * m + x ≡ j * m + e → i ≡ j
@@ -115,15 +114,15 @@ module _ (net : Network) (i g : ℕ) (listed : i < commodities net) (flow : List
             ap (λ x. once u x * g) q,
           )
 
-  -- Nothing goes back where nothing did.
-  pub crossed-one-way : (j a : ℕ) → a < arcs net → back (amounts net flow j a) ≡ 0 → back (amounts net next j a) ≡ 0
-  crossed-one-way j a b z = by-place (eqb j i) (eqb a e) refl refl
+  -- On an arc that is not reversible nothing goes back where nothing did.
+  pub crossed-one-way : (j a : ℕ) → a < arcs net → reversible net a ≡ false → back (amounts net flow j a) ≡ 0 → back (amounts net next j a) ≡ 0
+  crossed-one-way j a b one z = by-place (eqb j i) (eqb a e) refl refl
     where
-      ahead-only : back (amounts net next i e) ≤ back (amounts net flow i e)
-      ahead-only = rw (crossed-at, leads-forward net v e w h) (more-back (amounts net flow i e) g)
+      ahead-only : reversible net e ≡ false → back (amounts net next i e) ≤ back (amounts net flow i e)
+      ahead-only r = rw (crossed-at, eq-eqb (tail net e) v (leads-one-way net v e w h r .0)) (more-back (amounts net flow i e) g)
 
       by-place : (s t : Bool) → eqb j i ≡ s → eqb a e ≡ t → back (amounts net next j a) ≡ 0
-      by-place true true p q = rw (eqb-true j i p, eqb-true a e q) (omega (arith, ahead-only, rw (eqb-true j i p, eqb-true a e q) at z))
+      by-place true true p q = rw (eqb-true j i p, eqb-true a e q) (omega (arith, ahead-only (rw (eqb-true a e q) at one), rw (eqb-true j i p, eqb-true a e q) at z))
       by-place true false p q = rw (crossed-other j a b (λ r. eqb-false a e q (r .1))) z
       by-place false t p q = rw (crossed-other j a b (λ r. eqb-false j i p (r .0))) z
 

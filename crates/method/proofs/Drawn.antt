@@ -1,11 +1,10 @@
 -- A draw of g along a path of commodity i leaves a flow a flow, adds g to its total, and adds to the sizes on an arc no more than to its load.
 -- Assumes nothing.
-use mathlib.Core.Path.{_≡_, refl, sym, ap, subst, _∙_}
+use mathlib.Core.Path.{_≡_, refl, ap, _∙_}
 use mathlib.Core.Bool.{Bool, true, false}
 use mathlib.Core.List.{List, [], _∷_}
-use mathlib.Core.Option.{some, Option·some-injective}
+use mathlib.Core.Option.{Option·some-injective}
 use Prim.Native.Nat.{ℕ, _+_, _*_, _≤_, _<_}
-use native.Mathlib.Nat.{le-trans}
 use native.Mathlib.Omega.{arith}
 use borrow.Author.Tests.{eqb-true, eqb-false}
 use lib.Dec.{eqb}
@@ -13,15 +12,15 @@ use lib.IntN.{ℤ}
 use lib.ListN.{length, getD, set, length-set}
 use Rattle.arith.proofs.Sums.{sum-cong, sum-swap}
 use Rattle.signed.specs.Signed.{ahead, back}
-use Rattle.network.specs.Network.{Network, arcs, commodities, tail, head, source, sink}
-use Rattle.network.specs.Path.{Path, beyond, leads, follow}
+use Rattle.network.specs.Network.{Network, arcs, commodities, tail, head, reversible, source, sink}
+use Rattle.network.specs.Path.{Path, beyond, follow}
 use Rattle.network.specs.Flow.{Flow, Carries, passing, outflow, inflow, loadOf, leaving, entering}
 use Rattle.network.proofs.Leads.{leads-arc, leads-beyond}
 use Rattle.network.proofs.Paths.{path-step}
 use Rattle.method.specs.Iteration.{update, crossed, pushed}
 use Rattle.method.specs.Answer.{amounts}
 use Rattle.method.proofs.Crossed.{crossed-other, crossed-balance, crossed-load, crossed-one-way}
-use Rattle.method.proofs.Times.{Below, also, once, once-same, once-other, set-adds}
+use Rattle.method.proofs.Times.{once, once-same, once-other, set-adds}
 
 -- Equal amounts on all arcs leave and enter a node alike.
 module _ (net : Network) (f h : ℕ → ℤ) (same : (a : ℕ) → a < arcs net → h a ≡ f a) (v : ℕ) where
@@ -82,16 +81,16 @@ module _ (net : Network) (i g : ℕ) (listed : i < commodities net) where
         crossed-balance net i g listed flow sized v e (s .0) (s .1) u,
       ))
 
-  -- Nothing goes back where nothing did.
+  -- On an arc that is not reversible nothing goes back where nothing did.
   drawn-one-way : (v t : ℕ) (p : List ℕ) (flow : List ℤ) → Path net v t p → Sized flow → (j a : ℕ) → a < arcs net →
-      back (amounts net flow j a) ≡ 0 → back (amounts net (drawn v p flow) j a) ≡ 0
+      reversible net a ≡ false → back (amounts net flow j a) ≡ 0 → back (amounts net (drawn v p flow) j a) ≡ 0
   unfolding pushed
-  drawn-one-way v t [] flow path sized j a b z = z
-  drawn-one-way v t (e ∷ p) flow path sized j a b z =
+  drawn-one-way v t [] flow path sized j a b one z = z
+  drawn-one-way v t (e ∷ p) flow path sized j a b one z =
       let s = path-step net v t e p path in
       rw (leads-beyond net v e (s .0) (s .1))
-      (drawn-one-way (s .0) t p (over v e flow) (s .2) (over-sized v e flow sized) j a b
-      (crossed-one-way net i g listed flow sized v e (s .0) (s .1) j a b z))
+      (drawn-one-way (s .0) t p (over v e flow) (s .2) (over-sized v e flow sized) j a b one
+      (crossed-one-way net i g listed flow sized v e (s .0) (s .1) j a b one z))
 
   -- The sizes of the amounts on an arc are together no more than its load.
   abbrev Within : List ℤ → List ℕ → Type 0
@@ -132,7 +131,7 @@ module _ (net : Network) (i g : ℕ) (listed : i < commodities net) where
     stays-flow F =
         record {
           balance = λ j v l lo hi ns nt. even j v (eqb j i) refl ns nt (F .balance j v l lo hi ns nt);
-          one-way = λ j e l b. drawn-one-way (source net i) (sink net i) p flow path sized j e b (F .one-way j e l b);
+          one-way = λ j e l b one. drawn-one-way (source net i) (sink net i) p flow path sized j e b one (F .one-way j e l b one);
         }
       where
         even : (j v : ℕ) (t : Bool) → eqb j i ≡ t → (v ≡ source net j → ⊥) → (v ≡ sink net j → ⊥) →

@@ -36,9 +36,13 @@ unfolding
     numbersOf unjoined outcomeOf outcome bind twos
 gives net xs = same (figures (outcome net 4)) xs
 
--- n nodes; arcs by tails, heads and capacities; commodities by sources and sinks.
+-- n nodes; arcs by tails, heads, capacities and marks; commodities by sources and sinks.
+floor : ℕ → List ℕ → List ℕ → List ℕ → List ℕ → List ℕ → List ℕ → Network
+floor n ts hs cs ms ss zs = record { nodes = n; tails = ts; heads = hs; capacities = cs; marks = ms; sources = ss; sinks = zs }
+
+-- no arc reversible
 net : ℕ → List ℕ → List ℕ → List ℕ → List ℕ → List ℕ → Network
-net n ts hs cs ss zs = record { nodes = n; tails = ts; heads = hs; capacities = cs; sources = ss; sinks = zs }
+net n ts hs cs ss zs = floor n ts hs cs [] ss zs
 
 -- The rows: a network, and what document 01 and a second solver say of it at precision 4.
 pub record Example : Type 0 where
@@ -77,6 +81,17 @@ rows =
           114 ∷ 4 ∷ 114 ∷ 5403483390422 ∷ 1231661558051 ∷ 38 ∷ 37 ∷ 76 ∷ 76 ∷ 38 ∷ 114 ∷ 119209289553 ∷ 119209289553 ∷ 238418579103 ∷
           993242978948 ∷ [];
     } ∷
+    -- request C-12: a reversible belt taken from head to tail, so that its amount is -20; the figures of this and the next are a second solver's
+    record {
+      network = floor 2 (2 ∷ []) (1 ∷ []) (5 ∷ []) (1 ∷ []) (1 ∷ []) (2 ∷ []);
+      figures = 20 ∷ 5 ∷ 20 ∷ 68719476740 ∷ 13743895348 ∷ 4 ∷ 1 ∷ 18446744073709551596 ∷ 13743895348 ∷ [];
+    } ∷
+    -- a reversible belt, the third, over which 62 are drawn, 2 of them from head to tail: its amount is 58
+    record {
+      network =
+          floor 4 (1 ∷ 4 ∷ 3 ∷ 1 ∷ 3 ∷ []) (4 ∷ 2 ∷ 4 ∷ 3 ∷ 2 ∷ []) (1 ∷ 4 ∷ 9 ∷ 7 ∷ 7 ∷ []) (0 ∷ 0 ∷ 2 ∷ 0 ∷ 0 ∷ []) (1 ∷ []) (2 ∷ []);
+      figures = 252 ∷ 7 ∷ 228 ∷ 5327631960887 ∷ 625347768089 ∷ 63 ∷ 59 ∷ 24 ∷ 82 ∷ 58 ∷ 228 ∷ 170 ∷ 582076609137 ∷ 87206280855 ∷ 2143983523 ∷ 539224188139 ∷ 86123579950 ∷ [];
+    } ∷
     -- no pair joined: zeros, and the bound 0 over 1
     record {
       network = net 3 (1 ∷ []) (2 ∷ []) (2 ∷ []) (1 ∷ 2 ∷ []) (3 ∷ 1 ∷ []);
@@ -90,7 +105,7 @@ holds [] = true
 holds (r ∷ rs) = gives (r .network) (r .figures) && holds rs
 
 computed : T (holds rows)
-unfolding holds gives rows net
+unfolding holds gives rows net floor
 computed = tt
 
 -- ... so the figures of row j are the outcome's.

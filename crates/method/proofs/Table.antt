@@ -65,7 +65,7 @@ module _ (net : Network) (n : ℕ) where
   -- The table of zeros is a flow that carries 0 and loads no arc.
   pub zero-flow : Flow net nothing
   unfolding back
-  zero-flow = record { balance = λ i v a b c d f. in-zero i v ∙ sym (out-zero i v); one-way = λ i e a b. ap back (nothing-at i e) }
+  zero-flow = record { balance = λ i v a b c d f. in-zero i v ∙ sym (out-zero i v); one-way = λ i e a b c. ap back (nothing-at i e) }
 
   pub zero-carries : Carries net nothing 0
   unfolding leaving entering

@@ -24,6 +24,7 @@ floor ss ts =
       tails = 1 ∷ 2 ∷ 1 ∷ 1 ∷ 3 ∷ [];
       heads = 2 ∷ 3 ∷ 3 ∷ 3 ∷ 1 ∷ [];
       capacities = 1 ∷ 1 ∷ 1 ∷ 1 ∷ 1 ∷ [];
+      marks = [];
       sources = ss;
       sinks = ts;
     }

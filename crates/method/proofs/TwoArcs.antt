@@ -18,7 +18,7 @@ both x = x ∷ x ∷ []
 
 -- The commodity goes from s to t.
 abbrev pub net : ℕ → ℕ → Network
-net s t = record { nodes = 2; tails = both 1; heads = both 2; capacities = both 1; sources = s ∷ []; sinks = t ∷ [] }
+net s t = record { nodes = 2; tails = both 1; heads = both 2; capacities = both 1; marks = both 0; sources = s ∷ []; sinks = t ∷ [] }
 
 -- 1 on each arc
 unfoldable pub ones : ℕ → ℕ → ℤ
@@ -46,7 +46,7 @@ module _ (s t : ℕ) where
 
   pub flow : 1 ≤ s → 1 ≤ t → s + t ≡ 3 → Flow (net s t) ones
   unfolding ones back
-  flow ls lt e = record { balance = λ i v b low high ns nt. omega (arith, commodity-at s i b, commodity-at t i b); one-way = λ i e b l. refl }
+  flow ls lt e = record { balance = λ i v b low high ns nt. omega (arith, commodity-at s i b, commodity-at t i b); one-way = λ i e b l c. refl }
 
   pub keeps : Keeps (net s t) 1 ones
   unfolding ones loadOf sum ahead back

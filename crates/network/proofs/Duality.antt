@@ -1,16 +1,21 @@
 -- Weak duality: a potential for each commodity bounds what every flow carries, by the capacities times the lengths over alpha.
 -- Guarantee, section 6. Assumes nothing.
-use mathlib.Core.Logic.{inl}
+use mathlib.Core.Path.{_≡_, refl}
+use mathlib.Core.Bool.{Bool, true, false}
+use mathlib.Core.Logic.{_⊎_, inl, inr}
+use mathlib.Core.Option.{some}
 use Prim.Native.Nat.{ℕ, _+_, _*_, _≤_, _<_}
 use native.Mathlib.Nat.{mul-le-mul-left}
 use native.Mathlib.Omega.{arith}
 use lib.IntN.{ℤ}
 use Rattle.arith.specs.Sum.{sum}
 use Rattle.arith.proofs.Sums.{sum-cong, sum-add, sum-scale, sum-le, sum-exchange}
-use Rattle.signed.specs.Signed.{size}
-use Rattle.network.specs.Network.{Network, arcs, commodities, capacity, source, sink}
+use Rattle.signed.specs.Signed.{back, size}
+use Rattle.network.specs.Network.{Network, arcs, commodities, tail, head, capacity, reversible, source, sink}
 use Rattle.network.specs.Ends.{Ends}
 use Rattle.network.specs.Flow.{Flow, Keeps, AtMost, outflow, inflow, loadOf, leaving, entering}
+use Rattle.network.specs.Path.{leads}
+use Rattle.network.proofs.Leads.{against, taken-leads}
 use Rattle.network.proofs.Potential.{Potential, Balanced}
 use Rattle.network.proofs.OneCommodity.{potential-bound}
 
@@ -49,8 +54,12 @@ module _ (net : Network) (ends : Ends net) (l : ℕ → ℕ) (alpha : ℕ) where
   one-balanced f flow i b =
       record {
         nodes = λ v low high ns nt. flow .balance i v b low high ns nt;
-        backs = λ e l. inl (flow .one-way i e b l);
+        backs = λ e l. by-mark e l (reversible net e) refl;
       }
+    where
+      by-mark : (e : ℕ) → e < arcs net → (r : Bool) → reversible net e ≡ r → (back (f i e) ≡ 0) ⊎ (leads net (head net e) e ≡ some (tail net e))
+      by-mark e l true m = inr (taken-leads net l (against m refl refl))
+      by-mark e l false m = inl (flow .one-way i e b l m)
 
   -- Potentials that fall from alpha at the sources to 0 at the sinks: the capacities times the lengths, over alpha, bound every flow.
   pub duality :

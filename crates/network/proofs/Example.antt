@@ -14,7 +14,7 @@ use Rattle.network.proofs.Accepted.{accepted-sound}
 -- one commodity from node 1 to node 2, and two arcs to node 2 with these tails and capacities
 abbrev pub two-arcs : List ℕ → List ℕ → Network
 two-arcs tails capacities =
-    record { nodes = 2; tails = tails; heads = 2 ∷ 2 ∷ []; capacities = capacities; sources = 1 ∷ []; sinks = 2 ∷ [] }
+    record { nodes = 2; tails = tails; heads = 2 ∷ 2 ∷ []; capacities = capacities; marks = 0 ∷ 0 ∷ []; sources = 1 ∷ []; sinks = 2 ∷ [] }
 
 -- The listing's network is accepted; an arc's ends are looked at before its capacity, and the first arc before the second.
 pub verdicts :

@@ -10,7 +10,7 @@ use lib.ListN.{length, getD}
 use Rattle.arith.specs.Member.{Member, first, later, no-member, first-or-later}
 use Rattle.network.specs.Network.{Network, arcs}
 use Rattle.network.specs.Path.{leads, follow, Path, pathLength}
-use Rattle.network.proofs.Leads.{leads-some}
+use Rattle.network.proofs.Leads.{leads-arc}
 
 module _ (net : Network) where
   -- The first arc leads from the start to some node, and the rest is a path from there.
@@ -28,7 +28,7 @@ module _ (net : Network) where
   path-arcs v t (d ∷ p) h e m =
       let s = path-step v t d p h in
       ⊎-elim
-      (λ (q : e ≡ d). rw q (leads-some net v d (s .0) (s .1) .0))
+      (λ (q : e ≡ d). rw q (leads-arc net v d (s .0) (s .1)))
       (λ (r : Member e p). path-arcs (s .0) t p (s .2) e r)
       (first-or-later m)
 

@@ -7,7 +7,7 @@ use Rattle.network.specs.Network.{Network}
 use Rattle.network.specs.Path.{leads, follow}
 use Rattle.network.specs.Visited.{visited}
 
--- Arcs 1 to 2, 2 to 3 and 1 to 3.
+-- Arcs 1 to 2, 2 to 3 and 1 to 3, the second reversible.
 three : Network
 three =
     record {
@@ -15,6 +15,7 @@ three =
       tails = 1 ∷ 2 ∷ 1 ∷ [];
       heads = 2 ∷ 3 ∷ 3 ∷ [];
       capacities = 1 ∷ 1 ∷ 1 ∷ [];
+      marks = 0 ∷ 2 ∷ 0 ∷ [];
       sources = 1 ∷ [];
       sinks = 3 ∷ [];
     }
@@ -27,7 +28,12 @@ its-nodes : visited three 1 (0 ∷ 1 ∷ []) ≡ 1 ∷ 2 ∷ 3 ∷ []
 unfolding three leads visited
 its-nodes = refl
 
--- An arc is not entered at its head,
+-- A reversible arc is taken either way,
+either-way : (leads three 2 1 ≡ some 3) × (leads three 3 1 ≡ some 2) × (leads three 1 1 ≡ none)
+unfolding three leads
+either-way = (refl, refl, refl)
+
+-- another is not entered at its head,
 not-back : leads three 2 0 ≡ none
 unfolding three leads
 not-back = refl

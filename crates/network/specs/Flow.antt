@@ -1,14 +1,14 @@
 -- Multicommodity flows in whole amounts: f i e is the amount of commodity i on arc e, from its tail to its head or, if it is negative, the other
--- way. Source document 000, section 3.1, directed case.
+-- way. Source document 000, section 3.1: the directed case, and for reversible arcs the undirected one.
 -- A flow in fractions is one in whole amounts over a common divisor d: it keeps the capacities where the whole amounts keep d times them.
 use mathlib.Core.Path.{_≡_}
-use mathlib.Core.Bool.{cond}
+use mathlib.Core.Bool.{false, cond}
 use Prim.Native.Nat.{ℕ, _+_, _*_, _≤_, _<_}
 use lib.Dec.{eqb}
 use lib.IntN.{ℤ}
 use Rattle.arith.specs.Sum.{sum}
 use Rattle.signed.specs.Signed.{ahead, back, size}
-use Rattle.network.specs.Network.{Network, arcs, commodities, tail, head, capacity, source, sink}
+use Rattle.network.specs.Network.{Network, arcs, commodities, tail, head, capacity, reversible, source, sink}
 
 -- What the first m arcs have at node v, of the numbers x e: those of the arcs whose end there is v.
 unfoldable pub passing : ℕ → (ℕ → ℕ) → (ℕ → ℕ) → ℕ → ℕ
@@ -22,14 +22,14 @@ outflow net f v = passing (arcs net) (tail net) (λ e. ahead (f e)) v + passing 
 unfoldable pub inflow : Network → (ℕ → ℤ) → ℕ → ℕ
 inflow net f v = passing (arcs net) (head net) (λ e. ahead (f e)) v + passing (arcs net) (tail net) (λ e. back (f e)) v
 
--- A flow: for each commodity what enters a node leaves it, except at its source and sink; and nothing goes back on an arc.
+-- A flow: for each commodity what enters a node leaves it, except at its source and sink; and nothing goes back on an arc that is not reversible.
 pub record Flow (net : Network) (f : ℕ → ℕ → ℤ) : Type 0 where
   pub balance :
       (i v : ℕ) → i < commodities net → 1 ≤ v → v ≤ net .nodes → (v ≡ source net i → ⊥) → (v ≡ sink net i → ⊥) → inflow net (f i) v ≡
       outflow net (f i) v
-  pub one-way : (i e : ℕ) → i < commodities net → e < arcs net → back (f i e) ≡ 0
+  pub one-way : (i e : ℕ) → i < commodities net → e < arcs net → reversible net e ≡ false → back (f i e) ≡ 0
 
--- The sizes of all commodities' amounts together on arc e.
+-- The sizes of all commodities' amounts together on arc e: one capacity holds what goes either way.
 unfoldable pub loadOf : Network → (ℕ → ℕ → ℤ) → ℕ → ℕ
 loadOf net f e = sum (commodities net) (λ i. size (f i e))
 

@@ -1,16 +1,20 @@
 -- A network and its commodities.
 -- Words: document 01's station, belt and pair are here node, arc and commodity. Nodes are numbered from 1 as there; arcs and commodities are
 -- counted from 0 here, so document 01's belt number is the arc's place plus 1.
+use mathlib.Core.Bool.{Bool, not}
 use mathlib.Core.List.{List}
 use Prim.Native.Nat.{ℕ}
+use lib.Dec.{eqb}
 use lib.ListN.{length, getD}
 
--- Document 01, "The floor and its flow": arc e leads from tail e to head e; commodity i goes from source i to sink i.
+-- Document 01, "The floor and its flow": arc e leads from tail e to head e; commodity i goes from source i to sink i. Request C-12: where its mark
+-- is not zero, an arc may be taken either way.
 pub record Network : Type 0 where
   pub nodes : ℕ
   pub tails : List ℕ
   pub heads : List ℕ
   pub capacities : List ℕ
+  pub marks : List ℕ
   pub sources : List ℕ
   pub sinks : List ℕ
 
@@ -33,6 +37,10 @@ head net e = getD (net .heads) e 0
 -- what it can carry, in totes an hour
 abbrev pub capacity : Network → ℕ → ℕ
 capacity net e = getD (net .capacities) e 0
+
+-- whether it is reversible: by any mark but 0
+abbrev pub reversible : Network → ℕ → Bool
+reversible net e = not (eqb (getD (net .marks) e 0) 0)
 
 -- where commodity i comes from
 abbrev pub source : Network → ℕ → ℕ

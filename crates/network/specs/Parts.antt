@@ -5,8 +5,8 @@ use Rattle.network.specs.Network.{Network}
 
 -- n nodes and these arcs, with no commodity
 abbrev pub ofArcs : ℕ → List ℕ → List ℕ → List ℕ → Network
-ofArcs n tails heads capacities = record { nodes = n; tails = tails; heads = heads; capacities = capacities; sources = []; sinks = [] }
+ofArcs n tails heads capacities = record { nodes = n; tails = tails; heads = heads; capacities = capacities; marks = []; sources = []; sinks = [] }
 
 -- n nodes and these commodities, with no arc
 abbrev pub ofCommodities : ℕ → List ℕ → List ℕ → Network
-ofCommodities n sources sinks = record { nodes = n; tails = []; heads = []; capacities = []; sources = sources; sinks = sinks }
+ofCommodities n sources sinks = record { nodes = n; tails = []; heads = []; capacities = []; marks = []; sources = sources; sinks = sinks }

@@ -1,12 +1,12 @@
 -- Paths of a network, and their lengths. Document 01's word is route.
 use mathlib.Core.Path.{_≡_}
-use mathlib.Core.Bool.{Bool, cond, _&&_}
+use mathlib.Core.Bool.{Bool, cond, _&&_, _||_}
 use mathlib.Core.Option.{Option, none, some, bind}
 use mathlib.Core.List.{List, [], _∷_}
 use Prim.Native.Nat.{ℕ, _+_}
 use lib.Dec.{ltb, eqb}
 use lib.ListN.{getD}
-use Rattle.network.specs.Network.{Network, arcs, tail, head, source, sink}
+use Rattle.network.specs.Network.{Network, arcs, tail, head, reversible, source, sink}
 
 -- Whether arc e is taken forward at node v, from its tail.
 abbrev pub forward : Network → ℕ → ℕ → Bool
@@ -16,9 +16,10 @@ forward net v e = eqb (tail net e) v
 abbrev pub beyond : Network → ℕ → ℕ → ℕ
 beyond net v e = cond (forward net v e) (head net e) (tail net e)
 
--- Where arc e leads from node v: to its head where v is its tail, else nowhere. Document 01, "The floor and its flow".
+-- Where arc e leads from node v: to its head where v is its tail, to its tail where it is reversible and v its head, else nowhere. Document 01, "The
+-- floor and its flow", and request C-12: this alone knows of marks.
 unfoldable pub leads : Network → ℕ → ℕ → Option ℕ
-leads net v e = cond (ltb e (arcs net) && forward net v e) (some (beyond net v e)) none
+leads net v e = cond (ltb e (arcs net) && (forward net v e || (reversible net e && eqb (head net e) v))) (some (beyond net v e)) none
 
 -- Where the arcs of a list lead from node v, each starting where the one before ended.
 unfoldable pub follow : Network → ℕ → List ℕ → Option ℕ

@@ -1,9 +1,8 @@
 -- Laws of a table whose first numbers are signed amounts in two's complement: it is written as any other, and the amounts are read back.
 -- Assumes nothing.
-use mathlib.Core.Path.{_≡_, refl, ap, _∙_}
+use mathlib.Core.Path.{_≡_, refl, _∙_}
 use Prim.Native.Nat.{ℕ, zero, suc, _+_, _^_, _<_}
 use mathlib.Core.List.{List, [], _∷_, map}
-use native.Mathlib.Omega.{arith}
 use lib.IntN.{ℤ, pos}
 use lib.ListN.{length, take, getD, length-map, List·getD-map}
 use Rattle.signed.specs.Signed.{size, twos, fromTwos}

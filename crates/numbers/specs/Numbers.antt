@@ -9,7 +9,7 @@ use Rattle.numbers.specs.Digits.{fromBytes, toBytes}
 abbrev pub count : List ℕ → ℕ
 count s = length s / 8
 
--- How many complete items of k numbers the bytes hold: "m and k are the counts of complete items", of three numbers a belt and of two a pair.
+-- How many complete items of k numbers the bytes hold: "m and k are the counts of complete items".
 abbrev pub items : ℕ → List ℕ → ℕ
 items k s = length s / (8 * k)
 
@@ -17,8 +17,7 @@ items k s = length s / (8 * k)
 unfoldable pub numberAt : List ℕ → ℕ → ℕ
 numberAt s i = fromBytes (take 8 (drop (8 * i) s))
 
--- Member j, counted from 0, of each of the first n items of k numbers, in order: member 0 of the belts is their tails, 1 their heads,
--- 2 their capacities ("A belt is an item of three numbers (tail, head, capacity), a pair one of two").
+-- Member j, counted from 0, of each of the first n items of k numbers, in order.
 unfoldable pub column : List ℕ → ℕ → ℕ → ℕ → List ℕ
 column s k j zero = []
 column s k j (suc n) = column s k j n ++ (numberAt s (k * n + j) ∷ [])

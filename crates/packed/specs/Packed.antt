@@ -32,8 +32,11 @@ sourcesFrom = 768
 abbrev pub sinksFrom : ℕ
 sinksFrom = 800
 
+abbrev pub marksFrom : ℕ
+marksFrom = 832
+
 abbrev pub netNumbers : ℕ
-netNumbers = 832
+netNumbers = 1088
 
 -- The network.
 unfoldable pub netIn : Shape → List ℕ → Network
@@ -43,6 +46,7 @@ netIn s xs =
       tails = part tailsFrom (s .arcs) xs;
       heads = part headsFrom (s .arcs) xs;
       capacities = part capacitiesFrom (s .arcs) xs;
+      marks = part marksFrom (s .arcs) xs;
       sources = part sourcesFrom (s .commodities) xs;
       sinks = part sinksFrom (s .commodities) xs;
     }

@@ -21,8 +21,10 @@ pub const SOURCES: usize = 3 * MOST_ARCS;
 
 pub const SINKS: usize = 3 * MOST_ARCS + MOST_COMMODITIES;
 
+pub const MARKS: usize = 3 * MOST_ARCS + 2 * MOST_COMMODITIES;
+
 // And how many numbers they take in all.
-pub const NET_NUMBERS: usize = 3 * MOST_ARCS + 2 * MOST_COMMODITIES;
+pub const NET_NUMBERS: usize = 4 * MOST_ARCS + 2 * MOST_COMMODITIES;
 
 // The tables of the arcs as one slice too: their lengths, loads and kept lengths. Where each begins,
 pub const LENGTHS: usize = 0;

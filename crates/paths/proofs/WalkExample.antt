@@ -1,6 +1,7 @@
 -- Two tables of distances, and a walk in which the number of arcs decides between paths as long: so these exist.
 -- Assumes nothing.
 use mathlib.Core.Path.{_≡_, refl, ap}
+use mathlib.Core.Bool.{false}
 use mathlib.Core.List.{List, [], _∷_}
 use mathlib.Core.Option.{some}
 use Prim.Native.Nat.{ℕ, zero, suc, _+_, _^_, _≤_, _<_}
@@ -8,9 +9,9 @@ use native.Mathlib.Omega.{arith}
 use lib.ListN.{getD}
 use borrow.Author.Count.{below-none, below-more}
 use Rattle.network.specs.Ends.{Node}
-use Rattle.network.specs.Network.{Network, tail, head}
+use Rattle.network.specs.Network.{Network, tail, head, reversible}
 use Rattle.network.specs.Path.{leads}
-use Rattle.network.proofs.Leads.{leads-some}
+use Rattle.network.proofs.Leads.{leads-arc, leads-one-way}
 use Rattle.paths.specs.Distances.{over, Way, Distances}
 use Rattle.paths.specs.Far.{far, Bounded}
 use Rattle.paths.specs.Walk.{Walk, stop, step}
@@ -21,7 +22,7 @@ three P a b c = below-more P 2 (below-more P 1 (below-more P 0 (below-none P) a)
 
 -- Arcs 1 to 2, 2 to 3 and 1 to 3, and commodities from ss to ts.
 abbrev pub floor : List ℕ → List ℕ → Network
-floor ss ts = record { nodes = 3; tails = 1 ∷ 2 ∷ 1 ∷ []; heads = 2 ∷ 3 ∷ 3 ∷ []; capacities = 1 ∷ 1 ∷ 1 ∷ []; sources = ss; sinks = ts }
+floor ss ts = record { nodes = 3; tails = 1 ∷ 2 ∷ 1 ∷ []; heads = 2 ∷ 3 ∷ 3 ∷ []; capacities = 1 ∷ 1 ∷ 1 ∷ []; marks = 0 ∷ 0 ∷ 0 ∷ []; sources = ss; sinks = ts }
 
 -- By these the path over node 2 and the straight arc are equally long.
 abbrev pub lengths : List ℕ
@@ -40,6 +41,12 @@ pub bounded : Bounded (floor [] []) lengths
 bounded = three (λ e. getD lengths e 0 < 2 ^ 40) (omega arith) (omega arith) (omega arith)
 
 module _ (ss ts : List ℕ) where
+  -- No arc is reversible, so each leads from its tail to its head.
+  onward : (u e w : ℕ) → leads (floor ss ts) u e ≡ some w → (tail (floor ss ts) e ≡ u) × (head (floor ss ts) e ≡ w)
+  onward u e w h =
+      leads-one-way (floor ss ts) u e w h
+      (three (λ e. reversible (floor ss ts) e ≡ false) refl refl refl e (leads-arc (floor ss ts) u e w h))
+
   -- The way over some arc is as far as the distance of v, unless v is t or far.
   abbrev Tight : List ℕ → ℕ → ℕ → Type 0
   Tight d t v = (v ≡ t → ⊥) → getD d v 0 < far → (e : ℕ) × Way (floor ss ts) lengths d v (getD d v 0) e
@@ -52,9 +59,9 @@ module _ (ss ts : List ℕ) where
     where
       feasible : (u e w : ℕ) → leads (floor ss ts) u e ≡ some w → getD d u 0 ≤ over lengths d e w
       feasible u e w h =
-          let r = leads-some (floor ss ts) u e w h in
-          let at = three (λ e. getD d (tail (floor ss ts) e) 0 ≤ over lengths d e (head (floor ss ts) e)) a b c e (r .0) in
-          omega (arith, at, ap (λ v. getD d v 0) (r .1), ap (λ v. getD d v 0) (r .2))
+          let r = onward u e w h in
+          let at = three (λ e. getD d (tail (floor ss ts) e) 0 ≤ over lengths d e (head (floor ss ts) e)) a b c e (leads-arc (floor ss ts) u e w h) in
+          omega (arith, at, ap (λ v. getD d v 0) (r .0), ap (λ v. getD d v 0) (r .1))
 
       tight : (v : ℕ) → Node (floor ss ts) v → Tight d t v
       tight zero n = absurd (omega arith)
@@ -93,5 +100,5 @@ module _ (ss ts : List ℕ) where
       farther =
           below-more (λ j. Way (floor ss ts) lengths near 1 129 j → ⊥) 1
           (below-more (λ j. Way (floor ss ts) lengths near 1 129 j → ⊥) 0 (λ j b w. omega arith)
-          (λ w. omega (arith, w .long, ap (λ v. getD near v 0) (leads-some (floor ss ts) 1 0 (w .to) (w .leads-to) .2))))
-          (λ w. omega (arith, leads-some (floor ss ts) 1 1 (w .to) (w .leads-to) .1))
+          (λ w. omega (arith, w .long, ap (λ v. getD near v 0) (onward 1 0 (w .to) (w .leads-to) .1))))
+          (λ w. omega (arith, onward 1 1 (w .to) (w .leads-to) .0))

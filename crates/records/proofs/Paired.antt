@@ -3,11 +3,10 @@ use mathlib.Core.Path.{_≡_, refl, sym, ap, _∙_}
 use mathlib.Core.List.{List}
 use Prim.Native.Nat.{ℕ, _+_, _-_, _/_, _≤_}
 use native.Mathlib.Omega.{arith}
-use borrow.Rule.Slice.PartMut.{putMid, same-len-mid}
 use lib.ListN.{length}
-use Rattle.packed.specs.Packed.{part, netIn, tailsFrom, headsFrom, capacitiesFrom, sourcesFrom, sinksFrom, put, netNumbers}
+use Rattle.packed.specs.Packed.{part, netIn, tailsFrom, headsFrom, capacitiesFrom, sourcesFrom, sinksFrom, marksFrom, put, netNumbers}
 use Rattle.packed.specs.declared.Shape.{Shape}
-use Rattle.packed.proofs.Columns.{part-length, put-length, part-put, part-before}
+use Rattle.packed.proofs.Columns.{part-length, put-length, part-put, part-before, part-behind}
 use Rattle.records.specs.Parts.{networkCopied, halfOf, Pairing}
 use Rattle.records.specs.Records.{sourcesIn, sinksIn}
 use Rattle.records.proofs.Pairs.{length-half}
@@ -49,6 +48,11 @@ module _ {s : Shape} {pairs xs : List ℕ} (p : Pairing s pairs xs) {ys : List �
         part-before sinksFrom k sourced b (s .arcs) zs (omega (arith, sinks-places)) (omega arith) ∙
         part-before sourcesFrom k xs b (s .arcs) ys (omega (arith, room)) l
 
+    marks-stay : part marksFrom (s .arcs) filled ≡ part marksFrom (s .arcs) xs
+    marks-stay =
+        part-behind sinksFrom k sourced zs sinks-places nz marksFrom (s .arcs) (omega (arith, p .packed .few-commodities)) ∙
+        part-behind sourcesFrom k xs ys (omega (arith, room, p .packed .few-commodities)) ny marksFrom (s .arcs) (omega (arith, p .packed .few-commodities))
+
     sources-in : part sourcesFrom k filled ≡ sourcesIn pairs
     unfolding halfOf
     sources-in =
@@ -63,4 +67,4 @@ module _ {s : Shape} {pairs xs : List ℕ} (p : Pairing s pairs xs) {ys : List �
     unfolding netIn
     paired =
         let few = p .packed .few-arcs in
-        rw (stays tailsFrom (omega (arith, few)), stays headsFrom (omega (arith, few)), stays capacitiesFrom (omega (arith, few)), sources-in, sinks-in) refl
+        rw (stays tailsFrom (omega (arith, few)), stays headsFrom (omega (arith, few)), stays capacitiesFrom (omega (arith, few)), marks-stay, sources-in, sinks-in) refl

@@ -9,7 +9,7 @@ use Rattle.network.specs.Network.{Network}
 use Rattle.network.specs.Sound.{Counts}
 use Rattle.network.specs.Verdict.{verdict, itemConditions}
 use Rattle.network.specs.declared.Verdict.the-variants.{Accepted}
-use Rattle.packed.specs.Packed.{part, Packed, Lent}
+use Rattle.packed.specs.Packed.{part, tailsFrom, headsFrom, capacitiesFrom, marksFrom, Packed, Lent}
 use Rattle.packed.specs.declared.Shape.{Shape}
 use Rattle.records.specs.Records.{sourcesIn, sinksIn}
 
@@ -28,9 +28,10 @@ abbrev pub networkCopied : ℕ → ℕ → List ℕ → List ℕ → Network
 networkCopied n m net pairs =
     record {
       nodes = n;
-      tails = part 0 m net;
-      heads = part 256 m net;
-      capacities = part 512 m net;
+      tails = part tailsFrom m net;
+      heads = part headsFrom m net;
+      capacities = part capacitiesFrom m net;
+      marks = part marksFrom m net;
       sources = sourcesIn pairs;
       sinks = sinksIn pairs;
     }

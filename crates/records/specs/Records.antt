@@ -38,6 +38,7 @@ networkLent n arcs pairs =
       tails = map (λ a. a .tail) arcs;
       heads = map (λ a. a .head) arcs;
       capacities = map (λ a. a .capacity) arcs;
+      marks = map (λ a. a .mark) arcs;
       sources = sourcesIn pairs;
       sinks = sinksIn pairs;
     }

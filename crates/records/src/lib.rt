@@ -8,15 +8,17 @@ use network::Refusal;
 use network::Verdict;
 use packed::CAPACITIES;
 use packed::HEADS;
+use packed::MARKS;
 use packed::NET_NUMBERS;
 use packed::TAILS;
 ghost use Rattle.records.specs.Records.{Recorded};
 
-// Document 01's belt.
+// Document 01's belt. Its mark is not zero if the belt is reversible (request C-12).
 pub struct Arc {
     pub tail: u64,
     pub head: u64,
     pub capacity: u64,
+    pub mark: u64,
 }
 
 // What a call returns: why it is turned down, or its answer.
@@ -49,6 +51,7 @@ pub fn solve(
         net[TAILS + e] = a.tail;
         net[HEADS + e] = a.head;
         net[CAPACITIES + e] = a.capacity;
+        net[MARKS + e] = a.mark;
         e += 1;
     }
     let items = judge::check_copy(n, m, net, pairs);

@@ -1,5 +1,5 @@
-// Document 01's worked floors, and some that it turns down, solved through a slice of records. A line for each: what is lent, what the call
-// returns, the flow table and the length table, in which every place held a 9. The file `stdout` has the page's figures.
+// Document 01's worked floors, some that it turns down, and two with a reversible belt, solved through a slice of records. A line for each: what is
+// lent, what the call returns, the flow table and the length table, in which every place held a 9. The file `stdout` has the page's figures.
 use checks::numbers::refusal_code;
 use libc::STDOUT_FILENO;
 use method::Answer;
@@ -103,6 +103,7 @@ fn arc(tail: u64, head: u64, capacity: u64) -> Arc {
         tail,
         head,
         capacity,
+        mark: 0,
     }
 }
 
@@ -146,7 +147,25 @@ fn refusals() {
     run(b"a lone number:", 2, 4, [a, a], 1, &[1, 2, 7]);
 }
 
+// Request C-12: a belt of 5 from station 2 to station 1, with this mark, and a pair that goes from 1 to 2.
+fn against(name: &[u8], mark: u64) {
+    let a = Arc {
+        tail: 2,
+        head: 1,
+        capacity: 5,
+        mark,
+    };
+    run(name, 2, 4, [a, a], 1, &[1, 2]);
+}
+
+// Any mark but zero makes it reversible: it carries what "a belt of 5" does, the other way.
+fn reversible() {
+    against(b"a reversible belt of 5:", 1);
+    against(b"by the greatest mark:", 0xffff_ffff_ffff_ffff);
+}
+
 fn main() {
     page();
     refusals();
+    reversible();
 }

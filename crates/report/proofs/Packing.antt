@@ -1,12 +1,12 @@
--- A slice that takes the columns of a network, one after the other, then its one source and sink, holds the network. Assumes nothing.
+-- A slice that takes the columns of a network, one after the other, its one source and sink, then marks of 0, holds the network. Assumes nothing.
 use mathlib.Core.Path.{_≡_, refl, sym, ap, _∙_}
 use mathlib.Core.List.{List, [], _∷_}
 use Prim.Native.Nat.{ℕ, _+_, _-_, _≤_, _<_}
 use native.Mathlib.Omega.{arith}
 use borrow.Rule.Slice.PartMut.{putMid, same-len-mid}
-use lib.ListN.{length, set, take, drop, length-set, length-drop}
+use lib.ListN.{length, set, take, drop, replicate, length-set, length-drop, length-replicate}
 use lib.Seq.{drop-set-add, take-set-le}
-use Rattle.packed.specs.Packed.{part, netIn, netNumbers, tailsFrom, headsFrom, capacitiesFrom, sourcesFrom, sinksFrom, put}
+use Rattle.packed.specs.Packed.{part, netIn, netNumbers, tailsFrom, headsFrom, capacitiesFrom, sourcesFrom, sinksFrom, marksFrom, put}
 use Rattle.packed.proofs.Columns.{part-length, put-length, part-put, part-before}
 use Rattle.packed.specs.declared.Shape.{Shape}
 
@@ -61,8 +61,8 @@ module _ (s : Shape) (few : s .arcs ≤ 256) (xs : List ℕ) (places : netNumber
     pub sink-place : 800 < length (set arced 768 source)
     sink-place = omega (arith, length-set arced 768 source, long)
 
-    pub packed-length : length filled ≡ length xs
-    packed-length = length-set (set arced 768 source) 800 sink ∙ (length-set arced 768 source ∙ long)
+    pub filled-length : length filled ≡ length xs
+    filled-length = length-set (set arced 768 source) 800 sink ∙ (length-set arced 768 source ∙ long)
 
     tails-in : part tailsFrom m filled ≡ t
     tails-in =
@@ -90,8 +90,39 @@ module _ (s : Shape) (few : s .arcs ≤ 256) (xs : List ℕ) (places : netNumber
         ap (take 1) (drop-set-add sinksFrom (set arced 768 source) 0 sink) ∙
         alone (drop sinksFrom (set arced 768 source)) sink (omega (arith, long, length-set arced 768 source, length-drop sinksFrom (set arced 768 source)))
 
-    pub packed :
-        s .commodities ≡ 1 →
-        netIn s filled ≡ record { nodes = s .nodes; tails = t; heads = h; capacities = c; sources = source ∷ []; sinks = sink ∷ [] }
-    unfolding netIn
-    packed one = rw (one, tails-in, heads-in, capacities-in, sources-in, sinks-in) refl
+    -- The marks come last, all 0, and leave the other columns alone.
+    module _ {z : List ℕ} (ez : z ≡ replicate (length (part marksFrom m filled)) 0) where
+      abbrev marked : List ℕ
+      marked = put marksFrom m filled z
+
+      fits : marksFrom + m ≤ length filled
+      fits = omega (arith, filled-length)
+
+      zeros : z ≡ replicate m 0
+      zeros = ez ∙ ap (λ (n : ℕ). replicate {A = ℕ} n 0) (part-length marksFrom m filled fits)
+
+      nz : length z ≡ m
+      nz = ap length zeros ∙ length-replicate m 0
+
+      stays : (b k : ℕ) → b + k ≤ marksFrom → part b k marked ≡ part b k filled
+      stays b k past = part-before marksFrom m filled b k z (omega (arith, fits)) past
+
+      pub packed-length : length marked ≡ length xs
+      packed-length = put-length marksFrom m filled z fits nz ∙ filled-length
+
+      pub packed :
+          s .commodities ≡ 1 →
+          netIn s marked ≡
+          record { nodes = s .nodes; tails = t; heads = h; capacities = c; marks = replicate m 0; sources = source ∷ []; sinks = sink ∷ [] }
+      unfolding netIn
+      packed one =
+          rw (
+            one,
+            stays tailsFrom m (omega arith) ∙ tails-in,
+            stays headsFrom m (omega arith) ∙ heads-in,
+            stays capacitiesFrom m (omega arith) ∙ capacities-in,
+            part-put marksFrom m filled z fits nz ∙ zeros,
+            stays sourcesFrom 1 (omega arith) ∙ sources-in,
+            stays sinksFrom 1 (omega arith) ∙ sinks-in,
+          )
+          refl

@@ -3,7 +3,7 @@ use mathlib.Core.Path.{_≡_}
 use mathlib.Core.List.{List, [], _∷_}
 use Prim.Native.Nat.{ℕ, _+_, _*_, _^_, _≤_, _<_}
 use lib.IntN.{ℤ, pos}
-use lib.ListN.{length, getD, take}
+use lib.ListN.{length, getD, take, replicate}
 use Rattle.arith.specs.Lists.{upTo, flat}
 use Rattle.bounds.specs.Bounds.{mostArcs}
 use Rattle.signed.specs.Signed.{size}
@@ -50,6 +50,7 @@ networkOfFile file =
       tails = take (file .arcs) (file .tails);
       heads = take (file .arcs) (file .heads);
       capacities = take (file .arcs) (file .capacities);
+      marks = replicate (file .arcs) 0;
       sources = file .source ∷ [];
       sinks = file .sink ∷ [];
     }

@@ -5,6 +5,7 @@ use dimacs::Parsed;
 use network::Verdict;
 use packed::CAPACITIES;
 use packed::HEADS;
+use packed::MARKS;
 use packed::NET_NUMBERS;
 use packed::SINKS;
 use packed::SOURCES;
@@ -12,6 +13,7 @@ use packed::Shape;
 use packed::TAILS;
 use rows::put::put;
 use rows::put_refusal;
+use tables::loads::clear;
 use tables::loads::copy;
 ghost use mathlib.Core.Path.{_≡_};
 ghost use lib.ListN.{length};
@@ -20,7 +22,7 @@ ghost use Rattle.report.specs.Listed.{Listed};
 ghost use Rattle.report.specs.Listing.{verdictHeld};
 ghost use Rattle.report.specs.Shown.{shapeOf, networkOfFile, Packing, Judging, Shown};
 
-// The network of a file that has been read, into one slice.
+// The network of a file that has been read, into one slice. A file marks no arc.
 fn pack(file: Parsed, net: &mut [u64])
     requires { ⌜ Packing file (now net) ⌝ }
     ensures { λ _. ⌜ netIn (shapeOf file) (now (net .exit)) ≡ networkOfFile file ⌝ }
@@ -34,6 +36,7 @@ fn pack(file: Parsed, net: &mut [u64])
     copy(&capacities[..m], &mut net[CAPACITIES..CAPACITIES + m]);
     net[SOURCES] = file.source;
     net[SINKS] = file.sink;
+    clear(&mut net[MARKS..MARKS + m]);
 }
 
 // The network that a file holds. Its counts are within their bounds, so only arcs and the commodity are left to check.

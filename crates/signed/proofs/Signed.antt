@@ -50,9 +50,6 @@ less-size x g = let p = parts-less x g in omega arith
 pub more-back : (x : ℤ) (g : ℕ) → back (x +ℤ pos g) ≤ back x
 more-back x g = let p = parts-more x g in omega arith
 
-pub less-ahead : (x : ℤ) (g : ℕ) → ahead (x -ℤ pos g) ≤ ahead x
-less-ahead x g = let p = parts-less x g in omega arith
-
 pub twos-below : (x : ℤ) → size x < 2 ^ 63 → twos x < 2 ^ 64
 unfolding ahead back twos
 twos-below (pos n) h = omega arith
@@ -64,12 +61,7 @@ unfolding ahead back twos fromTwos
 twos-read (pos n) h = rw (lt-ltb n (2 ^ 63) (omega arith))
 twos-read (negsuc n) h = rw (le-ltb (2 ^ 64 - suc n) (2 ^ 63) (omega arith)) (ap negsuc (omega arith))
 
--- An amount that is not negative is written as itself.
-pub twos-ahead : (x : ℤ) → back x ≡ 0 → twos x ≡ ahead x
-unfolding ahead back twos
-twos-ahead (pos n) h = refl
-twos-ahead (negsuc n) h = absurd (omega arith)
-
+-- Moved by a draw, an amount grows in size by no more than the draw.
 pub moved-size : (b : Bool) (g : ℕ) (x : ℤ) → size (moved b g x) ≤ size x + g
 moved-size true g x = more-size x g
 moved-size false g x = less-size x g

@@ -1,7 +1,7 @@
 -- A draw pushed along a path, arc by arc: what is still to be done, and how large the amounts become.
 -- Assumes nothing.
 use mathlib.Core.Path.{_≡_, refl, sym, ap, _∙_}
-use mathlib.Core.Bool.{Bool, true, false, cond}
+use mathlib.Core.Bool.{Bool, true, false}
 use mathlib.Core.List.{List, [], _∷_}
 use Prim.Native.Nat.{ℕ, zero, suc, _+_, _*_, _≤_, _<_}
 use native.Mathlib.Nat.{le-of-suc-le-suc, not-suc-le-zero}
@@ -10,7 +10,7 @@ use native.Mathlib.Omega.{arith}
 use borrow.Author.Tests.{eqb-true, eqb-false}
 use lib.Dec.{eqb}
 use lib.IntN.{ℤ, pos}
-use lib.ListN.{length, getD, set, drop, length-set}
+use lib.ListN.{length, getD, set, drop, length-set, drop-of-length-le}
 use lib.Seq.{getD-set-same, getD-set-other}
 use Rattle.signed.specs.Signed.{size, moved}
 use Rattle.signed.proofs.Signed.{moved-size}
@@ -22,12 +22,6 @@ drop-next : (p : List ℕ) (j : ℕ) → j < length p → drop j p ≡ getD p j 
 drop-next [] j l = absurd (not-suc-le-zero l)
 drop-next (e ∷ p) zero l = refl
 drop-next (e ∷ p) (suc j) l = drop-next p j (le-of-suc-le-suc l)
-
-drop-none : (p : List ℕ) (j : ℕ) → length p ≤ j → drop j p ≡ []
-drop-none [] zero l = refl
-drop-none [] (suc j) l = refl
-drop-none (e ∷ p) zero l = absurd (not-suc-le-zero l)
-drop-none (e ∷ p) (suc j) l = drop-none p j (le-of-suc-le-suc l)
 
 -- The flow ys on the way from xs, drawn over the first j arcs of the path p from u, to node v.
 pub record Underway (net : Network) (base g u : ℕ) (p : List ℕ) (xs : List ℤ) (v j : ℕ) (ys : List ℤ) : Type 0 where
@@ -73,4 +67,4 @@ pub push-all :
     u ≡ u′ → ys ≡ pushed net base′ g u′ p xs
 unfolding pushed
 push-all {net} {base} {g} {u} {v} {j} {base′} {u′} {p} {xs} {ys} U l q r =
-    rw (← q, ← r) (sym (ap (λ (r : List ℕ). pushed net base g v r ys) (drop-none p j l)) ∙ U .rest)
+    rw (← q, ← r) (sym (ap (λ (r : List ℕ). pushed net base g v r ys) (drop-of-length-le p {i = j} l)) ∙ U .rest)

@@ -6,35 +6,35 @@ use Prim.Native.Nat.{ℕ, _-_, _≤_}
 use native.Mathlib.Omega.{arith}
 use lib.ListN.{length, length-set}
 use borrow.Author.Needs.{needs}
-use Rattle.index.specs.Indexing.{Building}
+use Rattle.index.specs.Indexing.{Side, side, Building}
 use Rattle.index.proofs.Building.{building-none, building-all}
 use Rattle.index.proofs.index_by.Statement.{statement}
 use Rattle.index.proofs.index_by.Tie as tie
 
 -- the nodes up to v are in the index, in a slice as large as at first
-record Rows (n : ℕ) (here there ix₀ ix : List ℕ) (v : ℕ) : Type 0 where
-  building : Building here there v (length here) ix
+record Rows (n : ℕ) (c : Side) (ix₀ ix : List ℕ) (v : ℕ) : Type 0 where
+  building : Building c v (length (c .here)) ix
   within : v ≤ n
   size : length ix ≡ length ix₀
 
 abbrev Inv-loop : tie.InvT-loop
-Inv-loop n here there ix₀ v₀ ix v = Rows n here there ix₀ ix v
+Inv-loop n here there marks ix₀ v₀ ix v = Rows n (side here there marks) ix₀ ix v
 
 abbrev μ-loop : tie.MeasureT-loop
-μ-loop n here there ix₀ v₀ ix v = n - v
+μ-loop n here there marks ix₀ v₀ ix v = n - v
 
 -- the function's entry, seen from a turn
 abbrev entry : tie.At-loop Inv-loop μ-loop → tie.Start Inv-loop μ-loop
-entry c = c .before .before .before .before
+entry c = c .before .before .before .before .before
 
 slice-write-ix-2 : tie.Need-slice-write-ix-2 Inv-loop μ-loop
-slice-write-ix-2 c = simp length-set (omega (arith, c .before .before .before .pre .numbers))
+slice-write-ix-2 c = simp length-set (omega (arith, c .before .before .before .before .pre .numbers))
 
 loop-holds : tie.Need-loop-holds Inv-loop μ-loop
 loop-holds c =
-    let s = c .before .before .before in
+    let s = c .before .before .before .before in
     record {
-      building = building-none (s .args .here .now) (s .args .there .now) (s .args .ix .now) (s .pre .ends) (s .pre .numbers);
+      building = building-none _ (s .pre .columns) (s .args .ix .now) (s .pre .numbers);
       within = omega arith;
       size = refl;
     }
@@ -45,8 +45,7 @@ row-requires c κs =
     let s = entry (t .before) in
     record {
       building = t .before .loop .inv .building;
-      few = s .pre .few;
-      others = s .pre .others;
+      columns = s .pre .columns;
       node = omega (arith, t .loop-test .taken, s .pre .nodes);
     }
 
@@ -57,7 +56,7 @@ loop-again c =
     record {
       building = R .ensures;
       within = omega (arith, t .loop-test .taken);
-      size = R .kept .1 .1 .1 .0 ∙ t .before .loop .inv .size;
+      size = R .kept .1 .1 .1 .1 .0 ∙ t .before .loop .inv .size;
     }
 
 same-length : tie.Need-same-length Inv-loop μ-loop

@@ -1,7 +1,7 @@
 -- `host::deliver::write_tables` meets its contract: the work space is large enough for every accepted network. Assumes nothing.
 use borrow.Author.Needs.{needs}
 use mathlib.Core.Path.{sym, ap₂, _∙_}
-use Prim.Native.Nat.{ℕ, _*_, _≤_}
+use Prim.Native.Nat.{_*_, _≤_}
 use native.Mathlib.Nat.{mul-le-mul}
 use lib.IntN.{pos}
 use lib.ListN.{replicate, length-replicate}

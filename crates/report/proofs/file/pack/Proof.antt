@@ -5,12 +5,13 @@ use mathlib.Core.List.{List}
 use Prim.Native.Nat.{ℕ, _+_, _-_, _≤_}
 use native.Mathlib.Omega.{arith}
 use borrow.Rule.Slice.PartMut.{putMid}
-use lib.ListN.{length, take}
+use lib.ListN.{length, set, take}
 use lib.Seq.{length-take-le}
+use Rattle.bounds.specs.Bounds.{mostArcs}
 use Rattle.packed.specs.Packed.{netNumbers, tailsFrom, headsFrom, capacitiesFrom, put}
 use Rattle.packed.proofs.Columns.{part-length, put-length}
 use Rattle.report.specs.Shown.{shapeOf}
-use Rattle.report.proofs.Packing.{sink-place, packed-length, packed}
+use Rattle.report.proofs.Packing.{sink-place, filled-length, packed-length, packed}
 use borrow.Author.Needs.{needs}
 use Rattle.report.proofs.file.pack.Statement.{statement}
 use Rattle.report.proofs.file.pack.Tie as tie
@@ -39,12 +40,15 @@ tails-at c = c .before .before .before .before .before .before
 abbrev heads-at : tie.After-copy3 → tie.After-copy2
 heads-at c = c .before .before .before .before .before .before
 
--- the slice after the first and the second
+-- the slice after each
 abbrev tailed : tie.After-copy → List ℕ
 tailed c = put tailsFrom (m (entry c)) (now (entry c .args .net)) (c .copy .last .1 .0)
 
 abbrev headed : tie.After-copy2 → List ℕ
 headed c = put headsFrom (m (entry (tails-at c))) (tailed (tails-at c)) (c .copy2 .last .1 .0)
+
+abbrev arced : tie.After-copy3 → List ℕ
+arced c = put capacitiesFrom (m (entry (tails-at (heads-at c)))) (headed (heads-at c)) (c .copy3 .last .1 .0)
 
 tailed-long : (c : tie.After-copy) → netNumbers ≤ length (tailed c)
 tailed-long c =
@@ -89,19 +93,30 @@ slice-write-net-2 c =
     sink-place (shapeOf (s .args .file)) (s .pre .few) (now (s .args .net)) (s .pre .places) (t .copy .ensures) (h .copy2 .ensures)
     (f .copy3 .ensures) (s .args .file .source) (s .args .file .sink) (tails-many s) (heads-many s) (capacities-many s)
 
+-- before the marks: the slice is as long as at first
+room : (f : tie.After-copy3) → let h = heads-at f in let s = entry (tails-at h) in (m s ≤ mostArcs) × (netNumbers ≤ length (set (set (arced f) 768 (s .args .file .source)) 800 (s .args .file .sink)))
+room f =
+    let h = heads-at f in let t = tails-at h in let s = entry t in
+    let e = filled-length (shapeOf (s .args .file)) (s .pre .few) (now (s .args .net)) (s .pre .places) (t .copy .ensures) (h .copy2 .ensures)
+    (f .copy3 .ensures) (s .args .file .source) (s .args .file .sink) (tails-many s) (heads-many s) (capacities-many s) in
+    (s .pre .few, omega (arith, e, s .pre .places))
+
+abbrev copied-at : tie.After-clear → tie.After-copy3
+copied-at c = c .before .before .before .before
+
 same-length : tie.Need-same-length
 same-length c =
-    let f = c .before .before in let h = heads-at f in let t = tails-at h in
+    let z = c .before .before in let f = copied-at z in let h = heads-at f in let t = tails-at h in
     let s = entry t in
     packed-length (shapeOf (s .args .file)) (s .pre .few) (now (s .args .net)) (s .pre .places) (t .copy .ensures) (h .copy2 .ensures)
-    (f .copy3 .ensures) _ _ (tails-many s) (heads-many s) (capacities-many s)
+    (f .copy3 .ensures) _ _ (tails-many s) (heads-many s) (capacities-many s) (z .clear .ensures)
 
 returns : tie.Need-returns
 returns c =
-    let f = c .before .before in let h = heads-at f in let t = tails-at h in
+    let z = c .before .before in let f = copied-at z in let h = heads-at f in let t = tails-at h in
     let s = entry t in
     packed (shapeOf (s .args .file)) (s .pre .few) (now (s .args .net)) (s .pre .places) (t .copy .ensures) (h .copy2 .ensures) (f .copy3 .ensures)
-    (s .args .file .source) (s .args .file .sink) (tails-many s) (heads-many s) (capacities-many s) refl
+    (s .args .file .source) (s .args .file .sink) (tails-many s) (heads-many s) (capacities-many s) (z .clear .ensures) refl
 
 pub pack-spec : {M : Type 1} → statement M
 pack-spec =
@@ -109,4 +124,6 @@ pack-spec =
     (λ c. search needs) (λ c. search needs) copy-requires (λ c. search needs) slice-aggregate-copy-2
     (λ c. search needs) (λ c. search needs) (λ c. search needs) (λ c. search needs) copy-requires-2
     (λ c. search needs) slice-aggregate-copy-3 (λ c. search needs) (λ c. search needs) (λ c. search needs)
-    (λ c. search needs) copy-requires-3 (λ c. search needs) slice-write-net-2 same-length returns)
+    (λ c. search needs) copy-requires-3 (λ c. search needs) slice-write-net-2 (λ c. omega (arith, room (c .before .before)))
+    (λ c. omega (arith, room (c .before .before))) (λ c. omega arith) (λ c. omega (arith, room (c .before .before))) (λ c κs. search needs)
+    same-length returns)

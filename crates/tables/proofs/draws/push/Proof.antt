@@ -2,14 +2,13 @@
 -- 64 draws, so the sums fit. Assumes nothing.
 use borrow.Author.Needs.{needs}
 use denote.Ref.{now}
-use mathlib.Core.Path.{_≡_, sym, ap, _∙_}
+use mathlib.Core.Path.{sym, ap}
 use native.Mathlib.Nat.{mul-le-mul}
 use native.Mathlib.Omega.{arith}
 use Prim.Native.Nat.{ℕ, _+_, _*_, _-_, _≤_, _<_}
-use lib.IntN.{pos}
 use lib.ListN.{length, getD}
 use Rattle.bounds.specs.Bounds.{mostNodes, mostCommodities}
-use Rattle.network.specs.Network.{arcs, source}
+use Rattle.network.specs.Network.{arcs}
 use Rattle.packed.specs.Packed.{netIn, sourcesFrom, netNumbers}
 use Rattle.packed.proofs.Columns.{part-at, arcs-is, commodities-is}
 use Rattle.tables.proofs.Pushed.{Underway, push-none, push-more, push-all}
