@@ -4,8 +4,8 @@
 //! of the ratios of all rounds is far from it, so were these. Where the two make
 //! different counts of choices, their times a choice are compared. `--q N` keeps to
 //! that precision (4, 8 and 16 otherwise), `--seed N` takes other floors, `--rounds N`
-//! more samples, `--marked` makes all belts reversible, `--layout NAME` is another call
-//! of the other archive than this tree's.
+//! more samples, `--marked` makes all belts reversible, `--limited` limits all stations,
+//! `--layout NAME` is another call of the other archive than this tree's.
 
 // Of the comparison's modules not everything is needed here.
 #![allow(dead_code)]
@@ -25,7 +25,7 @@ mod random;
 mod shapes;
 
 use call::{get, Call};
-use full::{floors_at, mean, precision};
+use full::{floors_at, mean, precision, Kind};
 use layouts::{Archive, Layout};
 use std::process::ExitCode;
 use std::time::{Duration, Instant};
@@ -43,18 +43,18 @@ struct Options {
     seed: u64,
     rounds: usize,
     layout: Layout,
-    marked: bool,
+    kind: Kind,
 }
 
 fn main() -> ExitCode {
     let Some(options) = options(std::env::args().skip(1)) else {
         eprint!("bench: with --against the options are --q NUMBER, --seed NUMBER, ");
-        eprintln!("--rounds NUMBER (from {ROUNDS}), --marked and --layout base (without --marked)");
+        eprint!("--rounds NUMBER (from {ROUNDS}), --marked, --limited and --layout base ");
+        eprintln!("(without these two) or marks (without --limited)");
         return ExitCode::from(2);
     };
-    let belts = if options.marked { "belts all reversible, " } else { "" };
-    print!("n 64, m 256, k 32, {belts}capacities 1 to 1,000, seed {}; ", options.seed);
-    println!("here is this tree, there the other archive");
+    let floors = options.kind.described(options.seed);
+    println!("{floors}; here is this tree, there the other archive");
     for q in &options.precisions {
         compare(*q, &options);
     }
@@ -63,22 +63,23 @@ fn main() -> ExitCode {
 
 fn options(mut words: impl Iterator<Item = String>) -> Option<Options> {
     let (precisions, layout) = (Vec::new(), Layout::HERE);
-    let mut options = Options { precisions, seed: 1, rounds: ROUNDS, layout, marked: false };
+    let kind = Kind::default();
+    let mut options = Options { precisions, seed: 1, rounds: ROUNDS, layout, kind };
     while let Some(word) = words.next() {
         match word.as_str() {
             "--q" => options.precisions.push(precision(&words.next()?)?),
             "--seed" => options.seed = words.next()?.parse().ok()?,
             "--rounds" => options.rounds = rounds(&words.next()?)?,
             "--layout" => options.layout = Layout::named(&words.next()?)?,
-            "--marked" => options.marked = true,
+            "--marked" => options.kind.marked = true,
+            "--limited" => options.kind.limited = true,
             _ => return None,
         }
     }
     if options.precisions.is_empty() {
         options.precisions = full::PRECISIONS.into();
     }
-    let possible = !options.marked || options.layout.has_marks();
-    possible.then_some(options)
+    options.layout.has(options.kind).then_some(options)
 }
 
 fn rounds(word: &str) -> Option<usize> {
@@ -90,7 +91,7 @@ fn compare(q: u64, options: &Options) {
     let heads = ["floor", "q", "choices here", "choices there", "here ms", "there ms"];
     show_line(heads.map(String::from), ["here/there", "middle"].map(String::from), "");
     let mut rows = Vec::new();
-    for (name, floor) in floors_at(q, options.seed, options.marked) {
+    for (name, floor) in floors_at(q, options.seed, options.kind) {
         let row = measure(name, &floor, options);
         row.show(q);
         rows.push(row);

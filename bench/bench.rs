@@ -3,7 +3,7 @@
 //! same tables. Exits with 1 if the tables differ or the stack grows too deep.
 //! `--q N` keeps to that precision (4, 8 and 16 otherwise), `--fast` leaves the
 //! plain form out, `--seed N` takes other floors, `--marked` makes all their belts
-//! reversible and leaves the plain form out.
+//! reversible and `--limited` limits all their stations; both leave the plain form out.
 
 // Of the comparison's modules not everything is needed here.
 #![allow(dead_code)]
@@ -33,7 +33,7 @@ mod solver;
 mod stack;
 
 use call::{get, Call};
-use full::{floors_at, mean, precision};
+use full::{floors_at, mean, precision, Kind};
 use std::process::ExitCode;
 use std::time::{Duration, Instant};
 
@@ -47,7 +47,7 @@ struct Options {
     precisions: Vec<u64>,
     plain: bool,
     seed: u64,
-    marked: bool,
+    kind: Kind,
 }
 
 struct Times {
@@ -58,12 +58,12 @@ struct Times {
 
 fn main() -> ExitCode {
     let Some(options) = options(std::env::args().skip(1)) else {
-        eprintln!("bench: the options are --q NUMBER, --fast, --seed NUMBER and --marked");
+        eprint!("bench: the options are --q NUMBER, --fast, --seed NUMBER, --marked and ");
+        eprintln!("--limited");
         return ExitCode::from(2);
     };
-    let belts = if options.marked { "belts all reversible, " } else { "" };
-    print!("n 64, m 256, k 32, {belts}capacities 1 to 1,000, seed {}; ", options.seed);
-    println!("each run on a fresh copy, tables zero");
+    let floors = options.kind.described(options.seed);
+    println!("{floors}; each run on a fresh copy, tables zero");
     let shallow = report_stack(&options);
     let mut alike = true;
     for q in &options.precisions {
@@ -73,19 +73,22 @@ fn main() -> ExitCode {
 }
 
 fn options(mut words: impl Iterator<Item = String>) -> Option<Options> {
-    let mut options = Options { precisions: Vec::new(), plain: true, seed: 1, marked: false };
+    let kind = Kind::default();
+    let mut options = Options { precisions: Vec::new(), plain: true, seed: 1, kind };
     while let Some(word) = words.next() {
         match word.as_str() {
             "--q" => options.precisions.push(precision(&words.next()?)?),
             "--seed" => options.seed = words.next()?.parse().ok()?,
             "--fast" => options.plain = false,
-            "--marked" => options.marked = true,
+            "--marked" => options.kind.marked = true,
+            "--limited" => options.kind.limited = true,
             _ => return None,
         }
     }
     if options.precisions.is_empty() {
         options.precisions = full::PRECISIONS.into();
     }
+    options.plain &= !options.kind.marked && !options.kind.limited;
     Some(options)
 }
 
@@ -96,8 +99,8 @@ fn bench(q: u64, options: &Options) -> bool {
     show_row(["floor", "q", "choices", library, fast, plain, level, gain].map(String::from));
     let mut rows = Vec::new();
     let mut alike = true;
-    for (name, call) in floors_at(q, options.seed, options.marked) {
-        let (times, same, choices) = measure(&call, options.plain && !options.marked);
+    for (name, call) in floors_at(q, options.seed, options.kind) {
+        let (times, same, choices) = measure(&call, options.plain);
         show(&name, q, choices, &times);
         if !same {
             println!("DIFFERENT {name}: the library's tables are not the second solver's");
@@ -177,7 +180,7 @@ fn show_means(q: u64, rows: &[Times]) {
 /// The deepest of one call on each floor: what is on the stack does not depend
 /// on the precision.
 fn report_stack(options: &Options) -> bool {
-    let calls = floors_at(4, options.seed, options.marked).into_iter();
+    let calls = floors_at(4, options.seed, options.kind).into_iter();
     let depths = calls.map(|(_, call)| stack::depth_of(move || drop(solve(call))));
     match depths.collect::<std::io::Result<Vec<usize>>>() {
         Ok(depths) => {

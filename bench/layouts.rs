@@ -4,6 +4,7 @@
 
 use crate::call::{get, Call, BELT, NUMBER};
 use crate::clock::spent;
+use crate::full::Kind;
 use std::mem::transmute;
 use std::time::Duration;
 
@@ -14,22 +15,30 @@ pub enum Layout {
     Base,
     /// Belts of four numbers, the last their mark, and a signed flow (request C-12).
     Marks,
+    /// After the pairs a slice of limits (request C-17).
+    Limits,
 }
 
 impl Layout {
     /// This tree's, that of tests/second/library.rs.
-    pub const HERE: Layout = Layout::Marks;
+    pub const HERE: Layout = Layout::Limits;
 
     pub fn named(name: &str) -> Option<Layout> {
         match name {
             "base" => Some(Layout::Base),
             "marks" => Some(Layout::Marks),
+            "limits" => Some(Layout::Limits),
             _ => None,
         }
     }
 
-    pub fn has_marks(self) -> bool {
-        self != Layout::Base
+    /// Whether such floors can be sent by it.
+    pub fn has(self, kind: Kind) -> bool {
+        match self {
+            Layout::Base => !kind.marked && !kind.limited,
+            Layout::Marks => !kind.limited,
+            Layout::Limits => true,
+        }
     }
 }
 
@@ -73,8 +82,9 @@ impl Archive {
     /// leaves what was written where this tree's library would.
     pub fn solve(&self, call: &mut Call) -> Run {
         match self.layout {
-            Layout::Base => solve(self.symbol, &without_marks(&call.belts), call),
-            Layout::Marks => solve(self.symbol, &call.belts.clone(), call),
+            Layout::Base => solve_unlimited(self.symbol, &without_marks(&call.belts), call),
+            Layout::Marks => solve_unlimited(self.symbol, &call.belts.clone(), call),
+            Layout::Limits => solve(self.symbol, call),
         }
     }
 }
@@ -103,20 +113,52 @@ type Solve = unsafe extern "C" fn(
     n: u64, q: u64,
     belts: Read, belts_len: usize,
     pairs: Read, pairs_len: usize,
+    limits: Read, limits_len: usize,
     flow: Written, flow_len: usize,
     length: Written, length_len: usize,
     answer: Written, answer_len: usize,
     count: Written, count_len: usize,
 ) -> u64;
 
-/// For the layouts that differ in their belts alone.
 #[rustfmt::skip]
-fn solve(symbol: Symbol, belts: &[u8], call: &mut Call) -> Run {
-    let Call { n, q, pairs, flow, length, answer, count, .. } = call;
-    // SAFETY: an archive of these layouts has these arguments, and asks of its caller
+fn solve(symbol: Symbol, call: &mut Call) -> Run {
+    let Call { n, q, belts, pairs, limits, flow, length, answer, count } = call;
+    // SAFETY: an archive of this layout has these arguments, and asks of its caller
     // only that each pointer and count be a slice of its own, as borrowed ones are.
     timed(|| unsafe {
         transmute::<Symbol, Solve>(symbol)(
+            *n, *q,
+            belts.as_ptr(), belts.len(),
+            pairs.as_ptr(), pairs.len(),
+            limits.as_ptr(), limits.len(),
+            flow.as_mut_ptr(), flow.len(),
+            length.as_mut_ptr(), length.len(),
+            answer.as_mut_ptr(), answer.len(),
+            count.as_mut_ptr(), count.len(),
+        )
+    })
+}
+
+#[rustfmt::skip]
+type SolveUnlimited = unsafe extern "C" fn(
+    n: u64, q: u64,
+    belts: Read, belts_len: usize,
+    pairs: Read, pairs_len: usize,
+    flow: Written, flow_len: usize,
+    length: Written, length_len: usize,
+    answer: Written, answer_len: usize,
+    count: Written, count_len: usize,
+) -> u64;
+
+/// For the layouts without limits, which differ in their belts alone.
+#[rustfmt::skip]
+fn solve_unlimited(symbol: Symbol, belts: &[u8], call: &mut Call) -> Run {
+    let Call { n, q, pairs, limits, flow, length, answer, count, .. } = call;
+    assert!(limits.is_empty(), "this layout has no limits");
+    // SAFETY: an archive of these layouts has these arguments, and asks of its caller
+    // only that each pointer and count be a slice of its own, as borrowed ones are.
+    timed(|| unsafe {
+        transmute::<Symbol, SolveUnlimited>(symbol)(
             *n, *q,
             belts.as_ptr(), belts.len(),
             pairs.as_ptr(), pairs.len(),

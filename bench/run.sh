@@ -2,15 +2,16 @@
 # Times the static library against the second solver, and sees that it cannot
 # allocate; three to five minutes, most of them the plain form's at q 16. Arguments
 # go to the program: --q 4, --fast (without the plain form), --seed 7, --marked (every
-# belt reversible, and without the plain form).
+# belt reversible, and without the plain form), --limited (every station limited, 64 belts
+# fewer, and without the plain form).
 #
 # --against ARCHIVE times it against another archive instead, in one process and in
 # turn, and prints the ratio of each floor and their geometric mean; two minutes.
 # With it go --q 4, --seed 7, --rounds 20 (5 otherwise; more where the machine is
-# busy), --marked and --layout base, for an archive with that call where this tree's is
-# another (bench/layouts.rs); base has no marks. An archive to compare with is a copy of
-# target/staticlib/libvithmork.a, made before a change, or what
-# bench/archive.sh REVISION FILE builds.
+# busy), --marked, --limited and --layout base or marks, for an archive with that call
+# where this tree's is another (bench/layouts.rs): base has no marks, and neither has
+# limits. An archive to compare with is a copy of target/staticlib/libvithmork.a, made
+# before a change, or what bench/archive.sh REVISION FILE builds.
 set -eu
 from=$PWD
 cd "$(dirname "$0")/.."

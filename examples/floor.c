@@ -49,8 +49,8 @@ int main(void)
 {
     fill();
     uint64_t returned = vithmork_solve(
-        STATIONS, PRECISION, belts, sizeof belts, pairs, sizeof pairs, flow, sizeof flow,
-        lengths, sizeof lengths, answer, sizeof answer, count, sizeof count);
+        STATIONS, PRECISION, belts, sizeof belts, pairs, sizeof pairs, VITHMORK_ABSENT, 0,
+        flow, sizeof flow, lengths, sizeof lengths, answer, sizeof answer, count, sizeof count);
     if (returned != VITHMORK_ACCEPTED) {
         vithmork_refusal refusal = vithmork_refused(returned);
         printf("refused: %u (%s), place %u\n", refusal.number, vithmork_word(refusal.number),

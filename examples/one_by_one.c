@@ -33,8 +33,8 @@ static double solve(size_t first, size_t number, double *carried)
 {
     uint64_t returned = vithmork_solve(
         STATIONS, PRECISION, belts, sizeof belts, pairs + VITHMORK_PAIRS_BYTES(first),
-        VITHMORK_PAIRS_BYTES(number), flow, sizeof flow, lengths, sizeof lengths, answer,
-        sizeof answer, count, sizeof count);
+        VITHMORK_PAIRS_BYTES(number), VITHMORK_ABSENT, 0, flow, sizeof flow, lengths,
+        sizeof lengths, answer, sizeof answer, count, sizeof count);
     if (returned != VITHMORK_ACCEPTED) {
         vithmork_refusal refusal = vithmork_refused(returned);
         printf("refused: %u (%s), place %u\n", refusal.number, vithmork_word(refusal.number),

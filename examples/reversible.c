@@ -44,8 +44,9 @@ static size_t put_opposite(void)
 static void solve(const char *what, size_t m)
 {
     uint64_t returned = vithmork_solve(
-        STATIONS, PRECISION, belts, VITHMORK_BELTS_BYTES(m), pairs, sizeof pairs, flow,
-        sizeof flow, lengths, sizeof lengths, answer, sizeof answer, count, sizeof count);
+        STATIONS, PRECISION, belts, VITHMORK_BELTS_BYTES(m), pairs, sizeof pairs,
+        VITHMORK_ABSENT, 0, flow, sizeof flow, lengths, sizeof lengths, answer, sizeof answer,
+        count, sizeof count);
     if (returned != VITHMORK_ACCEPTED) {
         vithmork_refusal refusal = vithmork_refused(returned);
         printf("refused: %u (%s), place %u\n", refusal.number, vithmork_word(refusal.number),

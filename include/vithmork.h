@@ -19,10 +19,10 @@ extern "C" {
 /* The first number rises with every change of a call, in what it takes, writes
  * or returns: a host then has to be looked at anew. The second rises with what
  * is new beside that, the third with what is put right. */
-#define VITHMORK_VERSION_MAJOR 2
+#define VITHMORK_VERSION_MAJOR 3
 #define VITHMORK_VERSION_MINOR 0
 #define VITHMORK_VERSION_PATCH 0
-#define VITHMORK_VERSION "2.0.0"
+#define VITHMORK_VERSION "3.0.0"
 
 /* Bounds. What lies outside them is refused, so a host need not test first. */
 enum {
@@ -34,21 +34,26 @@ enum {
     VITHMORK_MAX_PAIRS = 32,
     VITHMORK_MIN_CAPACITY = 1,
     VITHMORK_MAX_CAPACITY = 1000,
+    VITHMORK_MIN_LIMIT = 1,
+    VITHMORK_MAX_LIMIT = 1000,
+    VITHMORK_MAX_BELTS_AND_LIMITS = 256,
     VITHMORK_MIN_PRECISION = 4,
     VITHMORK_MAX_PRECISION = 16
 };
 
-/* Sizes in bytes. m and k are the whole items in the slices of belts and pairs;
- * an incomplete last one is not read. The tables to write may be longer than m
- * and k ask: their later bytes keep their contents. */
+/* Sizes in bytes. m and k are the whole items in the slices of belts and pairs, r
+ * is m and as many more as stations have a limit (vithmork_limited counts them); an
+ * incomplete last item is not read. The tables to write may be longer than m, k and
+ * r ask: their later bytes keep their contents. */
 #define VITHMORK_NUMBER_BYTES ((size_t)8)
 #define VITHMORK_BELT_NUMBERS ((size_t)4)
 #define VITHMORK_PAIR_NUMBERS ((size_t)2)
 #define VITHMORK_ANSWER_NUMBERS ((size_t)7)
 #define VITHMORK_BELTS_BYTES(m) ((size_t)(m) * VITHMORK_BELT_NUMBERS * VITHMORK_NUMBER_BYTES)
 #define VITHMORK_PAIRS_BYTES(k) ((size_t)(k) * VITHMORK_PAIR_NUMBERS * VITHMORK_NUMBER_BYTES)
+#define VITHMORK_LIMITS_BYTES(n) ((size_t)(n) * VITHMORK_NUMBER_BYTES)
 #define VITHMORK_FLOW_BYTES(k, m) ((size_t)(k) * (size_t)(m) * VITHMORK_NUMBER_BYTES)
-#define VITHMORK_LENGTH_BYTES(m) ((size_t)(m) * VITHMORK_NUMBER_BYTES)
+#define VITHMORK_LENGTH_BYTES(r) ((size_t)(r) * VITHMORK_NUMBER_BYTES)
 #define VITHMORK_ANSWER_BYTES (VITHMORK_ANSWER_NUMBERS * VITHMORK_NUMBER_BYTES)
 #define VITHMORK_COUNT_BYTES VITHMORK_NUMBER_BYTES
 
@@ -58,9 +63,9 @@ enum {
  * reduced or rounded. */
 enum {
     VITHMORK_DRAWN = 0,          /* F, the sum of all draws */
-    VITHMORK_SCALE_CAPACITY = 1, /* c(b), capacity of the fullest belt b */
+    VITHMORK_SCALE_CAPACITY = 1, /* c(b) of the fullest b, a belt or a limited station */
     VITHMORK_SCALE_LOAD = 2,     /* Y(b), what was drawn over it, either way */
-    VITHMORK_BOUND_D = 3,        /* capacity * length, summed over all belts */
+    VITHMORK_BOUND_D = 3,        /* capacity * length, summed over belts and limited stations */
     VITHMORK_BOUND_ALPHA = 4,    /* the shortest route under the same lengths */
     VITHMORK_CHOICES = 5,        /* routes chosen; 0 says that no pair is joined */
     VITHMORK_BOUND_CHOICE = 6    /* which of them, from 1, gave the bound; 0 if none */
@@ -77,7 +82,9 @@ enum {
     VITHMORK_REFUSED_LOOSE_BELT = 6,  /* an end outside 1 to n, or both equal; place: the belt */
     VITHMORK_REFUSED_CAPACITY = 7,    /* out of bounds; place: the belt */
     VITHMORK_REFUSED_LOOSE_PAIR = 8,  /* as 6; place: the pair */
-    VITHMORK_REFUSED_FULL_COUNT = 11  /* running count above 2^63 */
+    VITHMORK_REFUSED_FULL_COUNT = 11, /* running count above 2^63 */
+    VITHMORK_REFUSED_LIMIT = 14,      /* above VITHMORK_MAX_LIMIT; place: the station */
+    VITHMORK_REFUSED_BELTS_AND_LIMITS = 15 /* more than 256 of them together */
 };
 
 /* Solves one floor.
@@ -88,11 +95,17 @@ enum {
  *           if the belt is reversible: then routes take it either way, and one
  *           capacity holds what goes both ways together
  *   pairs   k items: source, sink. A pair may be listed twice
+ *   limits  a number for each station, from the first on: how many totes an hour
+ *           may start, end or pass there, all pairs together. 0 is no limit, and so
+ *           is a number that is not there; those past the n-th are not read. A
+ *           pair's use of a station is the larger of what it brings in and what it
+ *           takes out
  *   flow    written: m amounts for each pair, pair by pair, to be scaled (above).
  *           They are signed, in two's complement: a negative one runs from head
  *           to tail, which only reversible belts have. It is what is left where
  *           a pair's draws went both ways and cancelled
- *   lengths written: m lengths that give the bound
+ *   lengths written: r lengths that give the bound, those of the belts and then
+ *           those of the limited stations in order
  *   answer  written: seven numbers (above)
  *   count   read and written: the running count, raised by the choices made. It
  *           is the host's own, for as many calls as it likes, and must be set
@@ -109,7 +122,7 @@ enum {
  *
  * Threads may call at once if no two lend the same slice to write. That goes
  * for the running count too: two threads with one count lose part of it. They
- * may share belts and pairs.
+ * may share belts, pairs and limits.
  *
  * A call cannot be interrupted; it always ends. Of eleven floors of 64 stations,
  * 256 belts and 32 pairs the slowest took 37 ms at q = 4 and 0.6 s at q = 16, on
@@ -118,6 +131,7 @@ enum {
 uint64_t vithmork_solve(uint64_t n, uint64_t q,
                         const uint8_t *belts, size_t belts_len,
                         const uint8_t *pairs, size_t pairs_len,
+                        const uint8_t *limits, size_t limits_len,
                         uint8_t *flow, size_t flow_len,
                         uint8_t *lengths, size_t lengths_len,
                         uint8_t *answer, size_t answer_len,
@@ -154,6 +168,8 @@ static inline const char *vithmork_word(unsigned number)
     case VITHMORK_REFUSED_CAPACITY: return "capacity";
     case VITHMORK_REFUSED_LOOSE_PAIR: return "loose pair";
     case VITHMORK_REFUSED_FULL_COUNT: return "full count";
+    case VITHMORK_REFUSED_LIMIT: return "limit";
+    case VITHMORK_REFUSED_BELTS_AND_LIMITS: return "belts and limits";
     default: return "unknown";
     }
 }
@@ -212,12 +228,27 @@ static inline void vithmork_put_reversible_belt(uint8_t *belts, size_t e, uint64
 }
 
 /* Pair p, from 0. */
-
 static inline void vithmork_put_pair(uint8_t *pairs, size_t p, uint64_t source, uint64_t sink)
 {
     uint8_t *item = pairs + VITHMORK_PAIRS_BYTES(p);
     vithmork_put(item, 0, source);
     vithmork_put(item, 1, sink);
+}
+
+/* The limit of a station, which is numbered from 1. */
+static inline void vithmork_put_limit(uint8_t *limits, size_t station, uint64_t limit)
+{
+    vithmork_put(limits, station - 1, limit);
+}
+
+/* How many of n stations have a limit: r is m and so many. */
+static inline size_t vithmork_limited(const uint8_t *limits, size_t limits_len, size_t n)
+{
+    size_t limited = 0;
+    for (size_t i = 0; i < n && i < limits_len / VITHMORK_NUMBER_BYTES; i++)
+        if (vithmork_get(limits, i) != 0)
+            limited++;
+    return limited;
 }
 
 /* What pair p, from 0, of a floor of m belts carries by itself: what leaves its
@@ -237,6 +268,25 @@ static inline uint64_t vithmork_pair_total(const uint8_t *belts, size_t m, const
             total -= amount;
     }
     return total;
+}
+
+/* What pair p, from 0, of a floor of m belts uses of a station: the larger of what
+ * it brings in and what it takes out. Scaled, the uses of all pairs are together
+ * within the station's limit. */
+static inline uint64_t vithmork_station_use(const uint8_t *belts, size_t m, size_t p,
+                                            const uint8_t *flow, uint64_t station)
+{
+    uint64_t in = 0, out = 0;
+    for (size_t e = 0; e < m; e++) {
+        int64_t amount = vithmork_get_signed(flow, p * m + e);
+        uint64_t tail = vithmork_get(belts, e * VITHMORK_BELT_NUMBERS);
+        uint64_t head = vithmork_get(belts, e * VITHMORK_BELT_NUMBERS + 1);
+        if (station == (amount < 0 ? head : tail))
+            out += vithmork_size(amount);
+        if (station == (amount < 0 ? tail : head))
+            in += vithmork_size(amount);
+    }
+    return in < out ? out : in;
 }
 
 /* The size of an amount of the flow table, or the sum of some, in totes an hour:

@@ -1,7 +1,8 @@
 #!/usr/bin/env bash
 # Holds listings against GLPK's exact optimum, which must lie between total and bound: on the samples that GLPK brings with it and
 # on examples/ and the network of such a sample. Then the library and the second solver, on linear programs of small floors with
-# reversible belts and several pairs; arguments go to that program (tests/second/lp.rs): --seed 7, --forms (without the library).
+# reversible belts, limited stations and several pairs; arguments go to that program (tests/second/lp.rs): --seed 7, --forms (without
+# the library).
 # Exit status 77 says that glpsol (Debian's glpk-utils) is absent.
 set -eu
 cd "$(dirname "$0")/.."

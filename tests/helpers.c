@@ -1,16 +1,17 @@
 /* What the header adds to the call: versions, absent slices, marks, signed
- * amounts and a pair's own total. Compiled as C99 and as C++17; exits with 1 if something is otherwise. */
+ * amounts, limits, a station's use and a pair's own total. Compiled as C99 and as C++17; exits with 1 if something is otherwise. */
 #include "vithmork.h"
 
 #include <stdio.h>
 #include <string.h>
 
-enum { STATIONS = 4, BELTS = 6, PAIRS = 3, PRECISION = 16 };
+enum { STATIONS = 4, BELTS = 6, LIMITED = 2, PAIRS = 3, PRECISION = 16 };
 
 static uint8_t belts[VITHMORK_BELTS_BYTES(BELTS)];
 static uint8_t pairs[VITHMORK_PAIRS_BYTES(PAIRS)];
 static uint8_t flow[VITHMORK_FLOW_BYTES(PAIRS, BELTS)];
-static uint8_t lengths[VITHMORK_LENGTH_BYTES(BELTS)];
+static uint8_t limits[VITHMORK_LIMITS_BYTES(STATIONS)];
+static uint8_t lengths[VITHMORK_LENGTH_BYTES(BELTS + LIMITED)];
 static uint8_t answer[VITHMORK_ANSWER_BYTES];
 static uint8_t count[VITHMORK_COUNT_BYTES];
 
@@ -44,6 +45,8 @@ static void fill(void)
     vithmork_put_pair(pairs, 0, 1, 4);
     vithmork_put_pair(pairs, 1, 2, 3);
     vithmork_put_pair(pairs, 2, 3, 1);
+    vithmork_put_limit(limits, 2, 450);
+    vithmork_put_limit(limits, 3, 700);
     vithmork_put(count, 0, 0);
 }
 
@@ -71,6 +74,15 @@ static void marks(void)
     expect("that of a reversible one", vithmork_get(belts, 5 * VITHMORK_BELT_NUMBERS + 3), 1);
 }
 
+/* Two of four stations, the second the last of them; none past the slice's end. */
+static void limited(void)
+{
+    expect("a limit", vithmork_get(limits, 1), 450);
+    expect("limits of four", vithmork_limited(limits, sizeof limits, STATIONS), LIMITED);
+    expect("limits of two", vithmork_limited(limits, sizeof limits, 2), 1);
+    expect("limits of a shorter slice", vithmork_limited(limits, VITHMORK_LIMITS_BYTES(3) - 1, STATIONS), 1);
+}
+
 /* Scaled by 3 over 4, with its sign. */
 static void scaled(void)
 {
@@ -91,9 +103,24 @@ static void by_hand(void)
             vithmork_put(flow, p * BELTS + e, amounts[p][e]);
     expect("pair 1 by hand", vithmork_pair_total(belts, BELTS, pairs, 0, flow), 6);
     expect("pair 2 by hand", vithmork_pair_total(belts, BELTS, pairs, 1, flow), 5);
+    expect("station 1 by hand", vithmork_station_use(belts, BELTS, 0, flow, 1), 9);
+    expect("station 3 by hand", vithmork_station_use(belts, BELTS, 0, flow, 3), 3);
+    expect("station 3 of pair 3", vithmork_station_use(belts, BELTS, 2, flow, 3), 1);
     vithmork_put_pair(pairs, 2, 1, 3);
     expect("pair 3 by hand", vithmork_pair_total(belts, BELTS, pairs, 2, flow), 1);
     vithmork_put_pair(pairs, 2, 3, 1);
+}
+
+/* Use times scale, against the limit: use * c <= limit * Y. */
+static void within_limit(uint64_t station)
+{
+    uint64_t limit = vithmork_get(limits, station - 1), together = 0;
+    for (size_t p = 0; p < PAIRS; p++)
+        together += vithmork_station_use(belts, BELTS, p, flow, station);
+    expect("a station within its limit",
+           limit == 0 || together * vithmork_get(answer, VITHMORK_SCALE_CAPACITY) <=
+                             limit * vithmork_get(answer, VITHMORK_SCALE_LOAD),
+           1);
 }
 
 /* Of the library's own plan the pairs' totals make the drawn total. */
@@ -101,22 +128,26 @@ static void of_a_plan(void)
 {
     uint64_t sum = 0;
     expect("the call", vithmork_solve(STATIONS, PRECISION, belts, sizeof belts, pairs,
-                                      sizeof pairs, flow, sizeof flow, lengths, sizeof lengths,
-                                      answer, sizeof answer, count, sizeof count),
+                                      sizeof pairs, limits, sizeof limits, flow, sizeof flow,
+                                      lengths, sizeof lengths, answer, sizeof answer, count,
+                                      sizeof count),
            VITHMORK_ACCEPTED);
     for (size_t p = 0; p < PAIRS; p++)
         sum += vithmork_pair_total(belts, BELTS, pairs, p, flow);
     expect("the sum over pairs", sum, vithmork_get(answer, VITHMORK_DRAWN));
+    for (uint64_t station = 1; station <= STATIONS; station++)
+        within_limit(station);
 }
 
 static void absent(void)
 {
     uint8_t *none = VITHMORK_ABSENT;
-    uint64_t of_belts = vithmork_solve(STATIONS, PRECISION, none, 0, pairs, sizeof pairs, flow,
-                                       sizeof flow, lengths, sizeof lengths, answer,
+    uint64_t of_belts = vithmork_solve(STATIONS, PRECISION, none, 0, pairs, sizeof pairs, none, 0,
+                                       flow, sizeof flow, lengths, sizeof lengths, answer,
                                        sizeof answer, count, sizeof count);
     uint64_t of_tables = vithmork_solve(STATIONS, PRECISION, belts, sizeof belts, pairs,
-                                        sizeof pairs, none, 0, none, 0, none, 0, none, 0);
+                                        sizeof pairs, none, 0, none, 0, none, 0, none, 0, none,
+                                        0);
     expect("an absent slice's pointer", none != NULL, 1);
     expect("no belts", vithmork_refused(of_belts).number, VITHMORK_REFUSED_BELTS);
     expect("no tables", vithmork_refused(of_tables).number, VITHMORK_REFUSED_SHORT_TABLE);
@@ -128,6 +159,7 @@ int main(void)
     fill();
     signs();
     marks();
+    limited();
     scaled();
     by_hand();
     of_a_plan();

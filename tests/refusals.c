@@ -5,16 +5,17 @@
 #include <stdio.h>
 #include <string.h>
 
-enum { STATIONS = 3, BELTS = 2, PAIRS = 2, PRECISION = 4 };
+enum { STATIONS = 3, BELTS = 2, LIMITED = 1, PAIRS = 2, PRECISION = 4 };
 
 /* All that is lent, sound at first: each case spoils one part. */
 typedef struct {
     uint64_t n, q;
-    size_t belts_len, pairs_len, flow_len, lengths_len, answer_len, count_len;
+    size_t belts_len, pairs_len, limits_len, flow_len, lengths_len, answer_len, count_len;
     uint8_t belts[VITHMORK_BELTS_BYTES(VITHMORK_MAX_BELTS + 1)];
     uint8_t pairs[VITHMORK_PAIRS_BYTES(VITHMORK_MAX_PAIRS + 1)];
+    uint8_t limits[VITHMORK_LIMITS_BYTES(STATIONS)];
     uint8_t flow[VITHMORK_FLOW_BYTES(PAIRS, BELTS)];
-    uint8_t lengths[VITHMORK_LENGTH_BYTES(BELTS)];
+    uint8_t lengths[VITHMORK_LENGTH_BYTES(BELTS + LIMITED)];
     uint8_t answer[VITHMORK_ANSWER_BYTES];
     uint8_t count[VITHMORK_COUNT_BYTES];
 } lent;
@@ -27,6 +28,7 @@ static lent sound(void)
     l.q = PRECISION;
     l.belts_len = VITHMORK_BELTS_BYTES(BELTS);
     l.pairs_len = VITHMORK_PAIRS_BYTES(PAIRS);
+    l.limits_len = sizeof l.limits;
     l.flow_len = sizeof l.flow;
     l.lengths_len = sizeof l.lengths;
     l.answer_len = sizeof l.answer;
@@ -35,15 +37,18 @@ static lent sound(void)
     vithmork_put_belt(l.belts, 1, 2, 3, 400);
     vithmork_put_pair(l.pairs, 0, 1, 3);
     vithmork_put_pair(l.pairs, 1, 2, 3);
+    vithmork_put_limit(l.limits, 1, 0);
+    vithmork_put_limit(l.limits, 2, 500);
+    vithmork_put_limit(l.limits, 3, 0);
     vithmork_put(l.count, 0, 0);
     return l;
 }
 
 static uint64_t solve(lent *l)
 {
-    return vithmork_solve(l->n, l->q, l->belts, l->belts_len, l->pairs, l->pairs_len, l->flow,
-                          l->flow_len, l->lengths, l->lengths_len, l->answer, l->answer_len,
-                          l->count, l->count_len);
+    return vithmork_solve(l->n, l->q, l->belts, l->belts_len, l->pairs, l->pairs_len,
+                          l->limits, l->limits_len, l->flow, l->flow_len, l->lengths,
+                          l->lengths_len, l->answer, l->answer_len, l->count, l->count_len);
 }
 
 static int failed;
@@ -76,6 +81,9 @@ int main(void)
     l.belts_len = sizeof l.belts;
     expect(l, VITHMORK_REFUSED_BELTS, 0, "belts");
     l = sound();
+    l.belts_len = VITHMORK_BELTS_BYTES(VITHMORK_MAX_BELTS);
+    expect(l, VITHMORK_REFUSED_BELTS_AND_LIMITS, 0, "belts and limits");
+    l = sound();
     l.pairs_len = sizeof l.pairs;
     expect(l, VITHMORK_REFUSED_PAIRS, 0, "pairs");
     l = sound();
@@ -99,6 +107,9 @@ int main(void)
     l = sound();
     vithmork_put_belt(l.belts, 1, 2, 3, VITHMORK_MAX_CAPACITY + 1);
     expect(l, VITHMORK_REFUSED_CAPACITY, 2, "capacity");
+    l = sound();
+    vithmork_put_limit(l.limits, 2, VITHMORK_MAX_LIMIT + 1);
+    expect(l, VITHMORK_REFUSED_LIMIT, 2, "limit");
     l = sound();
     vithmork_put_pair(l.pairs, 0, 1, 4);
     expect(l, VITHMORK_REFUSED_LOOSE_PAIR, 1, "loose pair");

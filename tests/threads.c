@@ -1,6 +1,6 @@
 /* Calls from several threads at once, each with tables and a running count of
  * its own, beside the same calls one after the other: every byte written must be
- * the same. Belts and pairs are lent to all threads. Exits with 1 if not. */
+ * the same. Belts, pairs and limits are lent to all threads. Exits with 1 if not. */
 #define _POSIX_C_SOURCE 200112L
 #include "vithmork.h"
 
@@ -18,13 +18,14 @@ typedef struct {
     size_t m, k, times;
     uint8_t belts[VITHMORK_BELTS_BYTES(BELTS)];
     uint8_t pairs[VITHMORK_PAIRS_BYTES(PAIRS)];
+    uint8_t limits[VITHMORK_LIMITS_BYTES(STATIONS)];
 } floor_lent;
 
 /* All bytes, so that two outcomes compare as memory does. */
 typedef struct {
     uint8_t returned[VITHMORK_NUMBER_BYTES];
     uint8_t flow[VITHMORK_FLOW_BYTES(PAIRS, BELTS)];
-    uint8_t lengths[VITHMORK_LENGTH_BYTES(BELTS)];
+    uint8_t lengths[VITHMORK_LENGTH_BYTES(BELTS + STATIONS)];
     uint8_t answer[VITHMORK_ANSWER_BYTES];
     uint8_t count[VITHMORK_COUNT_BYTES];
 } outcome;
@@ -70,6 +71,8 @@ static void draw_floor(floor_lent *f, uint64_t n, size_t m, size_t k, size_t tim
         uint64_t source = up_to(n);
         vithmork_put_pair(f->pairs, p, source, other_than(source, n));
     }
+    for (uint64_t station = 1; station <= n; station++)
+        vithmork_put_limit(f->limits, station, up_to(2) == 1 ? 0 : up_to(VITHMORK_MAX_LIMIT));
 }
 
 static void solve(const floor_lent *f, outcome *o)
@@ -78,9 +81,10 @@ static void solve(const floor_lent *f, outcome *o)
     vithmork_put(o->count, 0, f->n);
     vithmork_put(o->returned, 0,
                  vithmork_solve(f->n, f->q, f->belts, VITHMORK_BELTS_BYTES(f->m), f->pairs,
-                                VITHMORK_PAIRS_BYTES(f->k), o->flow, sizeof o->flow, o->lengths,
-                                sizeof o->lengths, o->answer, sizeof o->answer, o->count,
-                                sizeof o->count));
+                                VITHMORK_PAIRS_BYTES(f->k), f->limits,
+                                VITHMORK_LIMITS_BYTES(f->n), o->flow, sizeof o->flow,
+                                o->lengths, sizeof o->lengths, o->answer, sizeof o->answer,
+                                o->count, sizeof o->count));
 }
 
 /* Draws the floors and solves each once; returns how many have a plan. The last

@@ -1,4 +1,4 @@
-//! The host's call by document 01 and request C-12: byte slices in, what is
+//! The host's call by document 01 and requests C-12 and C-17: byte slices in, what is
 //! returned and every byte of the slices out.
 
 use crate::network::{Arc, Commodity, Network, Solution};
@@ -9,6 +9,9 @@ pub const PAIR: usize = 2 * NUMBER;
 pub const ANSWER: usize = 7 * NUMBER;
 pub const FULL: u64 = 1 << 63;
 
+/// Of belts and limits together.
+pub const MOST: usize = 256;
+
 /// All that the host gives, and after the call all that it finds.
 #[derive(Clone, PartialEq)]
 pub struct Call {
@@ -16,6 +19,7 @@ pub struct Call {
     pub q: u64,
     pub belts: Vec<u8>,
     pub pairs: Vec<u8>,
+    pub limits: Vec<u8>,
     pub flow: Vec<u8>,
     pub length: Vec<u8>,
     pub answer: Vec<u8>,
@@ -64,8 +68,9 @@ impl Call {
             q,
             belts: vec![0; m * BELT],
             pairs: vec![0; k * PAIR],
+            limits: vec![0; net.limits.len() * NUMBER],
             flow: vec![0; k * m * NUMBER],
-            length: vec![0; m * NUMBER],
+            length: vec![0; net.capacities().len() * NUMBER],
             answer: vec![0; ANSWER],
             count: vec![0; NUMBER],
         };
@@ -76,10 +81,12 @@ impl Call {
         for (i, commodity) in net.commodities.iter().enumerate() {
             put_all(&mut call.pairs[i * PAIR..], &[commodity.source, commodity.sink]);
         }
+        put_all(&mut call.limits, &net.limits);
         call
     }
 
-    /// The network as the slices have it, checked or not.
+    /// The network as the slices have it, checked or not. Of the limits no more are read
+    /// than there are stations.
     pub fn network(&self) -> Network {
         let belt = |item: &[u8]| {
             let [tail, head, capacity, mark] = [0, 1, 2, 3].map(|place| get(item, place));
@@ -90,6 +97,7 @@ impl Call {
             nodes: self.n,
             arcs: self.belts.chunks_exact(BELT).map(belt).collect(),
             commodities: self.pairs.chunks_exact(PAIR).map(pair).collect(),
+            limits: numbers(&self.limits).into_iter().take(self.n as usize).collect(),
         }
     }
 
@@ -112,23 +120,25 @@ impl Call {
         after
     }
 
-    /// Document 01, "Turned down", in its order.
+    /// Document 01, "Turned down", in its order, with request C-17's two.
     pub fn refusal(&self) -> Option<Refusal> {
         let net = self.network();
         whole_call(1, !(2..=64).contains(&self.n))
             .or_else(|| whole_call(2, !(1..=256).contains(&net.arcs.len())))
+            .or_else(|| whole_call(15, net.capacities().len() > MOST))
             .or_else(|| whole_call(3, !(1..=32).contains(&net.commodities.len())))
             .or_else(|| whole_call(4, !(4..=16).contains(&self.q)))
             .or_else(|| whole_call(5, self.short(&net)))
             .or_else(|| whole_call(11, get(&self.count, 0) > FULL))
             .or_else(|| first_faulty_belt(&net))
+            .or_else(|| first_great_limit(&net))
             .or_else(|| first_loose_pair(&net))
     }
 
     fn short(&self, net: &Network) -> bool {
         let (m, k) = (net.arcs.len(), net.commodities.len());
         self.flow.len() / NUMBER < k * m
-            || self.length.len() / NUMBER < m
+            || self.length.len() / NUMBER < net.capacities().len()
             || self.answer.len() / NUMBER < 7
             || self.count.len() / NUMBER < 1
     }
@@ -150,6 +160,12 @@ fn first_faulty_belt(net: &Network) -> Option<Refusal> {
         let fits = (1..=1000).contains(&arc.capacity);
         (!fits).then_some(Refusal { number: 7, place })
     })
+}
+
+fn first_great_limit(net: &Network) -> Option<Refusal> {
+    let mut limits = net.limits.iter().zip(1..);
+    let (_, place) = limits.find(|(limit, _)| **limit > 1000)?;
+    Some(Refusal { number: 14, place })
 }
 
 fn first_loose_pair(net: &Network) -> Option<Refusal> {

@@ -5,16 +5,20 @@
 
 mod call;
 mod damage;
+mod edges;
 mod fast;
 mod figures;
 mod floors;
 mod guarded;
 mod library;
+mod limited;
+mod limits;
 mod literal;
 mod marked;
 mod method;
 mod network;
 mod outside;
+mod programs;
 mod random;
 mod rare;
 mod reversible;
@@ -46,6 +50,7 @@ struct Amounts {
     full: usize,
     plain: u64,
     marked: marked::Amounts,
+    limited: limited::Amounts,
 }
 
 const WHOLE: Amounts = Amounts {
@@ -57,6 +62,7 @@ const WHOLE: Amounts = Amounts {
     full: 5,
     plain: 4,
     marked: marked::Amounts { ties: 650, cancelling: 650, small: 9_750, medium: 39, full: 2 },
+    limited: limited::Amounts { ties: 650, cancelling: 325, small: 9_750, medium: 39, full: 3 },
 };
 const QUICK: Amounts = Amounts {
     levels: 51,
@@ -67,6 +73,7 @@ const QUICK: Amounts = Amounts {
     full: 0,
     plain: 0,
     marked: marked::Amounts { ties: 65, cancelling: 65, small: 390, medium: 13, full: 0 },
+    limited: limited::Amounts { ties: 65, cancelling: 65, small: 390, medium: 13, full: 0 },
 };
 
 struct Options {
@@ -102,6 +109,7 @@ fn main() -> ExitCode {
         compare_full(tally, &amounts, &mut Random::new(seed + 3))
     });
     marked::compare(&mut tally, &amounts.marked, amounts.plain, seed + 5);
+    limited::compare(&mut tally, &amounts.limited, amounts.plain, seed + 10);
     tally.close()
 }
 
@@ -134,7 +142,11 @@ fn compare_figures(tally: &mut Tally) {
     for (name, found, printed) in figures::arithmetic() {
         tally.judge(name, None, is(found, printed));
     }
-    for run in figures::runs() {
+    compare_runs(tally, figures::runs());
+}
+
+fn compare_runs(tally: &mut Tally, runs: Vec<figures::Run>) {
+    for run in runs {
         let after = tally.compare(run.name, &run.call, solver::solve);
         let mut answer = run.answer.iter().zip(numbers(&after.answer));
         let printed = answer.all(|(printed, found)| printed.is_none_or(|number| number == found));
@@ -165,14 +177,16 @@ fn compare_random_damage(tally: &mut Tally, amount: u64, random: &mut Random) {
 }
 
 /// One belt joins the only pair and the rest lie apart: the iterations are then
-/// T itself, for every number of belts and every precision.
+/// T itself, for every number of belts and limits and every precision.
 fn compare_levels(tally: &mut Tally, every: usize) {
     for m in (1..=256).step_by(every) {
         for q in PRECISIONS {
             let (net, name) = (floors::one_joining(m, 1 + m), format!("load mark, m {m}, q {q}"));
             tally.compare(&name, &Call::new(&net, q), fast::solve);
             let net = reversible::one_joining(m, 1 + m);
-            tally.compare(&(name + ", reversible"), &Call::new(&net, q), fast::solve);
+            tally.compare(&format!("{name}, reversible"), &Call::new(&net, q), fast::solve);
+            let net = limits::one_joining(m, 1 + m);
+            tally.compare(&(name + ", limits among them"), &Call::new(&net, q), fast::solve);
         }
     }
 }

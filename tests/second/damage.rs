@@ -1,13 +1,14 @@
-//! Damaged calls: each refusal alone and any two at a time, and values at the
-//! edge of every bound. What must be returned is stated here from the order of
-//! document 01's rows, apart from the second solver's own checks.
+//! Damaged calls: each refusal alone and any two at a time. What must be returned is
+//! stated here from the order of document 01's rows, apart from the second solver's own
+//! checks.
 
 use crate::call::{put, Call, Refusal, BELT, FULL, NUMBER, PAIR};
-use crate::floors::{floor, lent, small, unjoined, Capacities};
+use crate::edges;
+use crate::floors::{lent, small};
+use crate::limits::{limited, STATIONS};
 use crate::network::network;
 use crate::random::Random;
-use crate::reversible::{marked, MARKS, SHARES};
-use crate::shapes::{Shape, FULL_SIZE};
+use crate::reversible::{marked, SHARES};
 
 pub struct Case {
     pub name: String,
@@ -21,35 +22,49 @@ struct Fault {
     apply: Box<dyn Fn(&mut Call)>,
 }
 
-const BELTS: usize = 6;
-const PAIRS: usize = 3;
+pub const NODES: usize = 5;
+pub const BELTS: usize = 6;
+pub const PAIRS: usize = 3;
+pub const LIMITS: [u64; 4] = [0, 3, 0, 1000];
+
+/// Belts and limits that are set.
+pub const RESOURCES: usize = BELTS + 2;
 
 /// Above every bound; the lower bits of the first two alone would pass.
 const BIG: [u64; 4] = [(1 << 16) + 5, (1 << 32) + 5, u64::MAX - 1, u64::MAX];
 
 /// A sound floor of 5 stations that the faults are put into; belts 1 and 4 are
-/// reversible.
-fn sound() -> Call {
+/// reversible, and the last station has no number among the limits. The length table
+/// has room for limits everywhere.
+pub fn sound() -> Call {
     let belts = [(1, 2, 3), (2, 3, 2), (3, 5, 4), (1, 4, 2), (4, 5, 1), (2, 5, 1000)];
-    let net = network(5, &belts, &[(1, 5), (2, 5), (1, 3)]).reversible(&[1, 4]);
-    lent(&net, 7, &mut Random::new(5))
+    let net = network(NODES as u64, &belts, &[(1, 5), (2, 5), (1, 3)]).reversible(&[1, 4]);
+    let mut call = lent(&net.limited(&LIMITS), 7, &mut Random::new(5));
+    set_limits(&mut call, &LIMITS);
+    call.length.resize((BELTS + NODES) * NUMBER, 0x3c);
+    call
 }
 
-/// The place in document 01's order: of two faults the lower one is returned.
+pub fn set_limits(call: &mut Call, limits: &[u64]) {
+    call.limits = limits.iter().flat_map(|limit| limit.to_le_bytes()).collect();
+}
+
+/// The place in document 01's order, with request C-17's two: of two faults the lower
+/// one is returned.
 fn rank(refusal: Refusal) -> (usize, u64, u64) {
-    let rows = [1, 2, 3, 4, 5, 11];
+    let rows = [1, 2, 15, 3, 4, 5, 11];
     let row = rows.iter().position(|number| *number == refusal.number);
     match (row, refusal.number) {
         (Some(row), _) => (row, 0, 0),
         (None, 6 | 7) => (rows.len(), refusal.place, refusal.number),
-        (None, _) => (rows.len() + 1, refusal.place, 0),
+        (None, 14) => (rows.len() + 1, refusal.place, 0),
+        (None, _) => (rows.len() + 2, refusal.place, 0),
     }
 }
 
 pub fn cases() -> Vec<Case> {
     let faults = faults();
-    let mut cases = edges();
-    cases.extend(short_elsewhere());
+    let mut cases = edges::cases();
     for (i, a) in faults.iter().enumerate() {
         cases.push(case(&[a]));
         cases.extend(faults[i + 1..].iter().map(|b| case(&[a, b])));
@@ -74,9 +89,11 @@ fn faults() -> Vec<Fault> {
     let mut faults = Vec::new();
     faults.extend(with_big(&[0, 1, 65, 256 + 5]).map(stations));
     faults.extend([0, 1, BELT - 1, 257 * BELT, 258 * BELT - 1, 999 * BELT].map(belts));
+    faults.extend([(256, &[1][..]), (255, &[0, 1, 0, 1000]), (252, &[1; NODES])].map(crowded));
+    faults.extend([(256, &[0, 0, 0, 0, 1001][..]), (255, &[u64::MAX; 2])].map(crowded));
     faults.extend([0, 1, PAIR - 1, 33 * PAIR, 34 * PAIR - 1, 999 * PAIR].map(pairs));
     faults.extend(with_big(&[0, 3, 17, 256 + 5]).map(precision));
-    for (at, needed) in [PAIRS * BELTS, BELTS, 7, 1].into_iter().enumerate() {
+    for (at, needed) in [PAIRS * BELTS, RESOURCES, 7, 1].into_iter().enumerate() {
         let whole = needed * NUMBER;
         faults.extend([0, whole - NUMBER, whole - 1].map(|size| short(at, size)));
     }
@@ -84,6 +101,9 @@ fn faults() -> Vec<Fault> {
     for place in [1, 3, BELTS] {
         faults.extend(loose_ends().map(|ends| loose_belt(place, ends)));
         faults.extend(with_big(&[0, 1001]).map(|number| capacity(place, number)));
+    }
+    for place in [1, 4, NODES] {
+        faults.extend(with_big(&[1001]).map(|number| limit(place, number)));
     }
     for place in 1..=PAIRS {
         faults.extend(loose_ends().map(|ends| loose_pair(place, ends)));
@@ -109,7 +129,7 @@ fn precision(q: u64) -> Fault {
 }
 
 /// Cut, or filled with sound items over and over.
-fn resized(slice: &[u8], item: usize, size: usize) -> Vec<u8> {
+pub fn resized(slice: &[u8], item: usize, size: usize) -> Vec<u8> {
     let sound = slice.len() / item * item;
     slice[..sound].iter().copied().cycle().take(size).collect()
 }
@@ -119,12 +139,34 @@ fn belts(size: usize) -> Fault {
     fault(format!("belts of {size} bytes"), 2, 0, apply)
 }
 
+/// Too many belts and limits, where another fault has not changed the number of belts
+/// for which there is a row before.
+fn crowded((belts, limits): (usize, &'static [u64])) -> Fault {
+    let apply = move |call: &mut Call| {
+        if call.belts.len() / BELT == BELTS {
+            call.belts = resized(&call.belts, BELT, belts * BELT);
+            set_limits(call, limits);
+        }
+    };
+    fault(format!("{belts} belts with limits {limits:?}"), 15, 0, apply)
+}
+
+/// The slice is lengthened up to the station.
+fn limit(place: usize, number: u64) -> Fault {
+    let apply = move |call: &mut Call| {
+        let size = call.limits.len().max(place * NUMBER);
+        call.limits.resize(size, 0);
+        set(&mut call.limits, place - 1, number);
+    };
+    fault(format!("limit {number} of station {place}"), 14, place as u64, apply)
+}
+
 fn pairs(size: usize) -> Fault {
     let apply = move |call: &mut Call| call.pairs = resized(&call.pairs, PAIR, size);
     fault(format!("pairs of {size} bytes"), 3, 0, apply)
 }
 
-fn tables(call: &mut Call) -> [&mut Vec<u8>; 4] {
+pub fn tables(call: &mut Call) -> [&mut Vec<u8>; 4] {
     [&mut call.flow, &mut call.length, &mut call.answer, &mut call.count]
 }
 
@@ -135,14 +177,14 @@ fn short(at: usize, size: usize) -> Fault {
 }
 
 /// Another fault may have cut the slice; then there is nothing to set.
-fn set(slice: &mut [u8], place: usize, number: u64) {
+pub fn set(slice: &mut [u8], place: usize, number: u64) {
     if (place + 1) * NUMBER <= slice.len() {
         put(slice, place, number);
     }
 }
 
 /// A number of the belt at a place, from 1.
-fn set_belt(call: &mut Call, place: usize, which: usize, number: u64) {
+pub fn set_belt(call: &mut Call, place: usize, which: usize, number: u64) {
     set(&mut call.belts, (place - 1) * BELT / NUMBER + which, number);
 }
 
@@ -171,112 +213,12 @@ fn loose_pair(place: usize, (source, sink): (u64, u64)) -> Fault {
     fault(format!("pair {place} from {source} to {sink}"), 8, place as u64, apply)
 }
 
-/// Document 01 asks for whole tables also where nothing can be carried, and of
-/// the largest floor as of any other.
-fn short_elsewhere() -> Vec<Case> {
-    let mut random = Random::new(6);
-    let full = floor(Shape::Dense, FULL_SIZE, Capacities::Mixed, &mut random);
-    let apart = unjoined(Shape::Dense, FULL_SIZE, Capacities::Mixed, &mut random);
-    let mut cases = Vec::new();
-    for (name, net) in [("full-size", full), ("unjoined", apart)] {
-        for at in 0..4 {
-            let mut call = Call::new(&net, 4);
-            tables(&mut call)[at].pop();
-            cases.push(Case { name: format!("{name}, table {at} short"), call, returned: 5000 });
-        }
-    }
-    cases
-}
-
-/// The last values that pass, and slices that end within an item.
-fn edges() -> Vec<Case> {
-    let mut cases = passing_values();
-    let mut pass = |name: String, apply: &dyn Fn(&mut Call)| cases.push(passing(name, apply));
-    for more in 0..BELT {
-        let size = BELTS * BELT + more;
-        pass(format!("{more} bytes after the belts"), &|call| call.belts.resize(size, 0xa5));
-    }
-    for size in 3 * NUMBER..BELT {
-        pass(format!("a belt of {size} bytes after the belts"), &|call| add_part(call, size));
-    }
-    for more in 0..PAIR {
-        let size = PAIRS * PAIR + more;
-        pass(format!("{more} bytes after the pairs"), &|call| call.pairs.resize(size, 0xa5));
-    }
-    for (at, needed) in [PAIRS * BELTS, BELTS, 7, 1].into_iter().enumerate() {
-        for more in 0..=2 * NUMBER {
-            let size = needed * NUMBER + more;
-            pass(format!("{more} bytes after table {at}"), &|call| {
-                tables(call)[at].resize(size, 0xa5)
-            });
-        }
-    }
-    cases
-}
-
-/// A belt that is sound up to its mark, which is not whole.
-fn add_part(call: &mut Call, size: usize) {
-    call.belts.resize((BELTS + 1) * BELT, 0);
-    for (which, number) in [1, 5, 1000].into_iter().enumerate() {
-        set_belt(call, BELTS + 1, which, number);
-    }
-    call.belts.truncate(BELTS * BELT + size);
-}
-
-fn passing_values() -> Vec<Case> {
-    let mut cases = passing_marks();
-    let mut pass = |name: &str, apply: &dyn Fn(&mut Call)| cases.push(passing(name.into(), apply));
-    pass("as it is", &|_| ());
-    pass("n 64", &|call| call.n = 64);
-    pass("n 2, one belt, one pair", &|call| {
-        call.n = 2;
-        call.belts.truncate(BELT);
-        call.pairs.truncate(PAIR);
-        set(&mut call.pairs, 1, 2);
-    });
-    pass("256 belts", &|call| {
-        call.belts = resized(&call.belts, BELT, 257 * BELT - 1);
-        call.flow.resize(PAIRS * 256 * NUMBER, 0x3c);
-        call.length.resize(256 * NUMBER, 0x3c);
-    });
-    pass("32 pairs", &|call| {
-        call.pairs = resized(&call.pairs, PAIR, 33 * PAIR - 1);
-        call.flow.resize(32 * BELTS * NUMBER, 0x3c);
-    });
-    pass("q 4", &|call| call.q = 4);
-    pass("q 16", &|call| call.q = 16);
-    pass("capacity 1", &|call| set(&mut call.belts, 2, 1));
-    pass("capacity 1000", &|call| set(&mut call.belts, 2, 1000));
-    pass("count 2^63", &|call| set(&mut call.count, 0, FULL));
-    pass("unjoined, as no belt leaves station 5", &|call| {
-        (0..PAIRS).for_each(|i| set(&mut call.pairs, 2 * i, 5));
-        (0..PAIRS).for_each(|i| set(&mut call.pairs, 2 * i + 1, 1));
-    });
-    cases
-}
-
-/// No mark is refused, those of no capacity too.
-fn passing_marks() -> Vec<Case> {
-    let marks = [0, 3, 1000, 1001, 1 << 32].into_iter().chain(MARKS);
-    let places = marks.flat_map(|mark| (1..=BELTS).map(move |place| (place, mark)));
-    let case = |(place, mark)| {
-        let name = format!("mark {mark} on belt {place}");
-        passing(name, &|call| set_belt(call, place, 3, mark))
-    };
-    places.map(case).collect()
-}
-
-fn passing(name: String, apply: &dyn Fn(&mut Call)) -> Case {
-    let mut call = sound();
-    apply(&mut call);
-    Case { name, call, returned: 0 }
-}
-
 /// A small floor with a few faults anywhere; whether it still passes, and what
 /// is returned, is for the second solver to say.
 pub fn at_random(random: &mut Random) -> Call {
     let (net, share) = (small(random), random.pick(&SHARES));
-    let (net, q) = (marked(net, share, random), random.between(4, 16));
+    let (net, stations) = (marked(net, share, random), random.pick(&STATIONS));
+    let (net, q) = (limited(net, stations, random), random.between(4, 16));
     let mut call = lent(&net, q, random);
     for _ in 0..random.between(1, 3) {
         disturb(&mut call, random);
@@ -287,7 +229,7 @@ pub fn at_random(random: &mut Random) -> Call {
 fn disturb(call: &mut Call, random: &mut Random) {
     let edges = [0, 1, 2, 3, 4, 8, 9, 16, 17, 64, 65, 1000, 1001, FULL, FULL + 1, u64::MAX];
     let number = random.pick(&edges);
-    match random.index(8) {
+    match random.index(10) {
         0 => call.n = number,
         1 => call.q = number,
         2 => set(&mut call.count, 0, number),
@@ -295,6 +237,8 @@ fn disturb(call: &mut Call, random: &mut Random) {
         4 => cut(&mut call.belts, random),
         5 => cut(&mut call.pairs, random),
         6 => cut(tables(call)[random.index(4)], random),
+        7 => cut(&mut call.limits, random),
+        8 => set_somewhere(&mut call.limits, number, random),
         _ => set_somewhere(&mut call.belts, number, random),
     }
 }

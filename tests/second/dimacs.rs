@@ -3,7 +3,7 @@
 //! m on the p line; belts and the pair are checked with every other call.
 
 use crate::call::Refusal;
-use crate::network::{Arc, Commodity, Network};
+use crate::network::{network, Arc, Network};
 
 pub const LONGEST: usize = 65_536;
 
@@ -92,10 +92,6 @@ impl Floor {
 
 fn whole(floor: Floor) -> Option<Network> {
     let (source, sink) = floor.source.zip(floor.sink)?;
-    let commodities = vec![Commodity { source, sink }];
-    (floor.arcs.len() == floor.belts).then_some(Network {
-        nodes: floor.nodes,
-        arcs: floor.arcs,
-        commodities,
-    })
+    let net = network(floor.nodes, &[], &[(source, sink)]);
+    (floor.arcs.len() == floor.belts).then_some(Network { arcs: floor.arcs, ..net })
 }

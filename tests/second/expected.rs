@@ -21,10 +21,11 @@ fn main() -> ExitCode {
     let name = std::env::args().nth(1).unwrap_or_default();
     let print = match name.as_str() {
         "floor" => print_floor,
+        "lift" => print_lift,
         "one_by_one" => print_one_by_one,
         "reversible" => print_reversible,
         _ => {
-            eprintln!("expected: name an example, floor, one_by_one or reversible");
+            eprintln!("expected: name an example, floor, lift, one_by_one or reversible");
             return ExitCode::from(2);
         }
     };
@@ -38,7 +39,16 @@ fn example(source: &str) -> Example {
     let [nodes, q] = ["STATIONS =", "PRECISION ="].map(|name| numbers(after(source, name))[0]);
     let ends: Vec<_> = pairs.iter().map(|pair| (pair[0], pair[1])).collect();
     let arcs = belts.iter().map(|belt| arc(belt)).collect();
-    Example { net: Network { arcs, ..network(nodes, &[], &ends) }, q }
+    let limits = limits(nodes, source);
+    Example { net: Network { arcs, limits, ..network(nodes, &[], &ends) }, q }
+}
+
+/// Those of an example that has some, as station and limit.
+fn limits(nodes: u64, source: &str) -> Vec<u64> {
+    let mut limits = vec![0; nodes as usize];
+    let table = source.split_once("limit[LIMITED]").map_or(vec![], |(_, text)| items(text));
+    table.iter().for_each(|item| limits[item[0] as usize - 1] = item[1]);
+    limits
 }
 
 /// A mark that is left out is zero, as in C.
@@ -72,11 +82,35 @@ fn print_floor(Example { net, q }: &Example) {
         let carried = scaled(&solution, carried(net, row, pair.source));
         println!("pair {} to {} carries {carried:.3}", pair.source, pair.sink);
     }
-    for (arc, load) in net.arcs.iter().zip(loads(&solution)) {
+    for (arc, load) in net.arcs.iter().zip(loads(net, &solution)) {
         println!("belt {} to {} carries {load:.3} of {}", arc.tail, arc.head, arc.capacity);
     }
     let choices = solution.answer[5];
     println!("choices {choices}, so far {choices}");
+}
+
+fn print_lift(Example { net, q }: &Example) {
+    let unlimited = Network { limits: Vec::new(), ..net.clone() };
+    for (what, floor) in [("without the limit", &unlimited), ("with it", net)] {
+        let solution = solver::solve(floor, *q);
+        print_total(what, &solution);
+        for node in net.limited_nodes() {
+            let rows = solution.flow.chunks(net.arcs.len());
+            let passes = scaled(&solution, rows.map(|row| through(net, row, node)).sum());
+            println!("  station {node} passes {passes:.3} of {}", net.limits[node as usize - 1]);
+        }
+    }
+}
+
+/// The larger of what a commodity brings into a node and what it takes out.
+fn through(net: &Network, row: &[i64], node: u64) -> u64 {
+    let (mut into, mut out) = (0, 0);
+    for (arc, amount) in net.arcs.iter().zip(row) {
+        let (from, to) = if *amount < 0 { (arc.head, arc.tail) } else { (arc.tail, arc.head) };
+        out += if from == node { amount.unsigned_abs() } else { 0 };
+        into += if to == node { amount.unsigned_abs() } else { 0 };
+    }
+    into.max(out)
 }
 
 fn print_one_by_one(Example { net, q }: &Example) {
@@ -87,12 +121,12 @@ fn print_one_by_one(Example { net, q }: &Example) {
         let total = scaled(&solution, solution.answer[0]);
         println!("pair {} to {} alone {total:.3}", pair.source, pair.sink);
         sum += total;
-        apart.iter_mut().zip(loads(&solution)).for_each(|(load, more)| *load += more);
+        apart.iter_mut().zip(loads(net, &solution)).for_each(|(load, more)| *load += more);
     }
     print_loads("added up", sum, net, &apart);
     let together = solver::solve(net, *q);
     let total = scaled(&together, together.answer[0]);
-    print_loads("in one call", total, net, &loads(&together));
+    print_loads("in one call", total, net, &loads(net, &together));
     println!("bound {:.3}", bound(&together));
 }
 
@@ -102,7 +136,7 @@ fn print_reversible(Example { net, q }: &Example) {
     let solution = solver::solve(net, *q);
     print_total("as one reversible belt", &solution);
     let rows: Vec<_> = solution.flow.chunks(net.arcs.len()).collect();
-    for (e, (arc, load)) in net.arcs.iter().zip(loads(&solution)).enumerate() {
+    for (e, (arc, load)) in net.arcs.iter().zip(loads(net, &solution)).enumerate() {
         print!("belt {} to {} carries {load:.3} of {}:", arc.tail, arc.head, arc.capacity);
         let amounts = rows.iter().zip(1..).map(|(row, pair)| {
             let size = scaled(&solution, row[e].unsigned_abs());
@@ -151,8 +185,8 @@ fn bound(solution: &Solution) -> f64 {
 }
 
 /// What each arc carries of all commodities in both directions, scaled.
-fn loads(solution: &Solution) -> Vec<f64> {
-    let m = solution.lengths.len();
+fn loads(net: &Network, solution: &Solution) -> Vec<f64> {
+    let m = net.arcs.len();
     let amounts = |e| solution.flow.iter().skip(e).step_by(m);
     let load = |e| amounts(e).map(|amount| amount.unsigned_abs()).sum();
     (0..m).map(|e| scaled(solution, load(e))).collect()

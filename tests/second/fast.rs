@@ -1,16 +1,17 @@
 //! The second solver, fast form: the same choices found with less work. `search`
-//! finds them; here D and the tests that end or halve look only at the arcs just
+//! finds them; here D and the tests that end or halve look only at the resources just
 //! drawn over.
 
 use crate::method::{
     fraction_below, fullest, grown, halved, start, threshold, weight, Bound, MARK,
 };
 use crate::network::{Network, Solution};
-use crate::search::{Link, Search};
+use crate::search::{Link, Path, Search};
 
 struct Run<'a> {
     net: &'a Network,
     q: u64,
+    capacities: Vec<u64>,
     threshold: u64,
     lengths: Vec<u64>,
     weight: u64,
@@ -24,7 +25,7 @@ struct Run<'a> {
 pub fn solve(net: &Network, q: u64) -> Solution {
     let mut search = Search::new(net);
     let mut run = Run::new(net, q);
-    let mut path = Vec::new();
+    let mut path = Path::default();
     let mut ended = false;
     while !ended {
         let Some(commodity) = search.choose(&run.lengths) else {
@@ -45,15 +46,16 @@ pub fn solve(net: &Network, q: u64) -> Solution {
 
 impl<'a> Run<'a> {
     fn new(net: &'a Network, q: u64) -> Run<'a> {
-        let (m, k) = (net.arcs.len(), net.commodities.len());
-        let lengths = start(net);
+        let capacities = net.capacities();
+        let lengths = start(&capacities);
         Run {
             net,
             q,
-            threshold: threshold(net, q),
-            weight: weight(net, &lengths),
-            flow: vec![0; k * m],
-            loads: vec![0; m],
+            threshold: threshold(capacities.len(), q),
+            weight: weight(&capacities, &lengths),
+            flow: vec![0; net.commodities.len() * net.arcs.len()],
+            loads: vec![0; capacities.len()],
+            capacities,
             drawn: 0,
             iterations: 0,
             // 1 over 0 stands for no bound: every fraction is smaller.
@@ -74,36 +76,37 @@ impl<'a> Run<'a> {
     }
 
     /// Whether a length has come to the mark.
-    fn draw(&mut self, commodity: usize, path: &[Link]) -> bool {
-        let arcs = &self.net.arcs;
-        let draw = path.iter().fold(u64::MAX, |least, link| least.min(arcs[link.arc].capacity));
-        let mut marked = false;
-        for &Link { arc: e, forward, .. } in path {
-            let next = grown(self.lengths[e], &arcs[e], draw, self.q);
-            self.weight += arcs[e].capacity * (next - self.lengths[e]);
-            self.lengths[e] = next;
+    fn draw(&mut self, commodity: usize, path: &Path) -> bool {
+        let draw = path.uses.iter().fold(u64::MAX, |least, r| least.min(self.capacities[*r]));
+        for &Link { arc, forward, .. } in &path.links {
             let signed = if forward { draw as i64 } else { -(draw as i64) };
-            self.flow[commodity * arcs.len() + e] += signed;
-            self.loads[e] += draw;
+            self.flow[commodity * self.net.arcs.len() + arc] += signed;
+        }
+        let mut marked = false;
+        for &r in &path.uses {
+            let next = grown(self.lengths[r], self.capacities[r], draw, self.q);
+            self.weight += self.capacities[r] * (next - self.lengths[r]);
+            self.lengths[r] = next;
+            self.loads[r] += draw;
             marked |= next >= MARK;
         }
         self.drawn += draw;
         marked
     }
 
-    fn reached(&self, path: &[Link]) -> bool {
-        let full = |e: usize| self.loads[e] >= self.threshold * self.net.arcs[e].capacity;
-        path.iter().any(|link| full(link.arc))
+    fn reached(&self, path: &Path) -> bool {
+        let full = |r: &usize| self.loads[*r] >= self.threshold * self.capacities[*r];
+        path.uses.iter().any(full)
     }
 
     fn halve(&mut self) {
         self.lengths.iter_mut().for_each(|length| *length = halved(*length));
-        self.weight = weight(self.net, &self.lengths);
+        self.weight = weight(&self.capacities, &self.lengths);
     }
 
     fn solution(self) -> Solution {
-        let b = fullest(self.net, &self.loads);
-        let (capacity, load) = (self.net.arcs[b].capacity, self.loads[b]);
+        let b = fullest(&self.capacities, &self.loads);
+        let (capacity, load) = (self.capacities[b], self.loads[b]);
         let Bound { weight, alpha, iteration, lengths } = self.bound;
         let answer = [self.drawn, capacity, load, weight, alpha, self.iterations, iteration];
         Solution { flow: self.flow, lengths, loads: self.loads, answer }

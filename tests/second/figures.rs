@@ -1,12 +1,11 @@
 //! The figures that document 01 prints: its marked ones of the arithmetic, and
-//! its runs.
+//! its runs. Beside these stand runs with limits (request C-17), by hand.
 
 use crate::call::Call;
 use crate::method::{grown, halved, level, start};
-use crate::network::{network, Arc};
+use crate::network::{network, Network};
 
-/// A run that document 01 gives, as far as it says: a flow table and some
-/// numbers of the answer.
+/// A run as far as it is known beforehand: a flow table and some numbers of the answer.
 pub struct Run {
     pub name: &'static str,
     pub call: Call,
@@ -41,11 +40,32 @@ pub fn runs() -> Vec<Run> {
     ]
 }
 
+/// L is 4 for two resources and 5 for three, at q = 4. There is one route, and each draw
+/// is the limit, or the belt where that is less: T of them fill it.
+pub fn by_hand() -> Vec<Run> {
+    let one = |pair| network(2, &[(1, 2, 5)], &[pair]);
+    let row = |pairs| network(3, &[(1, 2, 5), (2, 3, 7)], pairs).limited(&[0, 3]);
+    let back = one((2, 1)).limited(&[2]).reversible(&[1]);
+    let run = |name, net: Network, flow, [drawn, capacity, load, choices]: [u64; 4]| Run {
+        name,
+        call: Call::new(&net, 4),
+        flow,
+        answer: [Some(drawn), Some(capacity), Some(load), None, None, Some(choices), None],
+    };
+    vec![
+        run("a limit at the source", one((1, 2)).limited(&[2]), &[32], [32, 2, 32, 16]),
+        run("a limit at the sink", one((1, 2)).limited(&[0, 2]), &[32], [32, 2, 32, 16]),
+        run("a limit at the sink, against a belt", back, &[-32_i64 as u64], [32, 2, 32, 16]),
+        run("a limit above the belt", one((1, 2)).limited(&[6]), &[80], [80, 5, 80, 16]),
+        run("a limit between two belts", row(&[(1, 3)]), &[60, 60], [60, 3, 60, 20]),
+        run("a limit for two pairs", row(&[(1, 3), (2, 3)]), &[0, 0, 0, 60], [60, 3, 60, 20]),
+    ]
+}
+
 /// The second solver's own arithmetic against the marked figures: each name with
 /// what was found and what is printed.
 pub fn arithmetic() -> Vec<(&'static str, u64, u64)> {
-    let starts = |capacity| start(&network(2, &[(1, 2, capacity)], &[(1, 2)]))[0];
-    let belt = |capacity| Arc::one_way(1, 2, capacity);
+    let starts = |capacity| start(&[capacity])[0];
     vec![
         ("L for m = 1, q = 4", level(1, 4), 1),
         ("L for m = 2, q = 4", level(2, 4), 4),
@@ -55,8 +75,8 @@ pub fn arithmetic() -> Vec<(&'static str, u64, u64)> {
         ("T for m = 256, q = 16", 16 * level(256, 16), 1_472),
         ("start at 5", starts(5), 13_743_895_348),
         ("start at 3", starts(3), 22_906_492_246),
-        ("growth of a full draw", grown(13_743_895_348, &belt(5), 5, 4), 17_179_869_185),
-        ("growth of length 1", grown(1, &belt(1_000), 1, 16), 2),
+        ("growth of a full draw", grown(13_743_895_348, 5, 5, 4), 17_179_869_185),
+        ("growth of length 1", grown(1, 1_000, 1, 16), 2),
         ("half of 7", halved(7), 4),
         ("half of 1", halved(1), 1),
     ]

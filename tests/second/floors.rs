@@ -1,7 +1,7 @@
 //! Floors of many shapes, small and full-size, from a seed, and calls on them.
 
-use crate::call::{put, Call, BELT, FULL, PAIR};
-use crate::network::{Arc, Commodity, Network};
+use crate::call::{put, Call, BELT, FULL, NUMBER, PAIR};
+use crate::network::{network, Arc, Commodity, Network};
 use crate::random::Random;
 use crate::shapes::{arcs_of, terminals, two_nodes, Ends, Shape, Size, SHAPES};
 use std::ops::RangeInclusive;
@@ -31,8 +31,8 @@ pub fn floor(shape: Shape, size: Size, capacities: Capacities, random: &mut Rand
     };
     let arc = |(tail, head)| Arc::one_way(tail, head, capacity(random));
     let arcs = ends.into_iter().map(arc).collect();
-    let commodities = (0..size.commodities).map(|_| commodity(shape, size, random));
-    Network { nodes: size.nodes, arcs, commodities: commodities.collect() }
+    let commodities = (0..size.commodities).map(|_| commodity(shape, size, random)).collect();
+    Network { arcs, commodities, ..network(size.nodes, &[], &[]) }
 }
 
 /// A small floor of any shape; one in twelve is unjoined by intent.
@@ -86,7 +86,7 @@ pub fn one_joining(m: u64, capacity: u64) -> Network {
     let apart = |_| Arc::one_way(2, 1, 1);
     let mut arcs: Vec<Arc> = (1..m).map(apart).collect();
     arcs.push(Arc::one_way(1, 2, capacity));
-    Network { nodes: 2, arcs, commodities: vec![Commodity { source: 1, sink: 2 }] }
+    Network { arcs, ..network(2, &[], &[(1, 2)]) }
 }
 
 /// The call on a floor, with tables that hold strange bytes and are longer than
@@ -97,6 +97,7 @@ pub fn lent(net: &Network, q: u64, random: &mut Random) -> Call {
         let more = random.index(room);
         slice.extend(random.bytes(more));
     }
+    lengthen(&mut call.limits, net.nodes, random);
     let tables = [&mut call.flow, &mut call.length, &mut call.answer, &mut call.count];
     for table in tables {
         let more = random.pick(&[0, 0, 1, 7, 8, 9, 40]);
@@ -105,6 +106,18 @@ pub fn lent(net: &Network, q: u64, random: &mut Random) -> Call {
     let count = random.pick(&[0, 1, 255, FULL - 1, FULL]);
     put(&mut call.count, 0, count);
     call
+}
+
+/// By what changes nothing: zeros where there was no number, numbers for which there is
+/// no station, and part of one.
+fn lengthen(limits: &mut Vec<u8>, nodes: u64, random: &mut Random) {
+    let whole = nodes as usize * NUMBER;
+    if random.one_in(2) {
+        limits.resize(whole, 0);
+    }
+    let beyond = if limits.len() == whole { random.index(4) } else { 0 };
+    let more = beyond * NUMBER + random.index(NUMBER);
+    limits.extend(random.bytes(more));
 }
 
 /// Exactly as many arcs as asked: some left out, or some run side by side.

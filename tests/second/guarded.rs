@@ -41,17 +41,18 @@ impl Guarded {
 /// What the library returns, with the slices as it leaves them, or the names of
 /// the slices outside which it wrote.
 pub fn call_library(call: &Call) -> Result<(u64, Call), String> {
-    let given = [&call.belts, &call.pairs, &call.flow, &call.length, &call.answer, &call.count];
+    let Call { n, q, belts, pairs, limits, flow, length, answer, count } = call;
+    let given = [belts, pairs, limits, flow, length, answer, count];
     let mut lent = given.map(|slice| Guarded::around(slice));
-    let [belts, pairs, flow, length, answer, count] = lent.each_mut().map(Guarded::slice);
-    let returned = solve(call.n, call.q, Lent { belts, pairs, flow, length, answer, count });
-    let names = ["belts", "pairs", "flow", "length", "answer", "count"];
+    let [belts, pairs, limits, flow, length, answer, count] = lent.each_mut().map(Guarded::slice);
+    let returned = solve(*n, *q, Lent { belts, pairs, limits, flow, length, answer, count });
+    let names = ["belts", "pairs", "limits", "flow", "length", "answer", "count"];
     let spilled: Vec<&str> =
         lent.iter().zip(names).filter(|(g, _)| !g.whole()).map(|(_, name)| name).collect();
     if !spilled.is_empty() {
         return Err(format!("wrote outside {}", spilled.join(", ")));
     }
-    let [belts, pairs, flow, length, answer, count] = lent.map(Guarded::contents);
-    let (n, q) = (call.n, call.q);
-    Ok((returned, Call { n, q, belts, pairs, flow, length, answer, count }))
+    let [belts, pairs, limits, flow, length, answer, count] = lent.map(Guarded::contents);
+    let (n, q) = (*n, *q);
+    Ok((returned, Call { n, q, belts, pairs, limits, flow, length, answer, count }))
 }

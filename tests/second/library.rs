@@ -9,6 +9,8 @@ extern "C" {
         belts_len: usize,
         pairs: *const u8,
         pairs_len: usize,
+        limits: *const u8,
+        limits_len: usize,
         flow: *mut u8,
         flow_len: usize,
         length: *mut u8,
@@ -20,12 +22,13 @@ extern "C" {
     ) -> u64;
 }
 
-/// What a call lends. Slices that are borrowed so overlap nowhere. The two that
+/// What a call lends. Slices that are borrowed so overlap nowhere. The three that
 /// the library only reads are lent as if it might write, so that a caller may
 /// look whether it did.
 pub struct Lent<'a> {
     pub belts: &'a mut [u8],
     pub pairs: &'a mut [u8],
+    pub limits: &'a mut [u8],
     pub flow: &'a mut [u8],
     pub length: &'a mut [u8],
     pub answer: &'a mut [u8],
@@ -43,6 +46,8 @@ pub fn solve(n: u64, q: u64, lent: Lent) -> u64 {
             lent.belts.len(),
             lent.pairs.as_mut_ptr().cast_const(),
             lent.pairs.len(),
+            lent.limits.as_mut_ptr().cast_const(),
+            lent.limits.len(),
             lent.flow.as_mut_ptr(),
             lent.flow.len(),
             lent.length.as_mut_ptr(),

@@ -7,7 +7,7 @@ use crate::random::Random;
 use crate::reversible::{self, Share, MARKS, SHARES};
 use crate::shapes::{FULL_SIZE, SHAPES};
 use crate::tally::{holds, Tally};
-use crate::wrong::Told;
+use crate::wrong::{self, Told};
 use crate::{agree, compare_forms, compare_large, timed};
 use crate::{fast, literal, solver, ties};
 
@@ -25,7 +25,7 @@ pub struct Amounts {
 /// of the small floors. Up to the precision `plain` the plain form is tried on the
 /// full-size ones.
 pub fn compare(tally: &mut Tally, amounts: &Amounts, plain: u64, seed: u64) {
-    let mut told = Told::default();
+    let mut told = Told::new(wrong::REVERSIBLE);
     timed("reversible belts, stated", tally, |tally| compare_stated(tally, &mut told));
     timed("reversible belts, ties", tally, |tally| {
         compare_ties(tally, amounts.ties, &mut Random::new(seed))
@@ -68,7 +68,7 @@ fn compare_stated(tally: &mut Tally, told: &mut Told) {
 }
 
 /// The right program among the wrong ones is one more form of the second solver.
-fn look(told: &mut Told, net: &Network, q: u64, plain: &Solution) -> Result<(), String> {
+pub fn look(told: &mut Told, net: &Network, q: u64, plain: &Solution) -> Result<(), String> {
     holds(told.look(net, q, plain), "draws kept by direction give another answer")
 }
 

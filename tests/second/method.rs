@@ -1,7 +1,6 @@
-//! The arithmetic of document 01, "One choice of route": what both forms of the
-//! second solver compute alike.
+//! The arithmetic of document 01, "One choice of route", over the resources of request
+//! C-17, given by their capacities: what all forms of the second solver compute alike.
 
-use crate::network::{Arc, Network};
 use std::cmp::Ordering;
 
 pub const SCALE: u64 = 1 << 36;
@@ -47,26 +46,26 @@ pub fn level(m: usize, q: u64) -> u64 {
     level
 }
 
-/// T, the load mark.
-pub fn threshold(net: &Network, q: u64) -> u64 {
-    q * level(net.arcs.len(), q)
+/// T, the load mark of m resources.
+pub fn threshold(m: usize, q: u64) -> u64 {
+    q * level(m, q)
 }
 
-pub fn start(net: &Network) -> Vec<u64> {
-    net.arcs.iter().map(|arc| SCALE.div_ceil(arc.capacity)).collect()
+pub fn start(capacities: &[u64]) -> Vec<u64> {
+    capacities.iter().map(|capacity| SCALE.div_ceil(*capacity)).collect()
 }
 
-pub fn grown(length: u64, arc: &Arc, draw: u64, q: u64) -> u64 {
-    length + (length * draw).div_ceil(q * arc.capacity)
+pub fn grown(length: u64, capacity: u64, draw: u64, q: u64) -> u64 {
+    length + (length * draw).div_ceil(q * capacity)
 }
 
 pub fn halved(length: u64) -> u64 {
     length.div_ceil(2)
 }
 
-/// D: the sum over all arcs of capacity times length.
-pub fn weight(net: &Network, lengths: &[u64]) -> u64 {
-    net.arcs.iter().zip(lengths).map(|(arc, length)| arc.capacity * length).sum()
+/// D: the sum over all resources of capacity times length.
+pub fn weight(capacities: &[u64], lengths: &[u64]) -> u64 {
+    capacities.iter().zip(lengths).map(|(capacity, length)| capacity * length).sum()
 }
 
 /// Whether a / b is below c / d, exactly.
@@ -74,12 +73,12 @@ pub fn fraction_below(a: u64, b: u64, c: u64, d: u64) -> bool {
     u128::from(a) * u128::from(d) < u128::from(c) * u128::from(b)
 }
 
-/// b: the lowest-numbered arc of greatest load over capacity.
-pub fn fullest(net: &Network, loads: &[u64]) -> usize {
+/// b: the lowest-numbered resource of greatest load over capacity.
+pub fn fullest(capacities: &[u64], loads: &[u64]) -> usize {
     let mut best = 0;
-    for (e, arc) in net.arcs.iter().enumerate() {
-        if fraction_below(loads[best], net.arcs[best].capacity, loads[e], arc.capacity) {
-            best = e;
+    for (r, capacity) in capacities.iter().enumerate() {
+        if fraction_below(loads[best], capacities[best], loads[r], *capacity) {
+            best = r;
         }
     }
     best

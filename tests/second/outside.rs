@@ -1,7 +1,7 @@
 //! What must hold of any accepted call, read off the bytes that it leaves and not off
 //! a run of the method: document 01's flow and capacities with the signs of request
-//! C-12, and the promises of total, bound and count. Of the second solver it shares
-//! the load mark T alone.
+//! C-12 and the limits of C-17, and the promises of total, bound and count. Of the
+//! second solver it shares the load mark T alone.
 
 use crate::call::{get, numbers, Call};
 use crate::method::threshold;
@@ -10,14 +10,21 @@ use crate::network::{Arc, Commodity, Network};
 /// Longer than any path, and the sum of two still fits.
 const NONE: u64 = u64::MAX / 4;
 
-/// `sizes` has for each arc the sum of all commodities' amounts, without their signs.
+/// A belt, or a station with a limit. `size` is how much of it the flow takes, before
+/// the scale. What was drawn may be more by any multiple of `step`, none if it is 0.
+struct Resource {
+    capacity: u64,
+    size: u64,
+    step: u64,
+}
+
 struct Plan {
     net: Network,
     q: u64,
     flow: Vec<i64>,
     lengths: Vec<u64>,
     answer: Vec<u64>,
-    sizes: Vec<u64>,
+    resources: Vec<Resource>,
 }
 
 /// The name of the first thing that fails.
@@ -44,14 +51,16 @@ impl Plan {
         let net = before.network();
         let (m, k) = (net.arcs.len(), net.commodities.len());
         let flow: Vec<i64> = numbers(&after.flow)[..k * m].iter().map(|x| *x as i64).collect();
-        let amounts = |e| flow.iter().skip(e).step_by(m);
-        let sizes = (0..m).map(|e| amounts(e).map(|x| x.unsigned_abs()).sum()).collect();
-        let lengths = numbers(&after.length)[..m].to_vec();
-        Plan { net, q: before.q, flow, lengths, answer: numbers(&after.answer), sizes }
+        let belts = (0..m).map(|e| belt(&net, &flow, e));
+        let limited = (1..).zip(&net.limits).filter(|(_, limit)| **limit > 0);
+        let stations = limited.map(|(node, limit)| station(&net, &flow, node, *limit));
+        let resources: Vec<Resource> = belts.chain(stations).collect();
+        let lengths = numbers(&after.length)[..resources.len()].to_vec();
+        Plan { net, q: before.q, flow, lengths, answer: numbers(&after.answer), resources }
     }
 
     fn check_unjoined(&self) -> Result<(), &'static str> {
-        let ones = vec![1; self.net.arcs.len()];
+        let ones = vec![1; self.resources.len()];
         holds(self.alpha(&ones) == NONE, "said to be unjoined, and a pair is joined")?;
         holds(self.answer[..7] == [0, 1, 1, 0, 1, 0, 0], "an unjoined answer has other numbers")?;
         let zeros = self.flow.iter().all(|x| *x == 0) && self.lengths.iter().all(|l| *l == 0);
@@ -64,27 +73,30 @@ impl Plan {
         holds(self.total() == i128::from(self.answer[0]), "the pairs' amounts do not sum to F")?;
         self.check_scale()?;
         self.check_bound()?;
-        let most = self.net.arcs.len() as u64 * threshold(&self.net, self.q);
+        let most = self.resources.len() as u64 * self.threshold();
         holds(self.answer[5] <= most, "more than m * T iterations")?;
         holds((1..=self.answer[5]).contains(&self.answer[6]), "the bound is of no iteration")
     }
 
+    fn threshold(&self) -> u64 {
+        threshold(self.resources.len(), self.q)
+    }
+
     fn check_scale(&self) -> Result<(), &'static str> {
         let (capacity, load) = (self.answer[1], self.answer[2]);
-        let arcs = || self.net.arcs.iter().zip(&self.sizes);
-        let mut fits =
-            arcs().map(|(arc, y)| wide(*y) * wide(capacity) <= wide(arc.capacity) * wide(load));
-        holds(fits.all(|fits| fits), "a belt is over its capacity after the scale")?;
-        let mut given = arcs().map(|(arc, y)| arc.capacity == capacity && drawn(arc, *y, load));
-        holds(given.any(|given| given), "the scale is no belt's")?;
-        holds(load >= capacity * threshold(&self.net, self.q), "ended below the load mark")
+        let mut sizes = self.resources.iter();
+        let fit = sizes.all(|r| wide(r.size) * wide(capacity) <= wide(r.capacity) * wide(load));
+        holds(fit, "a belt or a station is over its capacity after the scale")?;
+        let given = self.resources.iter().any(|r| r.capacity == capacity && r.drawn(load));
+        holds(given, "the scale is no belt's and no station's")?;
+        holds(load >= capacity * self.threshold(), "ended below the load mark")
     }
 
     /// The lengths are a certificate: D and alpha follow from them.
     fn check_bound(&self) -> Result<(), &'static str> {
         let [drawn, capacity, load, d, alpha] = [0, 1, 2, 3, 4].map(|i| wide(self.answer[i]));
-        let weights = self.net.arcs.iter().zip(&self.lengths);
-        let weight: u128 = weights.map(|(arc, l)| wide(arc.capacity) * wide(*l)).sum();
+        let weights = self.resources.iter().zip(&self.lengths);
+        let weight: u128 = weights.map(|(r, l)| wide(r.capacity) * wide(*l)).sum();
         holds(weight == d, "D is not that of the lengths")?;
         holds(wide(self.alpha(&self.lengths)) == alpha, "alpha is not that of the lengths")?;
         holds(drawn * capacity * alpha <= d * load, "the total is above the bound")?;
@@ -94,8 +106,12 @@ impl Plan {
     }
 
     fn alpha(&self, lengths: &[u64]) -> u64 {
-        let shortest = shortest(&self.net, lengths);
-        let of = |pair: &Commodity| shortest[pair.source as usize][pair.sink as usize];
+        let own = own_lengths(&self.net, lengths);
+        let shortest = shortest(&self.net, lengths, &own);
+        let of = |pair: &Commodity| {
+            let (source, sink) = (pair.source as usize, pair.sink as usize);
+            NONE.min(own[source] + shortest[source][sink])
+        };
         self.net.commodities.iter().map(of).min().unwrap_or(NONE)
     }
 
@@ -104,14 +120,10 @@ impl Plan {
         arcs.zip(&self.flow).all(|(arc, amount)| *amount >= 0 || arc.mark != 0)
     }
 
-    /// What leaves a node less what enters it, of one commodity.
     fn net_out(&self, i: usize, node: u64) -> i128 {
         let m = self.net.arcs.len();
-        let amounts = self.net.arcs.iter().zip(&self.flow[i * m..]);
-        amounts.fold(0, |sum, (arc, amount)| {
-            let out = i128::from(arc.tail == node) - i128::from(arc.head == node);
-            sum + out * i128::from(*amount)
-        })
+        let [brought, taken] = at(&self.net.arcs, &self.flow[i * m..], node);
+        i128::from(taken) - i128::from(brought)
     }
 
     fn balanced(&self) -> bool {
@@ -127,22 +139,67 @@ impl Plan {
     }
 }
 
-/// Whether so much can have been drawn over an arc whose amounts have these sizes:
-/// what cancels is drawn twice, once in each direction.
-fn drawn(arc: &Arc, size: u64, load: u64) -> bool {
-    size == load || arc.mark != 0 && size < load && (load - size) % 2 == 0
+/// What one commodity, whose row this is, brings to a node and takes from it.
+fn at(arcs: &[Arc], row: &[i64], node: u64) -> [u64; 2] {
+    let mut at = [0, 0];
+    for (arc, amount) in arcs.iter().zip(row) {
+        let ends = if *amount < 0 { [arc.tail, arc.head] } else { [arc.head, arc.tail] };
+        let touched = at.iter_mut().zip(ends).filter(|(_, end)| *end == node);
+        touched.for_each(|(sum, _)| *sum += amount.unsigned_abs());
+    }
+    at
 }
 
-/// The least length of a path between any two nodes, through more and more of them
-/// (Floyd and Warshall).
-fn shortest(net: &Network, lengths: &[u64]) -> Vec<Vec<u64>> {
+/// What cancels on a belt is drawn twice, once in each direction.
+fn belt(net: &Network, flow: &[i64], e: usize) -> Resource {
+    let amounts = flow.iter().skip(e).step_by(net.arcs.len());
+    let size = amounts.map(|amount| amount.unsigned_abs()).sum();
+    let step = if net.arcs[e].mark != 0 { 2 } else { 0 };
+    Resource { capacity: net.arcs[e].capacity, size, step }
+}
+
+fn station(net: &Network, flow: &[i64], node: u64, limit: u64) -> Resource {
+    let touches = |arc: &&Arc| [arc.tail, arc.head].contains(&node);
+    let cancels = net.arcs.iter().filter(touches).any(|arc| arc.mark != 0);
+    Resource { capacity: limit, size: taken(net, flow, node), step: u64::from(cancels) }
+}
+
+/// Of a node: the larger of what a commodity brings and what it takes away, summed.
+pub fn taken(net: &Network, flow: &[i64], node: u64) -> u64 {
+    let each = flow.chunks(net.arcs.len()).map(|row| at(&net.arcs, row, node));
+    each.map(|[brought, taken]| brought.max(taken)).sum()
+}
+
+impl Resource {
+    /// Whether so much can have been drawn over it.
+    fn drawn(&self, load: u64) -> bool {
+        self.size == load
+            || self.step > 0 && self.size < load && (load - self.size) % self.step == 0
+    }
+}
+
+/// By node: the lengths after those of the belts are the limited stations', in order.
+fn own_lengths(net: &Network, lengths: &[u64]) -> Vec<u64> {
+    let mut lengths = lengths[net.arcs.len()..].iter();
+    let mut own = vec![0; net.nodes as usize + 1];
+    for (length, limit) in own[1..].iter_mut().zip(&net.limits) {
+        if *limit > 0 {
+            *length = *lengths.next().expect("a length for each limit");
+        }
+    }
+    own
+}
+
+/// The least length of a path between any two nodes, without that of the first itself,
+/// through more and more of them (Floyd and Warshall).
+fn shortest(net: &Network, lengths: &[u64], own: &[u64]) -> Vec<Vec<u64>> {
     let nodes = net.nodes as usize + 1;
     let mut shortest = vec![vec![NONE; nodes]; nodes];
     for (arc, length) in net.arcs.iter().zip(lengths) {
         let (tail, head) = (arc.tail as usize, arc.head as usize);
-        shortest[tail][head] = shortest[tail][head].min(*length);
+        shortest[tail][head] = shortest[tail][head].min(length + own[head]);
         if arc.mark != 0 {
-            shortest[head][tail] = shortest[head][tail].min(*length);
+            shortest[head][tail] = shortest[head][tail].min(length + own[tail]);
         }
     }
     for through in 1..nodes {

@@ -49,3 +49,35 @@ fn exactly_marked() -> Network {
     belts.push((16, 17, 18));
     network(17, &belts, &[(1, 15), (16, 17)])
 }
+
+/// Two resources of unequal capacity, from 0, that are equally full when choosing ends:
+/// the first gives the scale (request C-17).
+pub struct Tied {
+    pub name: &'static str,
+    pub net: Network,
+    pub q: u64,
+    pub first: usize,
+    pub second: usize,
+}
+
+/// A belt and a station, then two stations; a search found these too.
+pub fn with_stations() -> Vec<Tied> {
+    let one = [(2, 3, 2), (2, 1, 2), (3, 1, 1), (3, 4, 1), (3, 1, 1)];
+    let two = [(2, 3, 2), (2, 1, 2), (3, 2, 2), (1, 3, 4), (1, 2, 2)];
+    let three = [(1, 4, 3), (3, 4, 2), (1, 4, 2), (2, 4, 1), (4, 3, 1), (1, 2, 1)];
+    let four = [(4, 2, 8), (3, 4, 6), (3, 2, 5), (3, 4, 5), (4, 1, 11), (2, 1, 7)];
+    let five = [(4, 3, 15), (4, 1, 17), (3, 2, 6), (2, 4, 7), (3, 1, 16), (2, 3, 12)];
+    let one = network(4, &one, &[(2, 1), (2, 4)]).limited(&[3, 0, 4, 1]);
+    let two = network(3, &two, &[(1, 2), (2, 3)]).limited(&[5, 0, 5]).reversible(&[4]);
+    let three = network(4, &three, &[(2, 3), (1, 4)]).limited(&[5, 0, 1]).reversible(&[6]);
+    let four = network(4, &four, &[(3, 1), (4, 2)]).limited(&[3, 3, 2, 2]).reversible(&[6]);
+    let five = network(4, &five, &[(4, 2), (2, 1)]).limited(&[4, 6, 2, 3]).reversible(&[2]);
+    let tied = |name, net, q, first, second| Tied { name, net, q, first, second };
+    vec![
+        tied("belt 2 and station 1 equally full", one, 4, 1, 5),
+        tied("belt 5 and station 1 equally full", two, 4, 4, 5),
+        tied("belt 1 and station 1 equally full", three, 6, 0, 6),
+        tied("stations 2 and 4 equally full", four, 6, 7, 9),
+        tied("stations 1 and 4 equally full", five, 7, 6, 9),
+    ]
+}

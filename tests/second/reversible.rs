@@ -67,7 +67,7 @@ type Belts<'a> = &'a [(u64, u64, u64)];
 
 /// From station 1 to 4: belts to 2, belts from 3, then 1 to 3, 2 to 4 and the bridge
 /// between 2 and 3, which alone is reversible, of these capacities.
-fn bridge_between(to_2: Belts, from_3: Belts, [upper, lower, bridge]: [u64; 3]) -> Network {
+pub fn bridge_between(to_2: Belts, from_3: Belts, [upper, lower, bridge]: [u64; 3]) -> Network {
     let cross = [(1, 3, upper), (2, 4, lower), (2, 3, bridge)];
     let belts = [to_2, from_3, &cross].concat();
     network(4, &belts, &[(1, 4)]).reversible(&[belts.len()])

@@ -1,10 +1,10 @@
-//! The method of document 01 with at most one slip: the run of `solver` again,
-//! each rule that may slip in a function of its own. Kept besides is what the
-//! proof speaks of: the last lengths, the halvings and the last fraction.
+//! The method of document 01 with at most one slip, on floors without limits: the run
+//! of `solver` again, each rule that may slip in a function of its own. Kept besides
+//! is what the proof speaks of: the last lengths, the halvings and the last fraction.
 
 use crate::method::{fraction_below, fullest, grown, halved, start, threshold, weight};
 use crate::method::{MARK, SCALE};
-use crate::network::{Arc, Network};
+use crate::network::Network;
 use crate::solver::{choose, Choice};
 
 /// Document 01, "Where the method slips"; its first slip has three places.
@@ -78,7 +78,7 @@ impl<'a> Run<'a> {
 
     fn iterate(&mut self, choice: &Choice) {
         self.iterations += 1;
-        self.meet(weight(self.net, &self.lengths), choice.alpha);
+        self.meet(weight(&self.net.capacities(), &self.lengths), choice.alpha);
         self.draw(&choice.path);
         if self.lengths.iter().any(|&length| length >= MARK) {
             self.halvings += 1;
@@ -99,13 +99,13 @@ impl<'a> Run<'a> {
         let draw = path.iter().map(|&e| arcs[e].capacity).min().expect("a path has an arc");
         for &e in path {
             self.loads[e] += draw;
-            self.lengths[e] = grow(self.lengths[e], &arcs[e], draw, self.q, self.slip);
+            self.lengths[e] = grow(self.lengths[e], arcs[e].capacity, draw, self.q, self.slip);
         }
         self.drawn += draw;
     }
 
     pub fn fullest(&self) -> usize {
-        fullest(self.net, &self.loads)
+        fullest(&self.net.capacities(), &self.loads)
     }
 
     /// c(b) over Y(b); by the slip 1 over T.
@@ -128,21 +128,21 @@ impl<'a> Run<'a> {
 pub fn starts(net: &Network, slip: Slip) -> Vec<u64> {
     match slip {
         Slip::StartDown => net.arcs.iter().map(|arc| SCALE / arc.capacity).collect(),
-        _ => start(net),
+        _ => start(&net.capacities()),
     }
 }
 
 fn mark(net: &Network, q: u64, slip: Slip) -> u64 {
     match (slip, net.arcs.len()) {
         (Slip::LevelZero, 1) => 0,
-        _ => threshold(net, q),
+        (_, m) => threshold(m, q),
     }
 }
 
-fn grow(length: u64, arc: &Arc, draw: u64, q: u64, slip: Slip) -> u64 {
+fn grow(length: u64, capacity: u64, draw: u64, q: u64, slip: Slip) -> u64 {
     match slip {
-        Slip::GrowthDown => length + length * draw / (q * arc.capacity),
-        _ => grown(length, arc, draw, q),
+        Slip::GrowthDown => length + length * draw / (q * capacity),
+        _ => grown(length, capacity, draw, q),
     }
 }
 

@@ -1,25 +1,24 @@
 //! The second solver, plain form: written from document 01, the tie rule of request
-//! C-16 and the reversible belts of C-12, step by step, with a Bellman-Ford search
-//! for every commodity at every iteration.
+//! C-16, the reversible belts of C-12 and the limited stations of C-17, step by step,
+//! with a Bellman-Ford search for every commodity at every iteration.
 
 use crate::method::{
     fraction_below, fullest, grown, halved, start, threshold, weight, Bound, MARK,
 };
 use crate::network::{Network, Solution};
 
-/// How far a node is from a sink: the least length of a path, and of the paths as
-/// short the fewest arcs. They are compared in this order.
+/// How far a node is from a sink: the least length of a path, with that of both its
+/// ends, and of the paths as short the fewest arcs. They are compared in this order.
 #[derive(Clone, Copy, PartialEq, Eq, PartialOrd, Ord)]
 pub struct Distance {
     pub length: u64,
     pub arcs: u64,
 }
 
-pub const HERE: Distance = Distance { length: 0, arcs: 0 };
 pub const UNREACHED: Distance = Distance { length: u64::MAX, arcs: u64::MAX };
 
 impl Distance {
-    /// With one arc of this length before it.
+    /// With one arc before it, of this length together with that of its first node.
     pub fn after(self, length: u64) -> Distance {
         Distance { length: self.length + length, arcs: self.arcs + 1 }
     }
@@ -39,6 +38,7 @@ pub struct Choice {
 struct Run<'a> {
     net: &'a Network,
     q: u64,
+    capacities: Vec<u64>,
     lengths: Vec<u64>,
     flow: Vec<i64>,
     loads: Vec<u64>,
@@ -53,8 +53,8 @@ pub fn solve(net: &Network, q: u64) -> Solution {
 
 /// The method with any way to the choice: `literal` has another.
 pub fn solve_by(choose: fn(&Network, &[u64]) -> Option<Choice>, net: &Network, q: u64) -> Solution {
-    let threshold = threshold(net, q);
     let mut run = Run::new(net, q);
+    let threshold = threshold(run.capacities.len(), q);
     while !run.reached(threshold) {
         match choose(net, &run.lengths) {
             Some(choice) => run.iterate(&choice),
@@ -83,21 +83,22 @@ pub fn choose(net: &Network, lengths: &[u64]) -> Option<Choice> {
 
 /// The distance from each node to the sink, by Bellman-Ford.
 pub fn distances(net: &Network, lengths: &[u64], sink: u64) -> Distances {
+    let own = net.node_lengths(lengths);
     let mut distances = [UNREACHED; 65];
-    distances[sink as usize] = HERE;
-    while relax_all(net, lengths, &mut distances) {}
+    distances[sink as usize] = Distance { length: own[sink as usize], arcs: 0 };
+    while relax_all(net, lengths, &own, &mut distances) {}
     distances
 }
 
-fn relax_all(net: &Network, lengths: &[u64], distances: &mut Distances) -> bool {
+fn relax_all(net: &Network, lengths: &[u64], own: &[u64], distances: &mut Distances) -> bool {
     let mut changed = false;
     for (arc, length) in net.arcs.iter().zip(lengths) {
         for from in [arc.tail, arc.head] {
             let Some(to) = arc.leads(from) else { continue };
             let onward = distances[to as usize];
             let known = &mut distances[from as usize];
-            if onward != UNREACHED && onward.after(*length) < *known {
-                *known = onward.after(*length);
+            if onward != UNREACHED && onward.after(own[from as usize] + length) < *known {
+                *known = onward.after(own[from as usize] + length);
                 changed = true;
             }
         }
@@ -108,33 +109,34 @@ fn relax_all(net: &Network, lengths: &[u64], distances: &mut Distances) -> bool 
 /// Taking the lowest-numbered arc that lies on some shortest path of fewest arcs,
 /// node after node, gives the one whose arc numbers come first in dictionary order.
 fn first_path(net: &Network, lengths: &[u64], distances: &Distances, i: usize) -> Vec<usize> {
+    let own = net.node_lengths(lengths);
     let mut path = Vec::new();
     let mut node = net.commodities[i].source;
     while node != net.commodities[i].sink {
-        let next = (0..net.arcs.len()).find(|&e| tight(net, lengths, distances, node, e));
-        let arc = next.expect("a node that reaches the sink has a tight arc");
+        let tight = |e: &usize| {
+            net.arcs[*e].leads(node).is_some_and(|next| {
+                let (onward, length) = (distances[next as usize], own[node as usize] + lengths[*e]);
+                onward != UNREACHED && onward.after(length) == distances[node as usize]
+            })
+        };
+        let arc = (0..net.arcs.len()).find(tight);
+        let arc = arc.expect("a node that reaches the sink has a tight arc");
         path.push(arc);
         node = net.arcs[arc].leads(node).expect("a tight arc leads on");
     }
     path
 }
 
-fn tight(net: &Network, lengths: &[u64], distances: &Distances, node: u64, e: usize) -> bool {
-    net.arcs[e].leads(node).is_some_and(|next| {
-        let onward = distances[next as usize];
-        onward != UNREACHED && onward.after(lengths[e]) == distances[node as usize]
-    })
-}
-
 impl<'a> Run<'a> {
     fn new(net: &'a Network, q: u64) -> Run<'a> {
-        let (m, k) = (net.arcs.len(), net.commodities.len());
+        let capacities = net.capacities();
         Run {
             net,
             q,
-            lengths: start(net),
-            flow: vec![0; k * m],
-            loads: vec![0; m],
+            lengths: start(&capacities),
+            flow: vec![0; net.commodities.len() * net.arcs.len()],
+            loads: vec![0; capacities.len()],
+            capacities,
             drawn: 0,
             iterations: 0,
             bound: None,
@@ -152,7 +154,7 @@ impl<'a> Run<'a> {
 
     /// A smaller fraction replaces the least seen, an equal one doesn't.
     fn keep_bound(&mut self, alpha: u64) {
-        let weight = weight(self.net, &self.lengths);
+        let weight = weight(&self.capacities, &self.lengths);
         let smaller = match &self.bound {
             None => true,
             Some(least) => fraction_below(weight, alpha, least.weight, least.alpha),
@@ -164,31 +166,34 @@ impl<'a> Run<'a> {
     }
 
     fn draw(&mut self, choice: &Choice) {
-        let arcs = &self.net.arcs;
-        let capacities = choice.path.iter().map(|&e| arcs[e].capacity);
+        let (arcs, source) = (&self.net.arcs, self.net.commodities[choice.commodity].source);
+        let uses = self.net.uses(source, &choice.path);
+        let capacities = uses.iter().map(|&r| self.capacities[r]);
         let draw = capacities.min().expect("a path has an arc, as its ends differ");
-        let mut node = self.net.commodities[choice.commodity].source;
+        let mut node = source;
         for &e in &choice.path {
             let amount = &mut self.flow[choice.commodity * arcs.len() + e];
             *amount += if arcs[e].tail == node { draw as i64 } else { -(draw as i64) };
-            self.loads[e] += draw;
-            self.lengths[e] = grown(self.lengths[e], &arcs[e], draw, self.q);
             node = arcs[e].leads(node).expect("an arc of a path leads on");
+        }
+        for r in uses {
+            self.loads[r] += draw;
+            self.lengths[r] = grown(self.lengths[r], self.capacities[r], draw, self.q);
         }
         self.drawn += draw;
     }
 
     fn reached(&self, threshold: u64) -> bool {
-        let mut loads = self.net.arcs.iter().zip(&self.loads);
-        loads.any(|(arc, load)| *load >= threshold * arc.capacity)
+        let mut loads = self.capacities.iter().zip(&self.loads);
+        loads.any(|(capacity, load)| *load >= threshold * capacity)
     }
 
     fn solution(self) -> Solution {
-        let b = fullest(self.net, &self.loads);
+        let b = fullest(&self.capacities, &self.loads);
         let bound = self.bound.expect("the threshold is reached by drawing");
         let answer = [
             self.drawn,
-            self.net.arcs[b].capacity,
+            self.capacities[b],
             self.loads[b],
             bound.weight,
             bound.alpha,

@@ -104,10 +104,11 @@ fn checked(call: &Call, (returned, after): &(u64, Call)) -> Result<(), String> {
     }
 }
 
-fn slices<'a>(a: &'a Call, b: &'a Call) -> [(&'static str, &'a [u8], &'a [u8]); 6] {
+fn slices<'a>(a: &'a Call, b: &'a Call) -> [(&'static str, &'a [u8], &'a [u8]); 7] {
     [
         ("belts", &a.belts, &b.belts),
         ("pairs", &a.pairs, &b.pairs),
+        ("limits", &a.limits, &b.limits),
         ("flow", &a.flow, &b.flow),
         ("length", &a.length, &b.length),
         ("answer", &a.answer, &b.answer),
@@ -128,4 +129,5 @@ fn describe(call: &Call) {
     println!("  n {} q {}", call.n, call.q);
     println!("  {} belts{belts}", net.arcs.len());
     println!("  {} pairs{pairs}", net.commodities.len());
+    println!("  limits {:?}", net.limits);
 }

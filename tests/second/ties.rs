@@ -1,7 +1,7 @@
 //! Floors with many routes that are equally long and have different numbers of
 //! belts: capacities divide 2^36, so that no starting length is rounded.
 
-use crate::network::{network, Arc, Commodity, Network};
+use crate::network::{network, Network};
 use crate::random::Random;
 use crate::shapes::two_nodes;
 
@@ -88,17 +88,11 @@ fn crossed_grid(random: &mut Random) -> Network {
 fn tangle(random: &mut Random) -> Network {
     let nodes = random.between(6, 8);
     let most = random.pick(&[2, 4]);
-    let arc = |random: &mut Random| {
+    let belt = |random: &mut Random| {
         let (tail, head) = two_nodes(1, nodes, random);
-        Arc::one_way(tail, head, power(most, random))
+        (tail, head, power(most, random))
     };
-    let commodity = |random: &mut Random| {
-        let (source, sink) = two_nodes(1, nodes, random);
-        Commodity { source, sink }
-    };
-    Network {
-        nodes,
-        arcs: (0..random.between(10, 18)).map(|_| arc(random)).collect(),
-        commodities: (0..random.between(2, 5)).map(|_| commodity(random)).collect(),
-    }
+    let belts: Vec<_> = (0..random.between(10, 18)).map(|_| belt(random)).collect();
+    let pairs: Vec<_> = (0..random.between(2, 5)).map(|_| two_nodes(1, nodes, random)).collect();
+    network(nodes, &belts, &pairs)
 }

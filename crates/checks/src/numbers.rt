@@ -7,7 +7,7 @@ ghost use mathlib.Core.Path.{_≡_};
 ghost use Prim.Native.Nat.{_<_, _^_};
 ghost use Rattle.network.specs.Refusal.{refusalCode, hostNumber};
 
-// Document 01's number of a refusal, and the arc, commodity or line that it names, otherwise 0.
+// Document 01's number of a refusal, and the arc, node, commodity or line that it names, otherwise 0.
 pub fn refusal_code(r: Refusal) -> Code
     ensures { λ x. ⌜ x ≡ refusalCode r ⌝ }
 {
@@ -42,6 +42,11 @@ pub fn refusal_code(r: Refusal) -> Code
         },
         Refusal::FullCount => Code {
             number: 11,
+            place: 0,
+        },
+        Refusal::Limit(place) => Code { number: 14, place },
+        Refusal::Resources => Code {
+            number: 15,
             place: 0,
         },
     }

@@ -1,4 +1,4 @@
-// The sizes of a call: 1 to 4 of document 01's table, "Turned down", in its order.
+// The sizes of a call: 1 to 4 of document 01's table, "Turned down", in its order, and request C-17's 15 after 2.
 use bounds::LEAST_NODES;
 use bounds::LEAST_PRECISION;
 use bounds::MOST_ARCS;
@@ -17,15 +17,18 @@ pub fn outside(lo: u64, hi: u64, x: u64) -> bool
     x < lo || hi < x
 }
 
-// 1, 2, 3 and 4: nodes, arcs, commodities, precision.
-pub fn check_sizes(n: u64, m: usize, k: usize, q: u64) -> Verdict
-    ensures { λ r. ⌜ r ≡ verdict (sizeConditions n m k q) ⌝ }
+// 1, 2, 15, 3 and 4: nodes, arcs, resources, commodities, precision.
+pub fn check_sizes(n: u64, m: usize, r: usize, k: usize, q: u64) -> Verdict
+    ensures { λ v. ⌜ v ≡ verdict (sizeConditions n m r k q) ⌝ }
 {
     if outside(LEAST_NODES, MOST_NODES, n) {
         return Verdict::Refused(Refusal::Nodes);
     }
     if outside(1, MOST_ARCS as u64, m as u64) {
         return Verdict::Refused(Refusal::Arcs);
+    }
+    if MOST_ARCS < r {
+        return Verdict::Refused(Refusal::Resources);
     }
     if outside(1, MOST_COMMODITIES as u64, k as u64) {
         return Verdict::Refused(Refusal::Commodities);

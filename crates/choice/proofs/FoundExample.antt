@@ -3,7 +3,7 @@
 use mathlib.Core.Path.{_≡_, refl}
 use mathlib.Core.Option.{none, some}
 use mathlib.Core.List.{[], _∷_}
-use Prim.Native.Nat.{ℕ, zero, suc, _≤_, _<_}
+use Prim.Native.Nat.{ℕ, zero, suc, _+_, _≤_, _<_}
 use native.Mathlib.Omega.{arith}
 use lib.ListN.{getD}
 use borrow.Author.Count.{below-none, below-more}
@@ -11,7 +11,8 @@ use Rattle.arith.specs.Lists.{upFrom, upTo, flat}
 use Rattle.network.specs.Ends.{Ends}
 use Rattle.network.specs.Network.{Network}
 use Rattle.network.specs.Path.{pathLength}
-use Rattle.network.specs.Verdict.{verdict, outside, loose, sizeConditions, arcConditions, commodityConditions, itemConditions, verdictOn}
+use Rattle.network.specs.Resources.{limitsBelow, place, resources, station, uses, nodeLength}
+use Rattle.network.specs.Verdict.{verdict, outside, loose, sizeConditions, arcConditions, limitConditions, commodityConditions, itemConditions, verdictOn}
 use Rattle.network.specs.declared.Verdict.the-variants.{Accepted}
 use Rattle.network.proofs.Accepted.{accepted-sound}
 use Rattle.network.proofs.Sounds.{sound-ends}
@@ -35,7 +36,7 @@ abbrev parted : Network
 parted = floor (3 ∷ []) (1 ∷ [])
 
 accepted : (verdictOn twice 4 [] ≡ Accepted) × (verdictOn parted 4 [] ≡ Accepted)
-unfolding upFrom upTo flat verdict outside loose sizeConditions arcConditions commodityConditions itemConditions verdictOn
+unfolding upFrom upTo flat limitsBelow place resources verdict outside loose sizeConditions arcConditions limitConditions commodityConditions itemConditions verdictOn
 accepted = (refl, refl)
 
 ends : (net : Network) → verdictOn net 4 [] ≡ Accepted → Ends net
@@ -69,24 +70,32 @@ table-1 =
     }
 
 -- Bounds of 0, raised: one search serves both commodities.
-raised-3 : Raised (1 ∷ 1 ∷ []) (3 ∷ 3 ∷ []) 3 near (0 ∷ 0 ∷ []) (2 ∷ 2 ∷ []) 2
+raised-3 : Raised (nodeLength twice lengths) (1 ∷ 1 ∷ []) (3 ∷ 3 ∷ []) 3 near (0 ∷ 0 ∷ []) (3 ∷ 3 ∷ []) 2
+unfolding nodeLength station pathLength
 raised-3 =
     record {
       size = refl;
-      shared = two (λ i. _≡_ {A = ℕ} (getD (3 ∷ 3 ∷ []) i 0) 3 → _≡_ {A = ℕ} (getD (2 ∷ 2 ∷ []) i 0) (lengthOf (getD near (getD (1 ∷ 1 ∷ []) i 0) 0))) (λ q. refl) (λ q. refl);
+      shared =
+          two
+          (λ i. _≡_ {A = ℕ} (getD (3 ∷ 3 ∷ []) i 0) 3 → _≡_ {A = ℕ} (getD (3 ∷ 3 ∷ []) i 0) (lengthOf (getD near (getD (1 ∷ 1 ∷ []) i 0) 0) + nodeLength twice lengths (getD (1 ∷ 1 ∷ []) i 0)))
+          (λ q. refl) (λ q. refl);
       others = others;
     }
   where
-    others : (i : ℕ) → (_≡_ {A = ℕ} (getD (3 ∷ 3 ∷ []) i 0) 3 → ⊥) → _≡_ {A = ℕ} (getD (2 ∷ 2 ∷ []) i 0) (getD (0 ∷ 0 ∷ []) i 0)
+    others : (i : ℕ) → (_≡_ {A = ℕ} (getD (3 ∷ 3 ∷ []) i 0) 3 → ⊥) → _≡_ {A = ℕ} (getD (3 ∷ 3 ∷ []) i 0) (getD (0 ∷ 0 ∷ []) i 0)
     others zero n = absurd (n refl)
     others (suc zero) n = absurd (n refl)
     others (suc (suc i)) n = refl
 
-raised-1 : Raised (3 ∷ []) (1 ∷ []) 1 away (0 ∷ []) (farLength ∷ []) 1
+raised-1 : Raised (nodeLength parted lengths) (3 ∷ []) (1 ∷ []) 1 away (0 ∷ []) (farLength ∷ []) 1
+unfolding nodeLength station pathLength
 raised-1 =
     record {
       size = refl;
-      shared = one (λ i. _≡_ {A = ℕ} (getD (1 ∷ []) i 0) 1 → _≡_ {A = ℕ} (getD (farLength ∷ []) i 0) (lengthOf (getD away (getD (3 ∷ []) i 0) 0))) (λ q. refl);
+      shared =
+          one
+          (λ i. _≡_ {A = ℕ} (getD (1 ∷ []) i 0) 1 → _≡_ {A = ℕ} (getD (farLength ∷ []) i 0) (lengthOf (getD away (getD (3 ∷ []) i 0) 0) + nodeLength parted lengths (getD (3 ∷ []) i 0)))
+          (λ q. refl);
       others = others;
     }
   where
@@ -95,13 +104,14 @@ raised-1 =
     others (suc i) n = refl
 
 -- The first commodity is the lowest-numbered of the two equal bounds,
-closest : Closest twice lengths (2 ∷ 2 ∷ []) near 0
+closest : Closest twice lengths (3 ∷ 3 ∷ []) near 0
+unfolding nodeLength station pathLength
 closest =
     record {
       least =
           record {
             among = omega arith;
-            least = two (λ j. 2 ≤ getD (2 ∷ 2 ∷ []) j 0) (omega arith) (omega arith);
+            least = two (λ j. 3 ≤ getD (3 ∷ 3 ∷ []) j 0) (omega arith) (omega arith);
             lowest = λ j b. absurd (omega arith);
           };
       below = below-raised (ends twice (accepted .0)) table-3 (below-zero twice lengths {n = 2} refl) raised-3;
@@ -110,11 +120,12 @@ closest =
     }
 
 -- and it is chosen, with the path of one arc.
-found : (choice twice lengths ≡ some (choiceOf 0 (2 ∷ []))) × (pathLength lengths (2 ∷ []) ≡ 2)
+found : (choice twice lengths ≡ some (choiceOf 0 (2 ∷ []))) × (pathLength lengths (uses twice 1 (2 ∷ [])) ≡ 3)
 found = closest-choice closest (ends twice (accepted .0)) (omega arith) (walk _ _)
 
 -- The only bound is far,
 alone : Closest parted lengths (farLength ∷ []) away 0
+unfolding nodeLength station pathLength
 alone =
     record {
       least =
@@ -126,4 +137,4 @@ alone =
 
 -- so nothing is chosen.
 not-found : choice parted lengths ≡ none
-not-found = closest-none alone (ends parted (accepted .1)) (omega arith) bounded (omega arith)
+not-found = closest-none alone (ends parted (accepted .1)) (omega arith) (bounded _ _) (omega arith)

@@ -3,7 +3,7 @@
 use mathlib.Core.Path.{_≡_}
 use mathlib.Core.Logic.{⊎-elim}
 use mathlib.Core.List.{List}
-use Prim.Native.Nat.{ℕ, _-_, _≤_, _<_}
+use Prim.Native.Nat.{ℕ, _*_, _-_, _≤_, _<_}
 use native.Mathlib.Nat.{eq-or-lt-of-le}
 use native.Mathlib.Omega.{arith}
 use lib.ListN.{getD}
@@ -13,9 +13,13 @@ use Rattle.paths.specs.Far.{farLength}
 use Rattle.choice.specs.Least.{Least}
 use Rattle.choice.proofs.Leasts.{least-unique}
 
--- How far the first k bounds are below the cap, in all.
+-- No bound is above this: the cap with the length of a source, which is less.
+abbrev pub most : ℕ
+most = 2 * farLength
+
+-- How far the first k bounds are below it, in all.
 unfoldable pub slack : ℕ → List ℕ → ℕ
-slack k bounds = sum k (λ i. farLength - getD bounds i 0)
+slack k bounds = sum k (λ i. most - getD bounds i 0)
 
 module _ {old new : List ℕ} {k i : ℕ} (L : Least old k i) (rise : (j : ℕ) → j < k → getD old j 0 ≤ getD new j 0) where
   -- A least bound that has not risen is still the lowest of the least.
@@ -36,8 +40,8 @@ module _ {old new : List ℕ} {k i : ℕ} (L : Least old k i) (rise : (j : ℕ) 
       (eq-or-lt-of-le (rise i (L .among)))
 
   pub slack-falls :
-      {j : ℕ} → Least new k j → (j ≡ i → ⊥) → ((x : ℕ) → x < k → getD new x 0 ≤ farLength) → slack k new < slack k old
+      {j : ℕ} → Least new k j → (j ≡ i → ⊥) → ((x : ℕ) → x < k → getD new x 0 ≤ most) → slack k new < slack k old
   unfolding slack
   slack-falls J apart capped =
-      sum-lt k (λ x. farLength - getD new x 0) (λ x. farLength - getD old x 0) i (L .among) (λ x b. omega (arith, rise x b))
+      sum-lt k (λ x. most - getD new x 0) (λ x. most - getD old x 0) i (L .among) (λ x b. omega (arith, rise x b))
       (omega (arith, least-rises J apart, capped i (L .among)))

@@ -3,8 +3,11 @@
 use mathlib.Core.Path.{_≡_, ap}
 use mathlib.Core.List.{List}
 use Prim.Native.Nat.{ℕ, _<_}
+use native.Mathlib.Omega.{arith}
 use lib.ListN.{length}
-use Rattle.network.specs.Network.{Network, commodities, sink}
+use Rattle.network.specs.Network.{Network, commodities, source, sink}
+use Rattle.network.specs.Resources.{nodeLength}
+use Rattle.paths.proofs.NodeLengths.{node-small}
 use Rattle.choice.specs.Below.{Below}
 use Rattle.choice.specs.Closest.{Closest}
 use Rattle.paths.specs.Far.{far}
@@ -24,7 +27,7 @@ pub turned : {net : Network} {l bounds : List ℕ} {i : ℕ} → Below net l bou
 turned B L = record { below = B; least = rw (B .each) at L }
 
 module _ {net : Network} {l old new d : List ℕ} {i j : ℕ} (lent : Survey net l) (S : Turn net l old i)
-    (T : Table net l d (sink net i) far) (R : Raised (net .sources) (net .sinks) (sink net i) d old new (commodities net)) where
+    (T : Table net l d (sink net i) far) (R : Raised (nodeLength net l) (net .sources) (net .sinks) (sink net i) d old new (commodities net)) where
   pub turn-next : Least new (length new) j → Turn net l new j
   turn-next J = turned (below-raised (lent .fit .ends) T (S .below) R) J
 
@@ -48,4 +51,4 @@ module _ {net : Network} {l old new d : List ℕ} {i j : ℕ} (lent : Survey net
       (bounds-rise (lent .fit .ends) T (S .below) R)
       (next .least)
       (λ e. apart (ap (sink net) e))
-      (next .below .capped)
+      (λ x b. omega (arith, next .below .capped x b, node-small net l (lent .fit .small) (source net x) (lent .fit .ends .sources x b .1)))

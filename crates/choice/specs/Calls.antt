@@ -1,9 +1,11 @@
 -- What the choice asks of the slices that it is lent.
+use mathlib.Core.Path.{_≡_}
 use mathlib.Core.List.{List}
-use Prim.Native.Nat.{ℕ, _≤_}
+use Prim.Native.Nat.{ℕ, _*_, _≤_}
 use lib.ListN.{length}
 use Rattle.bounds.specs.Bounds.{mostNodes}
 use Rattle.network.specs.Network.{Network}
+use Rattle.network.specs.Resources.{resources, rooms}
 use Rattle.packed.specs.Packed.{part, netIn, Packed}
 use Rattle.packed.specs.declared.Shape.{Shape}
 use Rattle.index.specs.Index.{indexNumbers, Into, Out}
@@ -17,20 +19,25 @@ pub record Surveying (s : Shape) (net into l memory : List ℕ) : Type 0 where
   pub index : Into (netIn s net) into
   pub memory-of : Memory s (netIn s net) l memory
 
--- How many numbers two indexes take.
-abbrev pub indexesNumbers : ℕ
-indexesNumbers = 2180
+-- Behind two indexes stand the capacities of the resources; and so many numbers they take.
+abbrev pub roomsFrom : ℕ
+roomsFrom = 2310
 
--- One slice has both indexes of the arcs, one behind the other.
+abbrev pub indexesNumbers : ℕ
+indexesNumbers = 2566
+
+-- One slice has both indexes of the arcs and the capacities of the resources, one behind the other.
 pub record Indexed (net : Network) (indexes : List ℕ) : Type 0 where
   pub numbers : indexesNumbers ≤ length indexes
   pub into : Into net (part 0 indexNumbers indexes)
   pub out : Out net (part indexNumbers indexNumbers indexes)
+  pub rooms : part roomsFrom (resources net) indexes ≡ rooms net
 
--- That search, and the walk of the commodity found, over the arcs out of each node, into a table with this many places.
+-- That search, and the walk of the commodity found, over the arcs out of each node, into a table with this many places: for arcs and for nodes.
 pub record Choosing (s : Shape) (net indexes l memory : List ℕ) (places : ℕ) : Type 0 where
   pub packed : Packed s net
+  pub counted : s .resources ≡ resources (netIn s net)
   pub survey : Survey (netIn s net) l
   pub indexed : Indexed (netIn s net) indexes
   pub memory-of : Memory s (netIn s net) l memory
-  pub room : mostNodes ≤ places
+  pub room : 2 * mostNodes ≤ places

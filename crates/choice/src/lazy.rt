@@ -9,10 +9,12 @@ use bounds::MOST_NODES;
 use packed::SINKS;
 use packed::SOURCES;
 use packed::Shape;
+use paths::through;
 use search::distances;
 ghost use Prim.Native.Nat.{_≤_};
 ghost use lib.ListN.{length};
 ghost use Rattle.packed.specs.Packed.{netIn};
+ghost use Rattle.paths.specs.Through.{through};
 ghost use Rattle.choice.specs.Calls.{Surveying};
 ghost use Rattle.choice.specs.Closest.{Closest};
 ghost use Rattle.choice.specs.Least.{Least};
@@ -35,16 +37,16 @@ fn least(bounds: &[u64]) -> usize
     b
 }
 
-// The bounds of all commodities with this sink, raised to the lengths in the distances of their sources.
-fn raise(sources: &[u64], sinks: &[u64], sink: u64, memory: &mut [u64])
-    requires { ⌜ Raising (now sources) (now sinks) (now memory) ⌝ }
-    ensures { λ _. ⌜ RaisedIn (now (sources .entry)) (now (sinks .entry)) sink (now (memory .entry)) (now (memory .exit)) (length (now (sources .entry))) ⌝ }
+// The bounds of all commodities with this sink, raised to the lengths in the distances of their sources, with the sources' own.
+fn raise(ix: &[u64], lengths: &[u64], sources: &[u64], sinks: &[u64], sink: u64, memory: &mut [u64])
+    requires { ⌜ Raising (now ix) (now lengths) (now sources) (now sinks) (now memory) ⌝ }
+    ensures { λ _. ⌜ RaisedIn (through (now (ix .entry)) (now (lengths .entry))) (now (sources .entry)) (now (sinks .entry)) sink (now (memory .entry)) (now (memory .exit)) (length (now (sources .entry))) ⌝ }
 {
     let mut i = 0;
     while i < sources.len() {
         if sinks[i] == sink {
             let s = sources[i] as usize;
-            memory[BOUNDS + i] = memory[DISTANCES + s] / MOST_NODES;
+            memory[BOUNDS + i] = memory[DISTANCES + s] / MOST_NODES + through(ix, lengths, s);
         }
         i += 1;
     }
@@ -70,7 +72,7 @@ pub fn nearest(s: Shape, net: &[u64], into: &[u64], lengths: &[u64], memory: &mu
             searched,
             &mut memory[DISTANCES..DISTANCES + DISTANCE_NUMBERS],
         );
-        raise(sources, sinks, searched, memory);
+        raise(into, lengths, sources, sinks, searched, memory);
         i = least(&memory[BOUNDS..BOUNDS + k]);
         if sinks[i] == searched {
             break;

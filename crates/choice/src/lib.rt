@@ -2,13 +2,16 @@
 mod lazy;
 
 use crate::lazy::nearest;
+use bounds::MOST_ARCS;
 use bounds::MOST_COMMODITIES;
 use bounds::MOST_NODES;
 use index::INDEX_NUMBERS;
+use method::Selected;
 use packed::SINKS;
 use packed::SOURCES;
 use packed::Shape;
 use search::FAR_LENGTH;
+use walk::visit;
 use walk::walk;
 ghost use lib.ListN.{length};
 ghost use Rattle.packed.specs.Packed.{netIn};
@@ -26,24 +29,20 @@ pub const DISTANCE_NUMBERS: usize = MOST_NODES as usize + 1;
 // and how many numbers they take in all.
 pub const MEMORY_NUMBERS: usize = MOST_COMMODITIES + DISTANCE_NUMBERS;
 
-// A place for each arc of a path, which has fewer arcs than there are nodes.
-pub const PATH_NUMBERS: usize = MOST_NODES as usize;
+// A place for each arc of a path, which has fewer arcs than there are nodes, and for each of its nodes.
+pub const PATH_NUMBERS: usize = 2 * MOST_NODES as usize;
 
-// Both indexes of the arcs in one slice: of those into each node, and of those out of it.
+// Both indexes of the arcs in one slice: of those into each node, and of those out of it. And behind them the capacities of the resources.
 pub const INTO: usize = 0;
 
 pub const OUT: usize = INDEX_NUMBERS;
 
-pub const INDEXES_NUMBERS: usize = 2 * INDEX_NUMBERS;
+pub const ROOMS: usize = 2 * INDEX_NUMBERS;
 
-// What is chosen: the commodity, how many arcs its path has, and alpha, its length; that is FAR_LENGTH where no commodity is joined.
-pub struct Selected {
-    pub commodity: usize,
-    pub arcs: usize,
-    pub alpha: u64,
-}
+pub const INDEXES_NUMBERS: usize = ROOMS + MOST_ARCS;
 
-// The choice of an iteration. The path's arcs are the first entries of path. The memory may be used again while lengths only grow.
+// The choice of an iteration. What its path uses are the first entries of path: the arcs, and behind them the limited nodes. alpha is FAR_LENGTH or more
+// where no commodity is joined. The memory may be used again while lengths only grow.
 pub fn choose(
     s: Shape,
     net: &[u64],
@@ -67,6 +66,7 @@ pub fn choose(
         return Selected {
             commodity: i,
             arcs: 0,
+            used: 0,
             alpha,
         };
     }
@@ -82,10 +82,19 @@ pub fn choose(
         sink,
         path,
     );
-    let arcs = memory[DISTANCES + source as usize] % MOST_NODES;
+    let arcs = (memory[DISTANCES + source as usize] % MOST_NODES) as usize;
+    let used = visit(
+        s,
+        net,
+        &indexes[OUT..OUT + INDEX_NUMBERS],
+        source,
+        arcs,
+        path,
+    );
     Selected {
         commodity: i,
-        arcs: arcs as usize,
+        arcs,
+        used,
         alpha,
     }
 }

@@ -9,10 +9,10 @@ use borrow.Rule.Slice.PartMut.{putMid, same-len-mid}
 use lib.ListN.{length, drop, drop-of-length-le}
 use Rattle.numbers.specs.Numbers.{column}
 use Rattle.packed.specs.Packed as packed
-use Rattle.packed.specs.Packed.{netIn, tailsFrom, headsFrom, capacitiesFrom, sourcesFrom, sinksFrom, marksFrom}
+use Rattle.packed.specs.Packed.{netIn, tailsFrom, headsFrom, capacitiesFrom, sourcesFrom, sinksFrom, marksFrom, limitsFrom}
 use Rattle.packed.specs.declared.Shape.{Shape}
 use Rattle.packed.proofs.Columns.{part-length, part-put, part-before, part-behind}
-use Rattle.decode.specs.Calls.{OfPairs, PairsRead, OfBelts, BeltsRead, Decoding}
+use Rattle.decode.specs.Calls.{OfPairs, PairsRead, OfBelts, BeltsRead, OfLimits, LimitsRead, Decoding}
 use Rattle.decode.specs.Decode.{networkIn}
 
 -- Member j of the first n items stands from place a on, and every other column is as it was.
@@ -60,7 +60,7 @@ module _ {s : Shape} {belts x₀ x₁ x₂ x₃ x₄ : List ℕ} (d : OfBelts s 
   few : s .arcs ≤ 256
   few = d .packed .few-arcs
 
-  places : 1088 ≤ length x₀
+  places : 1152 ≤ length x₀
   places = d .packed .places
 
   first : Filled belts 4 0 tailsFrom (s .arcs) x₀ x₁
@@ -98,9 +98,45 @@ module _ {s : Shape} {belts x₀ x₁ x₂ x₃ x₄ : List ℕ} (d : OfBelts s 
         sinks = between sinksFrom (s .commodities) (omega (arith, few)) (omega (arith, k));
       }
 
+-- The limits' own.
+pub limits-read :
+    {s : Shape} {limits x₀ x₁ : List ℕ} → OfLimits s limits x₀ →
+    (limitsFrom + s .limits ≤ length x₀ → Filled limits 1 0 limitsFrom (s .limits) x₀ x₁) → LimitsRead s limits x₀ x₁
+limits-read d limits =
+    let p = d .packed in
+    let read = limits (omega (arith, p .few-limits, p .few-nodes, p .places)) in
+    record { holds = read .holds; kept = λ b i past. read .kept b i (inl past) }
+
 -- All of them are the network.
-pub decoded :
-    {s : Shape} {belts pairs x₀ x₁ x₂ : List ℕ} → Decoding s belts pairs x₀ → PairsRead s pairs x₀ x₁ → BeltsRead s belts x₁ x₂ →
-    netIn s x₂ ≡ networkIn (s .nodes) belts pairs
-unfolding netIn networkIn
-decoded d p b = rw (b .tails, b .heads, b .capacities, b .marks, b .sources, b .sinks, p .sources, p .sinks, d .arcs, d .commodities) refl
+module _ {s : Shape} {belts pairs limits x₀ x₁ x₂ x₃ : List ℕ} (d : Decoding s belts pairs limits x₀) (p : PairsRead s pairs x₀ x₁)
+    (b : BeltsRead s belts x₁ x₂) (l : LimitsRead s limits x₂ x₃) where
+  -- the columns of arcs and commodities are as they were
+  of-arcs : (from : ℕ) → from ≤ marksFrom → packed.part from (s .arcs) x₃ ≡ packed.part from (s .arcs) x₂
+  of-arcs from h = l .kept from (s .arcs) (omega (arith, d .packed .few-arcs))
+
+  of-commodities : (from : ℕ) → from ≤ sinksFrom → packed.part from (s .commodities) x₃ ≡ packed.part from (s .commodities) x₂
+  of-commodities from h = l .kept from (s .commodities) (omega (arith, d .packed .few-commodities))
+
+  pub decoded : netIn s x₃ ≡ networkIn (s .nodes) belts pairs limits
+  unfolding netIn networkIn
+  decoded =
+      rw (
+        of-arcs tailsFrom (omega arith),
+        of-arcs headsFrom (omega arith),
+        of-arcs capacitiesFrom (omega arith),
+        of-arcs marksFrom (omega arith),
+        of-commodities sourcesFrom (omega arith),
+        of-commodities sinksFrom (omega arith),
+        l .holds,
+        b .tails,
+        b .heads,
+        b .capacities,
+        b .marks,
+        b .sources,
+        b .sinks,
+        p .sources,
+        p .sinks,
+        d .arcs,
+        d .commodities,
+        d .given,
+      ) refl

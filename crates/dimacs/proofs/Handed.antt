@@ -24,6 +24,7 @@ handedOver r =
       heads = take (r .arcs) (r .heads);
       capacities = take (r .arcs) (r .capacities);
       marks = replicate (r .arcs) 0;
+      limits = [];
       sources = r .source ∷ [];
       sinks = r .sink ∷ [];
     }
@@ -45,6 +46,7 @@ unpadded net s =
       cut (net .heads) (s .of-heads),
       cut (net .capacities) (s .of-capacities),
       s .of-marks,
+      s .of-limits,
       one (net .sources) (s .of-sources),
       one (net .sinks) (s .of-sinks),
     )

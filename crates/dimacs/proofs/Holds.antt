@@ -36,6 +36,7 @@ module _ (p : Progress) (k : Kept p) where
         of-heads = k .heads;
         of-capacities = k .capacities;
         of-marks = refl;
+        of-limits = refl;
         of-sources = refl;
         of-sinks = refl;
       }

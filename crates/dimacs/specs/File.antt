@@ -18,7 +18,7 @@ pub data File : Type 0 where
   holds : Network → File
   refused : Refusal → File
 
--- the network of what was read: the node with s and the node with t "are source and sink of the only pair", and no arc is marked
+-- the network of what was read: the node with s and the node with t "are source and sink of the only pair", no arc is marked, and no node limited
 unfoldable pub networkRead : Progress → ℕ → ℕ → Network
 networkRead p s t =
     record {
@@ -27,6 +27,7 @@ networkRead p s t =
       heads = p .heads;
       capacities = p .capacities;
       marks = replicate (length (p .tails)) 0;
+      limits = [];
       sources = s ∷ [];
       sinks = t ∷ [];
     }

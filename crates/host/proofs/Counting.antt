@@ -1,10 +1,12 @@
 -- The iterations of a call are few enough for the running count. Assumes nothing.
 use Prim.Native.Nat.{ℕ, _≤_}
-use native.Mathlib.Nat.{mul-le-mul}
+use native.Mathlib.Nat.{le-trans, mul-le-mul}
 use native.Mathlib.Omega.{arith}
 use Rattle.length.proofs.Bounds.{threshold-most}
-use Rattle.network.specs.Network.{Network, arcs}
+use Rattle.network.specs.Network.{Network}
+use Rattle.network.specs.Resources.{resources}
 use Rattle.network.specs.Sound.{Sound}
+use Rattle.network.proofs.Resources.{arcs-le}
 use Rattle.method.specs.Answer.{Outcome}
 use Rattle.method.specs.Guarantee.{Guarantee}
 
@@ -14,6 +16,6 @@ count-small net q sound o g =
     omega (
       arith,
       g .count,
-      mul-le-mul (k .of-arcs .most)
-          (threshold-most (arcs net) q (k .of-arcs .least) (k .of-arcs .most) (k .precision .least) (k .precision .most)),
+      mul-le-mul (k .of-resources)
+          (threshold-most (resources net) q (le-trans (k .of-arcs .least) (arcs-le net)) (k .of-resources) (k .precision .least) (k .precision .most)),
     )

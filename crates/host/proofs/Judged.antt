@@ -1,10 +1,11 @@
--- The verdict of a call whose sizes have passed is that on its arcs and commodities, and what each verdict leaves.
+-- The verdict of a call whose sizes have passed is that on its arcs, limits and commodities, and what each verdict leaves.
 -- Assumes nothing.
 use mathlib.Core.Path.{_≡_, refl, sym, _∙_}
 use mathlib.Core.List.{List}
 use Prim.Native.Nat.{ℕ, _^_, _<_}
 use Rattle.network.specs.Network.{Network, arcs, commodities}
 use Rattle.network.specs.Refusal.{hostNumber}
+use Rattle.network.specs.Resources.{resources}
 use Rattle.network.specs.Sound.{Counts}
 use Rattle.network.specs.Verdict.{verdict, itemConditions, afterwards}
 use Rattle.network.specs.declared.Refusal.{Refusal}
@@ -20,17 +21,18 @@ use Rattle.host.specs.Deliver.{Delivered}
 use Rattle.host.specs.Host.{Slices, Served}
 use Rattle.host.specs.Serve.{Judged}
 
-module _ {s : Shape} {xs : List ℕ} (p : Packed s xs) (q : ℕ) (k : Counts (s .nodes) (s .arcs) (s .commodities) q) where
-  counts : Counts (netIn s xs .nodes) (arcs (netIn s xs)) (commodities (netIn s xs)) q
+module _ {s : Shape} {xs : List ℕ} (p : Packed s xs) (q : ℕ) (k : Counts (s .nodes) (s .arcs) (s .resources) (s .commodities) q)
+    (r : s .resources ≡ resources (netIn s xs)) where
+  counts : Counts (netIn s xs .nodes) (arcs (netIn s xs)) (resources (netIn s xs)) (commodities (netIn s xs)) q
   unfolding netIn
-  counts = rw (arcs-is p, commodities-is p) k
+  counts = rw (arcs-is p, commodities-is p, ← r) k
 
   pub fits : hostNumber (verdict (itemConditions (netIn s xs))) < 2 ^ 64
   fits = items-fit (netIn s xs) q counts
 
   -- Accepted: the network is sound.
   pub lends : verdict (itemConditions (netIn s xs)) ≡ Accepted → Lent s q xs
-  lends h = record { sound = items-accepted (netIn s xs) q counts h; packed = p }
+  lends h = record { sound = items-accepted (netIn s xs) q counts h; packed = p; counted = r }
 
 -- The network as it was read is that in the bytes.
 pub judged-of : {net net' : Network} {q : ℕ} {old new : Slices} {r : ℕ} → net ≡ net' → Judged net q old new r → Judged net' q old new r

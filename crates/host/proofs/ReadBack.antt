@@ -8,6 +8,7 @@ use lib.ListN.{length, getD}
 use Rattle.bounds.specs.Bounds.{answerNumbers}
 use Rattle.signed.specs.Signed.{twos, fromTwos}
 use Rattle.network.specs.Network.{Network, arcs, commodities}
+use Rattle.network.specs.Resources.{resources}
 use Rattle.network.specs.Sound.{Sound}
 use Rattle.network.specs.Verdict.{verdict, afterwards}
 use Rattle.network.specs.declared.Verdict.{Verdict}
@@ -35,13 +36,13 @@ read-back old xs a e w i l = ap (λ s. numberAt s i) (accepted-table old xs a e)
 within : (i k e m : ℕ) → i < k → e < m → i * m + e < k * m
 within i k e m h l = omega (arith, mul-le-mul-right m h)
 
-module _ (n q : ℕ) (belts pairs : List ℕ) (old new : Slices) (r : ℕ) (h : Hosted n q belts pairs old new r)
-    (a : verdictIn (networkIn n belts pairs) q old ≡ Accepted) where
+module _ (n q : ℕ) (belts pairs limits : List ℕ) (old new : Slices) (r : ℕ) (h : Hosted n q belts pairs limits old new r)
+    (a : verdictIn (networkIn n belts pairs limits) q old ≡ Accepted) where
   abbrev net : Network
-  net = networkIn n belts pairs
+  net = networkIn n belts pairs limits
 
-  accepted : Sound net q × (verdict (hostConditions (commodities net) (arcs net) old) ≡ Accepted)
-  accepted = accepted-sound net q (hostConditions (commodities net) (arcs net) old) a
+  accepted : Sound net q × (verdict (hostConditions (commodities net) (arcs net) (resources net) old) ≡ Accepted)
+  accepted = accepted-sound net q (hostConditions (commodities net) (arcs net) (resources net) old) a
 
   pub amount-read : (i e : ℕ) → i < commodities net → e < arcs net →
       fromTwos (numberAt (new .flow) (i * arcs net + e)) ≡ amounts net (outcome net q .flow) i e
@@ -52,7 +53,7 @@ module _ (n q : ℕ) (belts pairs : List ℕ) (old new : Slices) (r : ℕ) (h : 
       signed-read (old .flow) (outcome net q .flow) (i * arcs net + e) (rw (f .amounts-count) (within i (commodities net) e (arcs net) b l))
       (f .flow (i * arcs net + e))
 
-  pub length-read : (e : ℕ) → e < arcs net → numberAt (new .lengths) e ≡ getD (outcome net q .lengths) e 0
+  pub length-read : (e : ℕ) → e < resources net → numberAt (new .lengths) e ≡ getD (outcome net q .lengths) e 0
   length-read e l =
       let f = h .guarantee a .fits in
       read-back (old .lengths) (outcome net q .lengths) a (h .lengths) (f .lengths) e (rw (f .lengths-count) l)
@@ -66,7 +67,7 @@ module _ (n q : ℕ) (belts pairs : List ℕ) (old new : Slices) (r : ℕ) (h : 
       read-back (old .running) ((runningIn old + outcome net q .answer .count) ∷ []) a (h .running) one 0 (omega arith)
     where
       small : runningIn old + outcome net q .answer .count < 2 ^ 64
-      small = omega (arith, count-small net q (accepted .0) (outcome net q) (h .guarantee a), open-for (commodities net) (arcs net) old (accepted .1) .full)
+      small = omega (arith, count-small net q (accepted .0) (outcome net q) (h .guarantee a), open-for (commodities net) (arcs net) (resources net) old (accepted .1) .full)
 
       one : Words ((runningIn old + outcome net q .answer .count) ∷ [])
       one zero = small

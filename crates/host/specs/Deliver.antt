@@ -15,14 +15,14 @@ use Rattle.host.specs.Host.{Slices, runningIn}
 abbrev pub slices : List ℕ → List ℕ → List ℕ → List ℕ → Slices
 slices flow lengths answer running = record { flow = flow; lengths = lengths; answer = answer; running = running }
 
--- Room for the amounts and the lengths of k commodities on m arcs.
-pub record Room (k m : ℕ) (flow lengths : List ℕ) : Type 0 where
+-- Room for the amounts of k commodities on m arcs and the lengths of r resources.
+pub record Room (k m r : ℕ) (flow lengths : List ℕ) : Type 0 where
   pub for-flow : k * m ≤ count flow
-  pub for-lengths : m ≤ count lengths
+  pub for-lengths : r ≤ count lengths
 
 -- Every table has room, and the running count is not full.
-pub record Open (k m : ℕ) (s : Slices) : Type 0 where
-  pub for-tables : Room k m (s .flow) (s .lengths)
+pub record Open (k m r : ℕ) (s : Slices) : Type 0 where
+  pub for-tables : Room k m r (s .flow) (s .lengths)
   pub for-answer : answerNumbers ≤ count (s .answer)
   pub for-running : 1 ≤ count (s .running)
   pub full : runningIn s ≤ mostRunning

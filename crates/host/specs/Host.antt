@@ -8,6 +8,7 @@ use Rattle.bounds.specs.Bounds.{mostRunning, answerNumbers}
 use Rattle.signed.specs.Signed.{twos}
 use Rattle.network.specs.Network.{Network, arcs, commodities}
 use Rattle.network.specs.Refusal.{hostNumber}
+use Rattle.network.specs.Resources.{resources}
 use Rattle.network.specs.Verdict.{Condition, when, verdictOn, afterwards}
 use Rattle.network.specs.declared.Refusal.the-variants.{ShortTable, FullCount}
 use Rattle.network.specs.declared.Verdict.{Verdict}
@@ -28,18 +29,18 @@ pub record Slices : Type 0 where
 abbrev pub runningIn : Slices → ℕ
 runningIn s = cond (ltb 0 (count (s .running))) (numberAt (s .running) 0) 0
 
--- A lent table is too small for what the call may write, k commodities on m arcs.
-unfoldable pub short : ℕ → ℕ → Slices → Bool
-short k m s =
-    ltb (count (s .flow)) (k * m) || ltb (count (s .lengths)) m || ltb (count (s .answer)) answerNumbers || ltb (count (s .running)) 1
+-- A lent table is too small for what the call may write, k commodities on m arcs with r resources.
+unfoldable pub short : ℕ → ℕ → ℕ → Slices → Bool
+short k m r s =
+    ltb (count (s .flow)) (k * m) || ltb (count (s .lengths)) r || ltb (count (s .answer)) answerNumbers || ltb (count (s .running)) 1
 
 -- 5 and 11 concern this call.
-unfoldable pub hostConditions : ℕ → ℕ → Slices → List Condition
-hostConditions k m s = when (short k m s) ShortTable ∷ when (ltb mostRunning (runningIn s)) FullCount ∷ []
+unfoldable pub hostConditions : ℕ → ℕ → ℕ → Slices → List Condition
+hostConditions k m r s = when (short k m r s) ShortTable ∷ when (ltb mostRunning (runningIn s)) FullCount ∷ []
 
 -- The verdict on the call.
 abbrev pub verdictIn : Network → ℕ → Slices → Verdict
-verdictIn net q s = verdictOn net q (hostConditions (commodities net) (arcs net) s)
+verdictIn net q s = verdictOn net q (hostConditions (commodities net) (arcs net) (resources net) s)
 
 -- What a call with the verdict v on the slices old leaves: its result; in each table the outcome's numbers first, amounts in two's complement, and
 -- later bytes as they were; the running count raised by the iterations; and where it is accepted, all that holds of the outcome.
@@ -52,5 +53,6 @@ pub record Served (net : Network) (q : ℕ) (v : Verdict) (old new : Slices) (re
   pub guarantee : v ≡ Accepted → Guarantee net q (outcome net q)
 
 -- The contract of the call.
-abbrev pub Hosted : ℕ → ℕ → List ℕ → List ℕ → Slices → Slices → ℕ → Type 0
-Hosted n q belts pairs old new result = Served (networkIn n belts pairs) q (verdictIn (networkIn n belts pairs) q old) old new result
+abbrev pub Hosted : ℕ → ℕ → List ℕ → List ℕ → List ℕ → Slices → Slices → ℕ → Type 0
+Hosted n q belts pairs limits old new result =
+    Served (networkIn n belts pairs limits) q (verdictIn (networkIn n belts pairs limits) q old) old new result

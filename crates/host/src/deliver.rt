@@ -53,20 +53,20 @@ fn write_tables_in(
     lengths: &mut [u8],
 ) -> Answer
     requires solving { ⌜ Solving s q (now net) (now flows) (now tables) ⌝ }
-    requires room { ⌜ Room (s .commodities) (s .arcs) (now flow) (now lengths) ⌝ }
+    requires room { ⌜ Room (s .commodities) (s .arcs) (s .resources) (now flow) (now lengths) ⌝ }
     ensures { λ r. ⌜ TablesWritten (netIn s (now (net .entry))) q r (now (flow .entry)) (now (lengths .entry)) (now (flow .exit)) (now (lengths .exit)) ⌝ }
 {
-    let m = s.arcs;
+    let r = s.resources;
     let a = solver::solve(s, q, net, flows, tables);
     numbers::write_signed(flow, flows, flows.len());
-    numbers::write_all(lengths, &tables[KEPT..KEPT + m], m);
+    numbers::write_all(lengths, &tables[KEPT..KEPT + r], r);
     a
 }
 
 // The outcome solved, and its two tables written.
 fn write_tables(s: Shape, q: u64, net: &[u64], flow: &mut [u8], lengths: &mut [u8]) -> Answer
     requires lent { ⌜ Lent s q (now net) ⌝ }
-    requires room { ⌜ Room (s .commodities) (s .arcs) (now flow) (now lengths) ⌝ }
+    requires room { ⌜ Room (s .commodities) (s .arcs) (s .resources) (now flow) (now lengths) ⌝ }
     ensures { λ r. ⌜ TablesWritten (netIn s (now (net .entry))) q r (now (flow .entry)) (now (lengths .entry)) (now (flow .exit)) (now (lengths .exit)) ⌝ }
 {
     let size = s.commodities * s.arcs;
@@ -86,7 +86,7 @@ pub fn deliver(
     running: &mut [u8],
 )
     requires lent { ⌜ Lent s q (now net) ⌝ }
-    requires room { ⌜ Open (s .commodities) (s .arcs) (slices (now flow) (now lengths) (now answer) (now running)) ⌝ }
+    requires room { ⌜ Open (s .commodities) (s .arcs) (s .resources) (slices (now flow) (now lengths) (now answer) (now running)) ⌝ }
     ensures { λ _. ⌜ Delivered (netIn s (now (net .entry))) q (slices (now (flow .entry)) (now (lengths .entry)) (now (answer .entry)) (now (running .entry))) (slices (now (flow .exit)) (now (lengths .exit)) (now (answer .exit)) (now (running .exit))) ⌝ }
 {
     let a = write_tables(s, q, net, flow, lengths);

@@ -5,7 +5,6 @@ mod serve;
 
 use checks::numbers::host_number;
 use network::Verdict;
-use packed::Shape;
 ghost use Rattle.host.specs.Deliver.{slices};
 ghost use Rattle.host.specs.Host.{Hosted};
 
@@ -15,21 +14,18 @@ pub fn solve(
     q: u64,
     belts: &[u8],
     pairs: &[u8],
+    limits: &[u8],
     flow: &mut [u8],
     lengths: &mut [u8],
     answer: &mut [u8],
     running: &mut [u8],
 ) -> u64
-    ensures { λ r. ⌜ Hosted n q (now (belts .entry)) (now (pairs .entry)) (slices (now (flow .entry)) (now (lengths .entry)) (now (answer .entry)) (now (running .entry))) (slices (now (flow .exit)) (now (lengths .exit)) (now (answer .exit)) (now (running .exit))) r ⌝ }
+    ensures { λ r. ⌜ Hosted n q (now (belts .entry)) (now (pairs .entry)) (now (limits .entry)) (slices (now (flow .entry)) (now (lengths .entry)) (now (answer .entry)) (now (running .entry))) (slices (now (flow .exit)) (now (lengths .exit)) (now (answer .exit)) (now (running .exit))) r ⌝ }
 {
-    let s = Shape {
-        nodes: n,
-        arcs: numbers::items(belts, 4),
-        commodities: numbers::items(pairs, 2),
-    };
+    let s = decode::shape(n, belts, pairs, limits);
     let v = room::check_call(s, q, flow, lengths, answer, running);
     if let Verdict::Refused(_) = v {
         return host_number(v);
     }
-    serve::serve(s, q, belts, pairs, flow, lengths, answer, running)
+    serve::serve(s, q, belts, pairs, limits, flow, lengths, answer, running)
 }

@@ -14,14 +14,22 @@ ghost use Rattle.host.specs.Host.{short, hostConditions};
 ghost use Rattle.host.specs.Serve.{callConditions};
 
 // A table is too small for what the call may write.
-fn short(k: usize, m: usize, flow: &[u8], lengths: &[u8], answer: &[u8], running: &[u8]) -> bool
+fn short(
+    k: usize,
+    m: usize,
+    r: usize,
+    flow: &[u8],
+    lengths: &[u8],
+    answer: &[u8],
+    running: &[u8],
+) -> bool
     requires { ⌜ (k ≤ mostCommodities) × (m ≤ mostArcs) ⌝ }
-    ensures { λ r. ⌜ r ≡ short k m (slices (now (flow .entry)) (now (lengths .entry)) (now (answer .entry)) (now (running .entry))) ⌝ }
+    ensures { λ v. ⌜ v ≡ short k m r (slices (now (flow .entry)) (now (lengths .entry)) (now (answer .entry)) (now (running .entry))) ⌝ }
 {
     if numbers::count(flow) < k * m {
         return true;
     }
-    if numbers::count(lengths) < m {
+    if numbers::count(lengths) < r {
         return true;
     }
     if numbers::count(answer) < ANSWER_NUMBERS {
@@ -34,15 +42,16 @@ fn short(k: usize, m: usize, flow: &[u8], lengths: &[u8], answer: &[u8], running
 fn check_tables(
     k: usize,
     m: usize,
+    r: usize,
     flow: &[u8],
     lengths: &[u8],
     answer: &[u8],
     running: &[u8],
 ) -> Verdict
     requires { ⌜ (k ≤ mostCommodities) × (m ≤ mostArcs) ⌝ }
-    ensures { λ r. ⌜ r ≡ verdict (hostConditions k m (slices (now (flow .entry)) (now (lengths .entry)) (now (answer .entry)) (now (running .entry)))) ⌝ }
+    ensures { λ v. ⌜ v ≡ verdict (hostConditions k m r (slices (now (flow .entry)) (now (lengths .entry)) (now (answer .entry)) (now (running .entry)))) ⌝ }
 {
-    if short(k, m, flow, lengths, answer, running) {
+    if short(k, m, r, flow, lengths, answer, running) {
         return Verdict::Refused(Refusal::ShortTable);
     }
     if MOST_RUNNING < numbers::read(running, 0) {
@@ -51,7 +60,7 @@ fn check_tables(
     Verdict::Accepted
 }
 
-// 1 to 5, and 11.
+// 1 to 5, 11 and 15.
 pub fn check_call(
     s: Shape,
     q: u64,
@@ -60,11 +69,19 @@ pub fn check_call(
     answer: &[u8],
     running: &[u8],
 ) -> Verdict
-    ensures { λ r. ⌜ r ≡ verdict (callConditions (s .nodes) (s .arcs) (s .commodities) q (slices (now (flow .entry)) (now (lengths .entry)) (now (answer .entry)) (now (running .entry)))) ⌝ }
+    ensures { λ r. ⌜ r ≡ verdict (callConditions (s .nodes) (s .arcs) (s .resources) (s .commodities) q (slices (now (flow .entry)) (now (lengths .entry)) (now (answer .entry)) (now (running .entry)))) ⌝ }
 {
-    let sizes = check_sizes(s.nodes, s.arcs, s.commodities, q);
+    let sizes = check_sizes(s.nodes, s.arcs, s.resources, s.commodities, q);
     if let Verdict::Refused(_) = sizes {
         return sizes;
     }
-    check_tables(s.commodities, s.arcs, flow, lengths, answer, running)
+    check_tables(
+        s.commodities,
+        s.arcs,
+        s.resources,
+        flow,
+        lengths,
+        answer,
+        running,
+    )
 }

@@ -16,17 +16,18 @@ fn serve_in(
     q: u64,
     belts: &[u8],
     pairs: &[u8],
+    limits: &[u8],
     net: &mut [u64],
     flow: &mut [u8],
     lengths: &mut [u8],
     answer: &mut [u8],
     running: &mut [u8],
 ) -> u64
-    requires sizes { ⌜ Sizable s q (now belts) (now pairs) (slices (now flow) (now lengths) (now answer) (now running)) ⌝ }
+    requires sizes { ⌜ Sizable s q (now belts) (now pairs) (now limits) (slices (now flow) (now lengths) (now answer) (now running)) ⌝ }
     requires places { ⌜ Packed s (now net) ⌝ }
-    ensures { λ r. ⌜ Judged (networkIn (s .nodes) (now (belts .entry)) (now (pairs .entry))) q (slices (now (flow .entry)) (now (lengths .entry)) (now (answer .entry)) (now (running .entry))) (slices (now (flow .exit)) (now (lengths .exit)) (now (answer .exit)) (now (running .exit))) r ⌝ }
+    ensures { λ r. ⌜ Judged (networkIn (s .nodes) (now (belts .entry)) (now (pairs .entry)) (now (limits .entry))) q (slices (now (flow .entry)) (now (lengths .entry)) (now (answer .entry)) (now (running .entry))) (slices (now (flow .exit)) (now (lengths .exit)) (now (answer .exit)) (now (running .exit))) r ⌝ }
 {
-    decode::decode(s, belts, pairs, net);
+    decode::decode(s, belts, pairs, limits, net);
     let v = check_items(s, net);
     if let Verdict::Refused(_) = v {
         return host_number(v);
@@ -41,14 +42,26 @@ pub fn serve(
     q: u64,
     belts: &[u8],
     pairs: &[u8],
+    limits: &[u8],
     flow: &mut [u8],
     lengths: &mut [u8],
     answer: &mut [u8],
     running: &mut [u8],
 ) -> u64
-    requires { ⌜ Sizable s q (now belts) (now pairs) (slices (now flow) (now lengths) (now answer) (now running)) ⌝ }
-    ensures { λ r. ⌜ Judged (networkIn (s .nodes) (now (belts .entry)) (now (pairs .entry))) q (slices (now (flow .entry)) (now (lengths .entry)) (now (answer .entry)) (now (running .entry))) (slices (now (flow .exit)) (now (lengths .exit)) (now (answer .exit)) (now (running .exit))) r ⌝ }
+    requires { ⌜ Sizable s q (now belts) (now pairs) (now limits) (slices (now flow) (now lengths) (now answer) (now running)) ⌝ }
+    ensures { λ r. ⌜ Judged (networkIn (s .nodes) (now (belts .entry)) (now (pairs .entry)) (now (limits .entry))) q (slices (now (flow .entry)) (now (lengths .entry)) (now (answer .entry)) (now (running .entry))) (slices (now (flow .exit)) (now (lengths .exit)) (now (answer .exit)) (now (running .exit))) r ⌝ }
 {
     let mut net = [0u64; NET_NUMBERS];
-    serve_in(s, q, belts, pairs, &mut net, flow, lengths, answer, running)
+    serve_in(
+        s,
+        q,
+        belts,
+        pairs,
+        limits,
+        &mut net,
+        flow,
+        lengths,
+        answer,
+        running,
+    )
 }

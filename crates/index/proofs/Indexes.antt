@@ -3,16 +3,18 @@
 use mathlib.Core.Path.{_≡_, sym, ap, _∙_}
 use mathlib.Core.Bool.{true, not, true≢false}
 use mathlib.Core.List.{List}
+use mathlib.Core.Option.{some}
 use Prim.Native.Nat.{ℕ, _≤_}
 use native.Mathlib.Omega.{arith}
 use borrow.Author.Tests.{ne-eqb, eq-eqb}
 use lib.ListN.{length, getD}
 use Rattle.network.specs.Network.{Network, arcs, reversible}
+use Rattle.network.specs.Path.{leads}
 use Rattle.network.proofs.Leads.{Taken, along, against, leads-arc, leads-taken, taken-leads}
 use Rattle.packed.specs.Packed.{netIn}
 use Rattle.packed.specs.declared.Shape.{Shape}
 use Rattle.packed.proofs.Columns.{arcs-is, heads-length, marks-length}
-use Rattle.index.specs.Index.{Index, Into, Out}
+use Rattle.index.specs.Index.{Index}
 use Rattle.index.specs.Indexing.{Side, side, Indexable, Indexing, Joining, forth, back, Joins}
 use Rattle.index.proofs.Building.{index-same}
 
@@ -60,7 +62,7 @@ module _ {s : Shape} {xs : List ℕ} {size : ℕ} (I : Indexable s xs size) wher
   taken-into {v} {e} (along q p) = forth p q
   taken-into {v} {e} (against r q p) = back (is-marked net e r) p q
 
-  pub into-index : {ix : List ℕ} → Index (Joins heads) (net .nodes) ix → Into net ix
+  pub into-index : {ix : List ℕ} → Index (Joins heads) (net .nodes) ix → Index (λ v e u. leads net u e ≡ some v) (net .nodes) ix
   into-index =
       index-same
       (λ v e u b J. taken-leads net (omega (arith, J .arc, heads-are)) (into-taken (J .way)))
@@ -93,7 +95,7 @@ module _ {s : Shape} {xs : List ℕ} {size : ℕ} (I : Indexable s xs size) wher
   taken-out {v} {e} (along p q) = forth p q
   taken-out {v} {e} (against r p q) = back (is-marked net e r) p q
 
-  pub out-index : {ix : List ℕ} → Index (Joins tails) (net .nodes) ix → Out net ix
+  pub out-index : {ix : List ℕ} → Index (Joins tails) (net .nodes) ix → Index (λ v e w. leads net v e ≡ some w) (net .nodes) ix
   out-index =
       index-same
       (λ v e w b J. taken-leads net (J .arc) (out-taken (J .way)))

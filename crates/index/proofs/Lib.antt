@@ -2,6 +2,9 @@ pub mod Adding
 pub mod Building
 pub mod Counts
 pub mod Indexes
+pub mod Limits
+pub mod Locating
 pub mod Opening
 pub mod Putting
+pub mod Rooming
 pub mod Seeing

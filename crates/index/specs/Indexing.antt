@@ -4,20 +4,39 @@ use mathlib.Core.Bool.{Bool, cond}
 use mathlib.Core.List.{List}
 use Prim.Native.Nat.{ℕ, _+_, _≤_, _<_}
 use lib.Dec.{ltb, eqb}
-use lib.ListN.{length, getD, set}
+use lib.ListN.{length, getD, take, set}
 use Rattle.arith.specs.Sum.{sum}
 use Rattle.bounds.specs.Bounds.{mostNodes, mostArcs}
 use Rattle.network.specs.Ends.{Ends}
+use Rattle.network.specs.Network.{Network}
+use Rattle.network.specs.Resources.{resources}
 use Rattle.packed.specs.Packed.{netIn, Packed}
 use Rattle.packed.specs.declared.Shape.{Shape}
-use Rattle.index.specs.Index.{arcsFrom, endsFrom, mostPlaces, indexNumbers, begins, Index}
+use Rattle.index.specs.Index.{arcsFrom, endsFrom, placesFrom, mostPlaces, indexNumbers, begins, Index, Stations}
 
--- A packed network within the bounds, whose ends are nodes, and a slice with room for an index.
+-- A packed network within the bounds, whose ends are nodes and whose resources are counted, and a slice with room for an index.
 pub record Indexable (s : Shape) (xs : List ℕ) (size : ℕ) : Type 0 where
   pub packed : Packed s xs
   pub ends : Ends (netIn s xs)
   pub nodes : netIn s xs .nodes ≤ mostNodes
+  pub counted : s .resources ≡ resources (netIn s xs)
   pub numbers : indexNumbers ≤ size
+
+-- The resources of the nodes have come into an index; what stands before them is as it was.
+pub record Located (net : Network) (old new : List ℕ) : Type 0 where
+  pub places : Stations net new
+  pub before : (i : ℕ) → i < placesFrom → getD new i 0 ≡ getD old i 0
+
+-- A slice with room for the capacities of all resources, and no more.
+pub record Roomy (s : Shape) (xs : List ℕ) (size : ℕ) : Type 0 where
+  pub packed : Packed s xs
+  pub counted : s .resources ≡ resources (netIn s xs)
+  pub whole : size ≡ s .resources
+
+-- The capacities of the arcs are there, and the limits come behind them.
+pub record Limiting (s : Shape) (xs rooms : List ℕ) : Type 0 where
+  pub roomy : Roomy s xs (length rooms)
+  pub capacities : take (s .arcs) rooms ≡ netIn s xs .capacities
 
 -- The columns that an index is made by: the ends of the arcs here, their other ends there, and their marks.
 pub record Side : Type 0 where

@@ -1,17 +1,22 @@
 // The index of the arcs at each node, the arcs of one node side by side in ascending order: a search goes through those into a node, a walk through those
-// out of it. A reversible arc is at both of its ends: here alone the code asks for marks.
+// out of it. A reversible arc is at both of its ends: here alone the code asks for marks. And the resources: which of them each node is, and their
+// capacities. Here alone the code asks for limits.
 use bounds::MOST_ARCS;
 use bounds::MOST_NODES;
+use packed::CAPACITIES;
 use packed::HEADS;
+use packed::LIMITS;
 use packed::MARKS;
 use packed::Shape;
 use packed::TAILS;
 ghost use mathlib.Core.Path.{_≡_};
-ghost use Prim.Native.Nat.{_+_};
-ghost use lib.ListN.{length};
+ghost use mathlib.Core.List.{_∷_};
+ghost use Prim.Native.Nat.{_+_, _≤_};
+ghost use lib.ListN.{length, getD, take};
+ghost use Rattle.network.specs.Resources.{rooms};
 ghost use Rattle.packed.specs.Packed.{netIn};
 ghost use Rattle.index.specs.Index.{Index, Into, Out};
-ghost use Rattle.index.specs.Indexing.{side, Indexable, Indexing, Joins, Seeing, Seen, Building, Putting, placed, AddingArc, Opening};
+ghost use Rattle.index.specs.Indexing.{side, Indexable, Located, Roomy, Limiting, Indexing, Joins, Seeing, Seen, Building, Putting, placed, AddingArc, Opening};
 
 // First stands for each node, and one past the last, the place where its arcs begin; the arcs of the places stand from here on,
 pub const ARCS: usize = MOST_NODES as usize + 2;
@@ -19,8 +24,11 @@ pub const ARCS: usize = MOST_NODES as usize + 2;
 // and their other ends from here on. There are places for twice the most arcs.
 pub const ENDS: usize = ARCS + 2 * MOST_ARCS;
 
+// The resources of the nodes stand from here on, from node 0 on.
+pub const PLACES: usize = ENDS + 2 * MOST_ARCS;
+
 // How many numbers an index takes in all.
-pub const INDEX_NUMBERS: usize = ENDS + 2 * MOST_ARCS;
+pub const INDEX_NUMBERS: usize = PLACES + MOST_NODES as usize + 1;
 
 // Arc e with the other end w comes behind the last place of node v.
 fn put(v: usize, e: usize, w: u64, ix: &mut [u64])
@@ -90,6 +98,39 @@ fn index_by(n: u64, here: &[u64], there: &[u64], marks: &[u64], ix: &mut [u64])
     }
 }
 
+// What node v lets through; 0 if it has no limit.
+fn limit(limits: &[u64], v: usize) -> u64
+    ensures { λ r. ⌜ r ≡ getD (0 ∷ now (limits .entry)) v 0 ⌝ }
+{
+    if v == 0 {
+        return 0;
+    }
+    if v > limits.len() {
+        return 0;
+    }
+    limits[v - 1]
+}
+
+// Which resource each node is: those that are limited are counted on behind the arcs, the others get a number past all resources.
+fn place_nodes(s: Shape, net: &[u64], ix: &mut [u64])
+    requires { ⌜ Indexable s (now net) (length (now ix)) ⌝ }
+    ensures { λ _. ⌜ Located (netIn s (now (net .entry))) (now (ix .entry)) (now (ix .exit)) ⌝ }
+{
+    let given = s.limits;
+    let limits = &net[LIMITS..LIMITS + given];
+    let mut next = s.arcs;
+    let mut v = 0;
+    while v <= s.nodes as usize {
+        let mut r = s.resources;
+        if limit(limits, v) != 0 {
+            r = next;
+            next += 1;
+        }
+        ix[PLACES + v] = r as u64;
+        v += 1;
+    }
+}
+
 // The index of the arcs into each node.
 pub fn index_into(s: Shape, net: &[u64], ix: &mut [u64])
     requires { ⌜ Indexable s (now net) (length (now ix)) ⌝ }
@@ -100,6 +141,7 @@ pub fn index_into(s: Shape, net: &[u64], ix: &mut [u64])
     let heads = &net[HEADS..HEADS + m];
     let marks = &net[MARKS..MARKS + m];
     index_by(s.nodes, heads, tails, marks, ix);
+    place_nodes(s, net, ix);
 }
 
 // The index of the arcs out of each node.
@@ -112,4 +154,46 @@ pub fn index_out(s: Shape, net: &[u64], ix: &mut [u64])
     let heads = &net[HEADS..HEADS + m];
     let marks = &net[MARKS..MARKS + m];
     index_by(s.nodes, tails, heads, marks, ix);
+    place_nodes(s, net, ix);
+}
+
+// The capacities of the arcs come first,
+fn copy(capacities: &[u64], table: &mut [u64])
+    requires { ⌜ length (now capacities) ≤ length (now table) ⌝ }
+    ensures { λ _. ⌜ take (length (now (capacities .entry))) (now (table .exit)) ≡ now (capacities .entry) ⌝ }
+{
+    let mut i = 0;
+    while i < capacities.len() {
+        table[i] = capacities[i];
+        i += 1;
+    }
+}
+
+// and behind them the limits that are set, from node to node.
+fn append_limits(s: Shape, net: &[u64], table: &mut [u64])
+    requires { ⌜ Limiting s (now net) (now table) ⌝ }
+    ensures { λ _. ⌜ now (table .exit) ≡ rooms (netIn s (now (net .entry))) ⌝ }
+{
+    let given = s.limits;
+    let limits = &net[LIMITS..LIMITS + given];
+    let mut end = s.arcs;
+    let mut v = 0;
+    while v <= s.nodes as usize {
+        let x = limit(limits, v);
+        if x != 0 {
+            table[end] = x;
+            end += 1;
+        }
+        v += 1;
+    }
+}
+
+// The capacities of the resources.
+pub fn rooms(s: Shape, net: &[u64], table: &mut [u64])
+    requires { ⌜ Roomy s (now net) (length (now table)) ⌝ }
+    ensures { λ _. ⌜ now (table .exit) ≡ rooms (netIn s (now (net .entry))) ⌝ }
+{
+    let m = s.arcs;
+    copy(&net[CAPACITIES..CAPACITIES + m], table);
+    append_limits(s, net, table);
 }

@@ -13,7 +13,7 @@ use Rattle.length.proofs.Size.{start-fits, halving-fits}
 use Rattle.lengths.specs.Calls.{Startable, Settling}
 use Rattle.lengths.specs.Results.{firstLengths}
 use Rattle.tables.specs.Tables.{NoneAbove}
-use Rattle.tables.proofs.Counted.{map-at, row-length, row-at}
+use Rattle.arith.proofs.Lists.{map-at}
 
 -- capacity times length of arc e
 abbrev pub term : List ℕ → List ℕ → ℕ → ℕ
@@ -39,12 +39,12 @@ pub first-weighable : {capacities lengths : List ℕ} → Startable capacities l
 unfolding mark
 first-weighable {capacities} w =
     record {
-      same = row-length _ (length capacities);
+      same = length-map capacities start;
       few = w .arcs;
       sizes = w .sizes .most;
       short = λ e l.
-          let b : e < length capacities = rw row-length at l in
-          omega (arith, row-at (λ j. start (getD capacities j 0)) (length capacities) e b, start-fits (getD capacities e 0) (w .sizes .least e b));
+          let b : e < length capacities = rw length-map at l in
+          omega (arith, map-at start capacities e b, start-fits (getD capacities e 0) (w .sizes .least e b));
     }
 
 pub halved-weighable : {capacities lengths : List ℕ} → Settling capacities lengths → Weighable capacities (map halving lengths)

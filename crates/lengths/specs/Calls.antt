@@ -2,7 +2,7 @@
 -- Assumes nothing.
 use mathlib.Core.Path.{_≡_}
 use mathlib.Core.List.{List}
-use Prim.Native.Nat.{ℕ, _^_, _≤_, _<_}
+use Prim.Native.Nat.{ℕ, _*_, _^_, _≤_, _<_}
 use lib.ListN.{length, getD}
 use Rattle.arith.specs.Times.{times}
 use Rattle.bounds.specs.Bounds.{mostNodes, mostArcs, mostCapacity, leastPrecision, mostPrecision}
@@ -28,7 +28,7 @@ pub record Growing (lengths capacities : List ℕ) (q g : ℕ) (path : List ℕ)
   pub places : Under (length capacities) path
   pub once : (e : ℕ) → times e path ≤ 1
   pub drawn : (j : ℕ) → j < length path → g ≤ getD capacities (getD path j 0) 0
-  pub few : length path ≤ mostNodes
+  pub few : length path ≤ 2 * mostNodes
   pub arcs : length capacities ≤ mostArcs
   pub sizes : Capacities capacities
   pub short : Under (2 ^ 40) lengths

@@ -3,15 +3,13 @@ use mathlib.Core.Path.{_≡_}
 use mathlib.Core.Bool.{cond}
 use mathlib.Core.List.{List, map}
 use Prim.Native.Nat.{ℕ}
-use lib.ListN.{length, getD}
-use Rattle.arith.specs.Lists.{upTo}
 use Rattle.length.specs.Length.{start, halving}
 use Rattle.tables.specs.Tables.{weightOf, longer, atMark}
 use Rattle.lengths.specs.declared.Grown.{Grown}
 
 -- The lengths that a run starts with.
 abbrev pub firstLengths : List ℕ → List ℕ
-firstLengths capacities = map (λ e. start (getD capacities e 0)) (upTo (length capacities))
+firstLengths capacities = map start capacities
 
 -- The lengths are those wanted, and d is their D.
 pub record Weighed (wanted capacities new : List ℕ) (d : ℕ) : Type 0 where

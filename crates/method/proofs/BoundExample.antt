@@ -5,9 +5,11 @@ use mathlib.Core.List.{[], _∷_}
 use mathlib.Core.Option.{Option·some-injective}
 use Prim.Native.Nat.{ℕ, zero, suc, _<_}
 use native.Mathlib.Omega.{arith}
+use Rattle.arith.specs.Lists.{upFrom, upTo}
 use Rattle.arith.specs.Sum.{sum}
 use Rattle.signed.specs.Signed.{ahead, back}
 use Rattle.network.specs.Path.{Joined, follow, pathLength}
+use Rattle.network.specs.Resources.{limitsBelow, place, resources, rooms, uses}
 use Rattle.network.specs.Flow.{AtMost, Carries, passing, outflow, inflow, leaving, entering}
 use Rattle.network.proofs.Leads.{leads-arc, leads-one-way}
 use Rattle.network.proofs.Paths.{path-step, path-arcs}
@@ -18,7 +20,7 @@ use Rattle.method.proofs.TwoArcs.{both, net, ones, arc-at, ends, flow, 
 
 -- A path from 1 to 2 has an arc, of length 1.
 far : Far (net 1 2) (both 1) 1
-unfolding follow pathLength
+unfolding follow pathLength uses
 far zero b [] path = omega (arith, Option·some-injective 1 2 path)
 far zero b (e ∷ p) path = omega (arith, arc-at 1 e (path-arcs (net 1 2) 1 2 (e ∷ p) path e (first refl)))
 far (suc i) b p path = omega arith
@@ -28,7 +30,7 @@ at-most = bounded (net 1 2) (ends 1 2 (omega arith) (omega arith) refl) (both 1)
 
 -- The bound is 2, and the flow carries it.
 tight : (weight (net 1 2) (both 1) ≡ 2) × Carries (net 1 2) ones 2
-unfolding ones weight leaving entering outflow inflow passing sum ahead back
+unfolding ones weight leaving entering outflow inflow passing sum ahead back upFrom upTo limitsBelow place resources rooms
 tight = (refl, refl)
 
 -- No path leads from 2 to 1.

@@ -12,11 +12,12 @@ use Rattle.arith.proofs.Order.{le-or-lt}
 use Rattle.network.specs.Ends.{Ends}
 use Rattle.network.specs.Network.{Network, source, sink}
 use Rattle.network.specs.Path.{Path, pathLength}
+use Rattle.network.specs.Resources.{uses}
 use Rattle.network.specs.Visited.{visited}
-use Rattle.network.proofs.Cuts.{cut-fewer, cut-no-longer}
+use Rattle.network.proofs.Cuts.{cut-path, cut-fewer, cut-no-longer}
 use Rattle.network.proofs.Loops.{Loop, distinct-or-loop}
 use Rattle.network.proofs.Nodes.{distinct-path-few}
-use Rattle.method.specs.Choice.{Choice, choiceOf, choice}
+use Rattle.method.specs.Choice.{Choice, usedBy, choiceOf, choice}
 use Rattle.method.specs.Chosen.{Chosen}
 use Rattle.method.specs.Order.{Before}
 use Rattle.method.proofs.Candidates.{Candidate, ahead}
@@ -34,20 +35,20 @@ module _ (net : Network) (l : List ℕ) (ends : Ends net) (c : Choice) (h : choi
   listed = choice-candidate net l c h
 
   -- A path that would be listed before the chosen one is longer. It has no more arcs, so it is listed.
-  ahead-longer : (p : List ℕ) → Path net s t p → length p ≤ length (c .path) → Ahead p (c .path) → pathLength l (c .path) < pathLength l p
+  ahead-longer : (p : List ℕ) → Path net s t p → length p ≤ length (c .path) → Ahead p (c .path) → pathLength l (usedBy net c) < pathLength l (uses net s p)
   ahead-longer p r few a =
       choice-earlier net l c h (choiceOf (c .commodity) p)
       (record { commodity = listed .commodity; path = r; short = omega (arith, listed .short) })
       (ahead refl a)
 
-  choice-fewest : (p : List ℕ) → Path net s t p → pathLength l p ≡ pathLength l (c .path) → length (c .path) ≤ length p
+  choice-fewest : (p : List ℕ) → Path net s t p → pathLength l (uses net s p) ≡ pathLength l (usedBy net c) → length (c .path) ≤ length p
   choice-fewest p r q =
       ⊎-elim
       (λ (b : length (c .path) ≤ length p). b)
       (λ (b : length p < length (c .path)). absurd (omega (arith, ahead-longer p r (omega arith) (fewer b))))
       (le-or-lt (length (c .path)) (length p))
 
-  choice-first : (p : List ℕ) → Path net s t p → pathLength l p ≡ pathLength l (c .path) → length p ≡ length (c .path) → Before p (c .path) → ⊥
+  choice-first : (p : List ℕ) → Path net s t p → pathLength l (uses net s p) ≡ pathLength l (usedBy net c) → length p ≡ length (c .path) → Before p (c .path) → ⊥
   choice-first p r q e b = omega (arith, ahead-longer p r (omega arith) (as-many e b))
 
   -- A path without its loop has fewer arcs and is no longer.
@@ -59,8 +60,8 @@ module _ (net : Network) (l : List ℕ) (ends : Ends net) (c : Choice) (h : choi
       let few = cut-fewer net s t (c .path) k in
       absurd (omega (
         arith,
-        cut-no-longer net s t (c .path) k l,
-        ahead-longer (k .front ++ k .back) (k .cut) (omega arith) (fewer few),
+        cut-no-longer net s t (c .path) k (listed .path) l,
+        ahead-longer (k .front ++ k .back) (cut-path net s t (c .path) k) (omega arith) (fewer few),
       )))
       (distinct-or-loop net s t (c .path) (listed .path))
 

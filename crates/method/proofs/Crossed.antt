@@ -15,7 +15,7 @@ use lib.Seq.{getD-set-same, getD-set-other}
 use Rattle.arith.proofs.Order.{Compared, below, equal, above, compare}
 use Rattle.arith.proofs.Sums.{sum-cong, sum-swap}
 use Rattle.signed.specs.Signed.{ahead, back, size, moved}
-use Rattle.signed.proofs.Signed.{more-parts, less-parts, more-back, moved-size}
+use Rattle.signed.proofs.Signed.{more-parts, less-parts, more-size, less-size, more-back, moved-size}
 use Rattle.network.specs.Flow.{passing, outflow, inflow, loadOf}
 use Rattle.network.specs.Network.{Network, arcs, commodities, tail, head, reversible}
 use Rattle.network.specs.Path.{forward, leads}
@@ -65,6 +65,24 @@ module _ (net : Network) (f h : ℕ → ℤ) (e : ℕ) (l : e < arcs net) (same 
       by-ends false true a b c d = omega (arith, p)
       by-ends false false a b c d = omega (arith, p)
 
+  -- What leaves a node, or enters it, grows by no more than the parts on e at that end.
+  grows : (a b : ℕ) → ahead (h e) ≤ ahead (f e) + a → back (h e) ≤ back (f e) + b →
+      (outflow net h u ≤ outflow net f u + once u (tail net e) * a + once u (head net e) * b) ×
+      (inflow net h u ≤ inflow net f u + once u (head net e) * a + once u (tail net e) * b)
+  unfolding outflow inflow
+  grows a b p r = (
+    omega (arith, part-grows ahead (tail net) a p, part-grows back (head net) b r),
+    omega (arith, part-grows ahead (head net) a p, part-grows back (tail net) b r),
+  )
+    where
+      by-end : (part : ℤ → ℕ) (end : ℕ → ℕ) (c : ℕ) (s : Bool) → part (h e) ≤ part (f e) + c →
+          at part end h + cond s (part (f e)) 0 ≡ at part end f + cond s (part (h e)) 0 → at part end h ≤ at part end f + cond s 1 0 * c
+      by-end part end c true p q = omega (arith, p, q)
+      by-end part end c false p q = omega (arith, q)
+
+      part-grows : (part : ℤ → ℕ) (end : ℕ → ℕ) (c : ℕ) → part (h e) ≤ part (f e) + c → at part end h ≤ at part end f + once u (end e) * c
+      part-grows part end c p = by-end part end c (eqb (end e) u) p (changes part end)
+
 module _ (net : Network) (i g : ℕ) (listed : i < commodities net) (flow : List ℤ) (sized : length flow ≡ commodities net * arcs net) (v e w : ℕ)
     (h : leads net v e ≡ some w) where
   abbrev next : List ℤ
@@ -113,6 +131,30 @@ module _ (net : Network) (i g : ℕ) (listed : i < commodities net) (flow : List
             ap (λ x. once u x * g) p,
             ap (λ x. once u x * g) q,
           )
+
+  -- What leaves a node grows by no more than the draw from there, and what enters it by no more than the draw to there.
+  pub crossed-grows : (u : ℕ) →
+      (outflow net (amounts net next i) u ≤ outflow net (amounts net flow i) u + once u v * g) ×
+      (inflow net (amounts net next i) u ≤ inflow net (amounts net flow i) u + once u w * g)
+  crossed-grows u = by-way (forward net v e) (leads-near net v e w h) (leads-beyond net v e w h) crossed-at
+    where
+      same : (a : ℕ) → a < arcs net → (a ≡ e → ⊥) → amounts net next i a ≡ amounts net flow i a
+      same a b other = crossed-other i a b (λ z. other (z .1))
+
+      by-way : (b : Bool) → cond b (tail net e) (head net e) ≡ v → cond b (head net e) (tail net e) ≡ w →
+          amounts net next i e ≡ moved b g (amounts net flow i e) →
+          (outflow net (amounts net next i) u ≤ outflow net (amounts net flow i) u + once u v * g) ×
+          (inflow net (amounts net next i) u ≤ inflow net (amounts net flow i) u + once u w * g)
+      by-way true p q r =
+          let x = amounts net flow i e in
+          let k = grows net (amounts net flow i) (amounts net next i) e l same u g 0
+          (rw r (omega (arith, more-parts x g, more-size x g))) (rw r (omega (arith, more-parts x g, more-size x g))) in
+          (omega (arith, k .0, ap (λ x. once u x * g) p), omega (arith, k .1, ap (λ x. once u x * g) q))
+      by-way false p q r =
+          let x = amounts net flow i e in
+          let k = grows net (amounts net flow i) (amounts net next i) e l same u 0 g
+          (rw r (omega (arith, less-parts x g, less-size x g))) (rw r (omega (arith, less-parts x g, less-size x g))) in
+          (omega (arith, k .0, ap (λ x. once u x * g) p), omega (arith, k .1, ap (λ x. once u x * g) q))
 
   -- On an arc that is not reversible nothing goes back where nothing did.
   pub crossed-one-way : (j a : ℕ) → a < arcs net → reversible net a ≡ false → back (amounts net flow j a) ≡ 0 → back (amounts net next j a) ≡ 0

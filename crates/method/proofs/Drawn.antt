@@ -1,26 +1,29 @@
--- A draw of g along a path of commodity i leaves a flow a flow, adds g to its total, and adds to the sizes on an arc no more than to its load.
+-- A draw of g along a path of commodity i leaves a flow a flow, adds g to its total, and adds no more than g to the sizes on its arcs and the uses of its
+-- nodes.
 -- Assumes nothing.
 use mathlib.Core.Path.{_≡_, refl, ap, _∙_}
 use mathlib.Core.Bool.{Bool, true, false}
 use mathlib.Core.List.{List, [], _∷_}
 use mathlib.Core.Option.{Option·some-injective}
-use Prim.Native.Nat.{ℕ, _+_, _*_, _≤_, _<_}
+use Prim.Native.Nat.{ℕ, _+_, _*_, _≤_, _<_, max}
 use native.Mathlib.Omega.{arith}
 use borrow.Author.Tests.{eqb-true, eqb-false}
 use lib.Dec.{eqb}
 use lib.IntN.{ℤ}
-use lib.ListN.{length, getD, set, length-set}
+use lib.ListN.{length, length-set}
+use Rattle.arith.specs.Times.{times}
 use Rattle.arith.proofs.Sums.{sum-cong, sum-swap}
 use Rattle.signed.specs.Signed.{ahead, back}
 use Rattle.network.specs.Network.{Network, arcs, commodities, tail, head, reversible, source, sink}
 use Rattle.network.specs.Path.{Path, beyond, follow}
-use Rattle.network.specs.Flow.{Flow, Carries, passing, outflow, inflow, loadOf, leaving, entering}
-use Rattle.network.proofs.Leads.{leads-arc, leads-beyond}
+use Rattle.network.specs.Flow.{Flow, Carries, passing, outflow, inflow, loadOf, useOf, leaving, entering}
+use Rattle.network.specs.Visited.{visited}
+use Rattle.network.proofs.Leads.{leads-beyond}
 use Rattle.network.proofs.Paths.{path-step}
-use Rattle.method.specs.Iteration.{update, crossed, pushed}
+use Rattle.method.specs.Iteration.{crossed, pushed}
 use Rattle.method.specs.Answer.{amounts}
-use Rattle.method.proofs.Crossed.{crossed-other, crossed-balance, crossed-load, crossed-one-way}
-use Rattle.method.proofs.Times.{once, once-same, once-other, set-adds}
+use Rattle.method.proofs.Crossed.{crossed-other, crossed-balance, crossed-load, crossed-grows, crossed-one-way}
+use Rattle.method.proofs.Times.{once, once-same, once-other}
 
 -- Equal amounts on all arcs leave and enter a node alike.
 module _ (net : Network) (f h : ℕ → ℤ) (same : (a : ℕ) → a < arcs net → h a ≡ f a) (v : ℕ) where
@@ -92,26 +95,47 @@ module _ (net : Network) (i g : ℕ) (listed : i < commodities net) where
       (drawn-one-way (s .0) t p (over v e flow) (s .2) (over-sized v e flow sized) j a b one
       (crossed-one-way net i g listed flow sized v e (s .0) (s .1) j a b one z))
 
-  -- The sizes of the amounts on an arc are together no more than its load.
-  abbrev Within : List ℤ → List ℕ → Type 0
-  Within flow loads = (a : ℕ) → a < arcs net → loadOf net (amounts net flow) a ≤ getD loads a 0
-
-  pub drawn-within : (v t : ℕ) (p : List ℕ) (flow : List ℤ) (loads : List ℕ) → Path net v t p → Sized flow → length loads ≡ arcs net →
-      Within flow loads → Within (drawn v p flow) (update (λ e x. x + g) p loads)
-  unfolding pushed update
-  drawn-within v t [] flow loads path sized places h = h
-  drawn-within v t (e ∷ p) flow loads path sized places h =
+  -- The sizes of the amounts on an arc grow together by no more than the draw over it.
+  pub drawn-load : (v t : ℕ) (p : List ℕ) (flow : List ℤ) → Path net v t p → Sized flow → (a : ℕ) → a < arcs net →
+      loadOf net (amounts net (drawn v p flow)) a ≤ loadOf net (amounts net flow) a + times a p * g
+  unfolding pushed times
+  drawn-load v t [] flow path sized a b = omega arith
+  drawn-load v t (e ∷ p) flow path sized a b =
       let s = path-step net v t e p path in
       rw (leads-beyond net v e (s .0) (s .1))
-      (drawn-within (s .0) t p (over v e flow) (set loads e (getD loads e 0 + g)) (s .2) (over-sized v e flow sized)
-      (length-set loads e (getD loads e 0 + g) ∙ places)
-      (λ a b.
-      omega (
+      (omega (
         arith,
+        drawn-load (s .0) t p (over v e flow) (s .2) (over-sized v e flow sized) a b,
         crossed-load net i g listed flow sized v e (s .0) (s .1) a b,
-        set-adds g loads e a (omega (arith, leads-arc net v e (s .0) (s .1))),
-        h a b,
-      )))
+      ))
+
+  -- What leaves a node, and what enters it, grows by no more than the draw where the node is visited.
+  drawn-out : (v t : ℕ) (p : List ℕ) (flow : List ℤ) → Path net v t p → Sized flow → (u : ℕ) →
+      outflow net (amounts net (drawn v p flow) i) u ≤ outflow net (amounts net flow i) u + times u (visited net v p) * g
+  unfolding pushed visited times
+  drawn-out v t [] flow path sized u = omega arith
+  drawn-out v t (e ∷ p) flow path sized u =
+      let s = path-step net v t e p path in
+      rw (leads-beyond net v e (s .0) (s .1), s .1)
+      (omega (
+        arith,
+        drawn-out (s .0) t p (over v e flow) (s .2) (over-sized v e flow sized) u,
+        crossed-grows net i g listed flow sized v e (s .0) (s .1) u .0,
+      ))
+
+  -- At its start nothing of it enters.
+  drawn-in : (v t : ℕ) (p : List ℕ) (flow : List ℤ) → Path net v t p → Sized flow → (u : ℕ) →
+      inflow net (amounts net (drawn v p flow) i) u + once u v * g ≤ inflow net (amounts net flow i) u + times u (visited net v p) * g
+  unfolding pushed visited times
+  drawn-in v t [] flow path sized u = omega arith
+  drawn-in v t (e ∷ p) flow path sized u =
+      let s = path-step net v t e p path in
+      rw (leads-beyond net v e (s .0) (s .1), s .1)
+      (omega (
+        arith,
+        drawn-in (s .0) t p (over v e flow) (s .2) (over-sized v e flow sized) u,
+        crossed-grows net i g listed flow sized v e (s .0) (s .1) u .1,
+      ))
 
   module _ (p : List ℕ) (path : Path net (source net i) (sink net i) p) (flow : List ℤ) (sized : Sized flow) where
     abbrev next : List ℤ
@@ -125,6 +149,20 @@ module _ (net : Network) (i g : ℕ) (listed : i < commodities net) where
     in-other : (j v : ℕ) → (j ≡ i → ⊥) → inflow net (amounts net next j) v ≡ inflow net (amounts net flow j) v
     in-other j v other =
         in-same net (amounts net flow j) (amounts net next j) (λ a b. drawn-other (source net i) (sink net i) p flow path sized j a b other) v
+
+    -- All commodities' use of a node grows by no more than the draw where it is visited.
+    pub drawn-use : (v : ℕ) →
+        useOf net (amounts net next) v ≤ useOf net (amounts net flow) v + times v (visited net (source net i) p) * g
+    unfolding useOf
+    drawn-use v =
+        omega (
+          arith,
+          sum-swap (commodities net) (λ j. max (inflow net (amounts net flow j) v) (outflow net (amounts net flow j) v))
+              (λ j. max (inflow net (amounts net next j) v) (outflow net (amounts net next j) v)) i listed
+              (λ j b other. rw (in-other j v other, out-other j v other)),
+          drawn-out (source net i) (sink net i) p flow path sized v,
+          drawn-in (source net i) (sink net i) p flow path sized v,
+        )
 
     -- It is a flow still.
     pub stays-flow : Flow net (amounts net flow) → Flow net (amounts net next)

@@ -13,7 +13,8 @@ use lib.Dec.{leb}
 use lib.ListN.{getD}
 use Rattle.arith.proofs.Exists.{exists-true}
 use Rattle.length.specs.Level.{level, threshold}
-use Rattle.network.specs.Network.{Network, arcs, capacity}
+use Rattle.network.specs.Network.{Network}
+use Rattle.network.specs.Resources.{resources, room}
 use Rattle.network.specs.Sound.{Sound}
 use Rattle.packing.proofs.Count.{count-below}
 use Rattle.packing.proofs.Run as packing
@@ -51,11 +52,11 @@ module _ (net : Network) (q : ℕ) (sound : Sound net q) (joined : (l : List ℕ
       by-test : (t : Bool) → ended net q s ≡ t → t ≡ false
       by-test false h = refl
       by-test true h =
-          let w = exists-true (arcs net) (λ e. leb (q * level (arcs net) q * capacity net e) (getD (s .loads) e 0)) h in
+          let w = exists-true (resources net) (λ e. leb (q * level (resources net) q * room net e) (getD (s .loads) e 0)) h in
           absurd
           (omega (
             arith,
-            leb-true (q * level (arcs net) q * capacity net (w .0)) (getD (s .loads) (w .0) 0) (w .2),
+            leb-true (q * level (resources net) q * room net (w .0)) (getD (s .loads) (w .0) 0) (w .2),
             r .below (w .0) (w .1),
           ))
 
@@ -85,7 +86,7 @@ module _ (net : Network) (q : ℕ) (sound : Sound net q) (joined : (l : List ℕ
       }
 
   ends :
-      (n : ℕ) (s : State) → Reached net q s → Underway net q s → arcs net * (q * level (arcs net) q - 1) < s .count + n →
+      (n : ℕ) (s : State) → Reached net q s → Underway net q s → resources net * (q * level (resources net) q - 1) < s .count + n →
       Final net q (runs net q n s)
   unfolding runs seen
   ends zero s r u h = absurd (omega (arith, count-below (program net q sound) (r .valid .run) (r .below)))
@@ -96,7 +97,7 @@ module _ (net : Network) (q : ℕ) (sound : Sound net q) (joined : (l : List ℕ
 
       by-test :
           (b : Bool) → ended net q t ≡ b →
-          (Reached net q t → Underway net q t → arcs net * (q * level (arcs net) q - 1) < t .count + n → Final net q (runs net q n t)) → Final net q (elim b [ true ↦ t | false ↦ runs net q n t ])
+          (Reached net q t → Underway net q t → resources net * (q * level (resources net) q - 1) < t .count + n → Final net q (runs net q n t)) → Final net q (elim b [ true ↦ t | false ↦ runs net q n t ])
       by-test true e rest =
           let c = joined (s .lengths) in
           record {
@@ -136,14 +137,14 @@ module _ (net : Network) (q : ℕ) (sound : Sound net q) (joined : (l : List ℕ
         before = λ j l. let z : j ≡ 0 = omega arith in rw z (open-ended (initial net) (reached-start net q sound));
       }
 
-  start-enough : arcs net * (q * level (arcs net) q - 1) < initial net .count + arcs net * (q * level (arcs net) q)
+  start-enough : resources net * (q * level (resources net) q - 1) < initial net .count + resources net * (q * level (resources net) q)
   unfolding initial
   start-enough = enough net q sound
 
   -- The whole run ends so.
   pub run-final : Final net q (run net q)
   unfolding run threshold
-  run-final = ends (arcs net * (q * level (arcs net) q)) (initial net) (reached-start net q sound) underway-start start-enough
+  run-final = ends (resources net * (q * level (resources net) q)) (initial net) (reached-start net q sound) underway-start start-enough
 
   final-count : (t : State) (f : Final net q t) → t .count ≡ suc (f .prior .count)
   unfolding advance
@@ -155,7 +156,7 @@ module _ (net : Network) (q : ℕ) (sound : Sound net q) (joined : (l : List ℕ
       f .is ∙
       (sym (iteration-some (f .prior) (f .choosing) (f .chosen)) ∙ (ap (iteration net q) (f .underway .at) ∙ ap (nth net q) (sym (final-count t f))))
 
-  final-few : (t : State) (f : Final net q t) → t .count ≤ arcs net * (q * level (arcs net) q - 1) + 1
+  final-few : (t : State) (f : Final net q t) → t .count ≤ resources net * (q * level (resources net) q - 1) + 1
   unfolding seen
   final-few t f =
       omega (

@@ -1,5 +1,5 @@
 -- Document 01's worked runs, computed from the definitions: the figures of its listing and of "Run by a program", a run in which the number of belts
--- decides between equal routes, and an unjoined network.
+-- decides between equal routes, reversible belts, limited stations, and an unjoined network.
 -- Assumes nothing.
 use mathlib.Core.Path.{_≡_}
 use mathlib.Core.Bool.{Bool, true, _&&_}
@@ -19,6 +19,8 @@ use Rattle.length.specs.Levels.{levels}
 use Rattle.signed.specs.Signed.{twos}
 use Rattle.network.specs.Network.{Network}
 use Rattle.network.specs.Path.{leads, follow, pathLength}
+use Rattle.network.specs.Resources.{limitsBelow, place, resources, rooms, station, uses}
+use Rattle.network.specs.Visited.{visited}
 use Rattle.method.specs.Choice.{words, endsAt, paths, candidates, sooner, least, choice}
 use Rattle.method.specs.Iteration.{initial, weight, lowest, draw, update, pushed, grown, settled, advance, iteration}
 use Rattle.method.specs.Run.{ended, runs, run}
@@ -31,18 +33,18 @@ figures o = numbersOf (o .answer) ++ (map twos (o .flow) ++ o .lengths)
 -- The definitions give these figures for the network at precision 4.
 gives : Network → List ℕ → Bool
 unfolding
-    figures ceil upFrom upTo exists flat keep sum same scale mark start growth halving level threshold levels leads follow pathLength words
-    endsAt paths candidates sooner least choice initial weight lowest draw update pushed grown settled advance iteration ended runs run fullest
+    figures ceil upFrom upTo exists flat keep sum same scale mark start growth halving level threshold levels leads follow pathLength visited
+    limitsBelow place resources rooms station uses words endsAt paths candidates sooner least choice initial weight lowest draw update pushed grown settled advance iteration ended runs run fullest
     numbersOf unjoined outcomeOf outcome bind twos
 gives net xs = same (figures (outcome net 4)) xs
 
--- n nodes; arcs by tails, heads, capacities and marks; commodities by sources and sinks.
-floor : ℕ → List ℕ → List ℕ → List ℕ → List ℕ → List ℕ → List ℕ → Network
-floor n ts hs cs ms ss zs = record { nodes = n; tails = ts; heads = hs; capacities = cs; marks = ms; sources = ss; sinks = zs }
+-- n nodes with these limits; arcs by tails, heads, capacities and marks; commodities by sources and sinks.
+floor : ℕ → List ℕ → List ℕ → List ℕ → List ℕ → List ℕ → List ℕ → List ℕ → Network
+floor n ls ts hs cs ms ss zs = record { nodes = n; tails = ts; heads = hs; capacities = cs; marks = ms; limits = ls; sources = ss; sinks = zs }
 
--- no arc reversible
+-- no node limited and no arc reversible
 net : ℕ → List ℕ → List ℕ → List ℕ → List ℕ → List ℕ → Network
-net n ts hs cs ss zs = floor n ts hs cs [] ss zs
+net n ts hs cs ss zs = floor n [] ts hs cs [] ss zs
 
 -- The rows: a network, and what document 01 and a second solver say of it at precision 4.
 pub record Example : Type 0 where
@@ -83,14 +85,26 @@ rows =
     } ∷
     -- request C-12: a reversible belt taken from head to tail, so that its amount is -20; the figures of this and the next are a second solver's
     record {
-      network = floor 2 (2 ∷ []) (1 ∷ []) (5 ∷ []) (1 ∷ []) (1 ∷ []) (2 ∷ []);
+      network = floor 2 [] (2 ∷ []) (1 ∷ []) (5 ∷ []) (1 ∷ []) (1 ∷ []) (2 ∷ []);
       figures = 20 ∷ 5 ∷ 20 ∷ 68719476740 ∷ 13743895348 ∷ 4 ∷ 1 ∷ 18446744073709551596 ∷ 13743895348 ∷ [];
     } ∷
     -- a reversible belt, the third, over which 62 are drawn, 2 of them from head to tail: its amount is 58
     record {
       network =
-          floor 4 (1 ∷ 4 ∷ 3 ∷ 1 ∷ 3 ∷ []) (4 ∷ 2 ∷ 4 ∷ 3 ∷ 2 ∷ []) (1 ∷ 4 ∷ 9 ∷ 7 ∷ 7 ∷ []) (0 ∷ 0 ∷ 2 ∷ 0 ∷ 0 ∷ []) (1 ∷ []) (2 ∷ []);
+          floor 4 [] (1 ∷ 4 ∷ 3 ∷ 1 ∷ 3 ∷ []) (4 ∷ 2 ∷ 4 ∷ 3 ∷ 2 ∷ []) (1 ∷ 4 ∷ 9 ∷ 7 ∷ 7 ∷ []) (0 ∷ 0 ∷ 2 ∷ 0 ∷ 0 ∷ []) (1 ∷ []) (2 ∷ []);
       figures = 252 ∷ 7 ∷ 228 ∷ 5327631960887 ∷ 625347768089 ∷ 63 ∷ 59 ∷ 24 ∷ 82 ∷ 58 ∷ 228 ∷ 170 ∷ 582076609137 ∷ 87206280855 ∷ 2143983523 ∷ 539224188139 ∷ 86123579950 ∷ [];
+    } ∷
+    -- request C-17: a belt of 5 that ends in a station with a limit of 3, which is the fullest; the figures of this and the next are a second solver's
+    record {
+      network = floor 2 (0 ∷ 3 ∷ []) (1 ∷ []) (2 ∷ []) (5 ∷ []) [] (1 ∷ []) (2 ∷ []);
+      figures = 48 ∷ 3 ∷ 48 ∷ 2512299617612 ∷ 762876590210 ∷ 16 ∷ 16 ∷ 48 ∷ 111834923491 ∷ 651041666719 ∷ [];
+    } ∷
+    -- limits of 3 and 4 at stations 2 and 3, in which both pairs end: the last station is the fullest
+    record {
+      network = floor 3 (0 ∷ 3 ∷ 4 ∷ []) (1 ∷ 2 ∷ 1 ∷ []) (2 ∷ 3 ∷ 3 ∷ []) (4 ∷ 3 ∷ 2 ∷ []) [] (1 ∷ 2 ∷ []) (3 ∷ 3 ∷ []);
+      figures =
+          129 ∷ 4 ∷ 129 ∷ 5220381271544 ∷ 1197977036582 ∷ 52 ∷ 52 ∷ 0 ∷ 0 ∷ 54 ∷ 0 ∷ 75 ∷ 0 ∷ 536870912 ∷ 189478062889 ∷ 355271367883 ∷
+          189478062889 ∷ 842705668699 ∷ [];
     } ∷
     -- no pair joined: zeros, and the bound 0 over 1
     record {

@@ -11,8 +11,11 @@ use Rattle.arith.specs.Sum.{sum}
 use Rattle.arith.proofs.Order.{le-or-lt}
 use Rattle.arith.proofs.Sums.{term-le-sum}
 use Rattle.network.specs.Flow.{loadOf}
-use Rattle.network.specs.Network.{Network, arcs, commodities, capacity}
+use Rattle.network.specs.Network.{Network, arcs, commodities}
+use Rattle.network.specs.Resources.{resources, rooms, room}
 use Rattle.network.specs.Sound.{Sound}
+use Rattle.network.proofs.Resources.{arcs-le}
+use Rattle.network.proofs.Sounds.{room-within}
 use Rattle.method.specs.Answer.{fullest, numbersOf, amounts, unjoined, outcomeOf}
 use Rattle.signed.specs.Signed.{ahead, back, size}
 use Rattle.method.specs.Fits.{Words, Amounts, Fits}
@@ -55,9 +58,9 @@ module _ (net : Network) where
   unjoined-fits =
       record {
         amounts-count = length-replicate (commodities net * arcs net) (pos 0);
-        lengths-count = length-replicate (arcs net) 0;
+        lengths-count = length-replicate (resources net) 0;
         flow = λ j. omega (arith, ap (λ x. size x) (all-alike (pos 0) (commodities net * arcs net) j));
-        lengths = λ j. omega (arith, zeros (arcs net) j);
+        lengths = λ j. omega (arith, zeros (resources net) j);
         answer =
             seven (unjoined net .answer) (omega arith) (omega arith) (omega arith)
             (omega arith) (omega arith) (omega arith) (omega arith);
@@ -66,14 +69,14 @@ module _ (net : Network) where
       }
 
   -- Lengths of at most D: each is at most its capacity times it.
-  lengths-fit : (l : List ℕ) → length l ≡ arcs net → ((e : ℕ) → e < arcs net → 1 ≤ capacity net e) → weight net l < 2 ^ 58 → Words l
+  lengths-fit : (l : List ℕ) → length l ≡ resources net → ((e : ℕ) → e < resources net → 1 ≤ room net e) → weight net l < 2 ^ 58 → Words l
   unfolding weight
   lengths-fit l z positive h =
       words l
       (λ j b.
       omega (
         arith,
-        term-le-sum (arcs net) (λ e. capacity net e * getD l e 0) j (omega arith),
+        term-le-sum (resources net) (λ e. room net e * getD l e 0) j (omega arith),
         mul-le-mul-right (getD l j 0) (positive j (omega arith)),
       ))
 
@@ -99,20 +102,21 @@ module _ (net : Network) where
 
 module _ (net : Network) (q : ℕ) (sound : Sound net q) (s : State) (sizes : Sizes net s) where
   abbrev b : ℕ
-  b = fullest (net .capacities) (s .loads) (arcs net - 1)
+  b = fullest (rooms net) (s .loads) (resources net - 1)
 
-  -- A state of a run at which the loads are those of the flow table, and which has kept lengths: with b among the arcs.
+  -- A state of a run at which the loads are those of the flow table, and which has kept lengths: with b among the resources.
   pub state-fits :
-      b < arcs net → Table net (s .flow) (s .loads) (s .total) → length (s .bestLengths) ≡ arcs net → weight net (s .bestLengths) ≡ s .bound →
+      b < resources net → Table net (s .flow) (s .loads) (s .total) → length (s .bestLengths) ≡ resources net → weight net (s .bestLengths) ≡ s .bound →
       Fits net (outcomeOf net s)
   unfolding outcomeOf
   state-fits inside t z e =
-      let most = sound .arc-capacity b inside .most in
+      let most = room-within net q sound b inside .most in
       record {
         amounts-count = t .rows;
         lengths-count = z;
-        flow = small (s .flow) (flow-below net (2 ^ 21) (s .flow) (s .loads) (s .total) t (sound .counts .of-arcs .least) (sizes .load-high));
-        lengths = lengths-fit net (s .bestLengths) z (λ e l. sound .arc-capacity e l .least) (omega (arith, e, sizes .bound-high));
+        flow = small (s .flow) (flow-below net (2 ^ 21) (s .flow) (s .loads) (s .total) t (sound .counts .of-arcs .least)
+            (λ e l. sizes .load-high e (omega (arith, arcs-le net))));
+        lengths = lengths-fit net (s .bestLengths) z (λ e l. room-within net q sound e l .least) (omega (arith, e, sizes .bound-high));
         answer =
             seven (outcomeOf net s .answer)
             (omega (arith, sizes .total-high))
@@ -124,6 +128,6 @@ module _ (net : Network) (q : ℕ) (sound : Sound net q) (s : State) (sizes : Si
             (omega (arith, sizes .count-high, sizes .best-high));
         total = omega (arith, mul-le-mul (sizes .total-high) most);
         loads = λ e l.
-            let low : loadOf net (amounts net (s .flow)) e ≤ 2 ^ 21 = omega (arith, t .within e l, sizes .load-high e l) in
+            let low : loadOf net (amounts net (s .flow)) e ≤ 2 ^ 21 = omega (arith, t .within e l, sizes .load-high e (omega (arith, arcs-le net))) in
             omega (arith, mul-le-mul low most);
       }

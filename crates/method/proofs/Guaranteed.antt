@@ -14,11 +14,13 @@ use lib.IntN.{ℤ}
 use lib.ListN.{getD}
 use Rattle.arith.proofs.Exists.{exists-true}
 use Rattle.length.specs.Level.{level, threshold}
-use Rattle.network.specs.Network.{Network, arcs, commodities, capacity}
+use Rattle.network.specs.Network.{Network, arcs, commodities}
 use Rattle.network.specs.Flow.{Flow, Keeps, AtMost}
 use Rattle.network.specs.Path.{Joined}
+use Rattle.network.specs.Resources.{place, resources, rooms, room}
 use Rattle.network.specs.Sound.{Sound}
-use Rattle.network.proofs.Sounds.{sound-ends}
+use Rattle.network.proofs.Resources.{arcs-le, place-high, room-arc, room-node}
+use Rattle.network.proofs.Sounds.{sound-ends, resources-within, room-within}
 use Rattle.network.proofs.Duality.{Bounds}
 use Rattle.packing.proofs.Count.{count-all}
 use Rattle.packing.proofs.Near.{near, near-two}
@@ -38,7 +40,7 @@ use Rattle.method.proofs.Instance.{seen, iterated}
 use Rattle.method.proofs.Joining.{choice-none, none-by-any}
 use Rattle.method.proofs.Programs.{program}
 use Rattle.method.proofs.Reached.{Best, unset, kept, Valid, valid-step, chosen-at, fair}
-use Rattle.method.proofs.Table.{zero-flow, zero-carries, zero-load}
+use Rattle.method.proofs.Table.{zero-flow, zero-carries, zero-load, zero-use}
 
 -- T * ce ≤ ye and ye / ce ≤ yb / cb give T * cb ≤ yb.
 ratio-le : (T ce cb ye yb : ℕ) → 0 < ce → T * ce ≤ ye → ye * cb ≤ yb * ce → T * cb ≤ yb
@@ -69,37 +71,37 @@ still net q (suc n) h = by-test (iteration net q (initial net)) (stays net q h) 
     by-test t e false rest = ap (runs net q n) e ∙ rest
 
 module _ (net : Network) (q : ℕ) (sound : Sound net q) where
-  -- The fullest arc is at the threshold where some arc is.
+  -- The fullest resource is at the threshold where some resource is.
   fullest-full :
-      (s : State) → ended net q s ≡ true → (b : ℕ) → Fullest (net .capacities) (s .loads) (arcs net - 1) b →
-      q * level (arcs net) q * capacity net b ≤ getD (s .loads) b 0
+      (s : State) → ended net q s ≡ true → (b : ℕ) → Fullest (rooms net) (s .loads) (resources net - 1) b →
+      q * level (resources net) q * room net b ≤ getD (s .loads) b 0
   unfolding ended threshold
   fullest-full s h b f =
-      let w = exists-true (arcs net) (λ e. leb (q * level (arcs net) q * capacity net e) (getD (s .loads) e 0)) h in
+      let w = exists-true (resources net) (λ e. leb (q * level (resources net) q * room net e) (getD (s .loads) e 0)) h in
       let e : ℕ = w .0 in
-      let l : e < arcs net = w .1 in
-      ratio-le (q * level (arcs net) q) (capacity net e) (capacity net b) (getD (s .loads) e 0) (getD (s .loads) b 0)
-      (sound .arc-capacity e l .least)
-      (leb-true (q * level (arcs net) q * capacity net e) (getD (s .loads) e 0) (w .2))
+      let l : e < resources net = w .1 in
+      ratio-le (q * level (resources net) q) (room net e) (room net b) (getD (s .loads) e 0) (getD (s .loads) b 0)
+      (room-within net q sound e l .least)
+      (leb-true (q * level (resources net) q * room net e) (getD (s .loads) e 0) (w .2))
       (f .greatest e (omega arith))
 
   module _ (t : State) (f : Final net q t) where
     valid : Valid net q t
     valid = rw (f .is) (valid-step net q sound (f .prior) (f .reached .valid) (f .choosing) (f .chosen))
 
-    step : packing.Iteration (arcs net) q (capacity net) (seen (f .prior)) (seen t)
+    step : packing.Iteration (resources net) q (room net) (seen (f .prior)) (seen t)
     step = rw (f .is) (iterated net q (f .choosing) (f .prior) (fair net q sound (f .prior) (f .reached .valid) (f .choosing) (f .chosen)))
 
     abbrev b : ℕ
-    b = fullest (net .capacities) (t .loads) (arcs net - 1)
+    b = fullest (rooms net) (t .loads) (resources net - 1)
 
-    full : Fullest (net .capacities) (t .loads) (arcs net - 1) b
-    full = is-fullest (net .capacities) (t .loads) (arcs net - 1) (λ e l. sound .arc-capacity e (omega (arith, sound .counts .of-arcs .least)) .least)
+    full : Fullest (rooms net) (t .loads) (resources net - 1) b
+    full = is-fullest (rooms net) (t .loads) (resources net - 1) (λ e l. room-within net q sound e (omega (arith, resources-within net q sound .least)) .least)
 
-    inside : b < arcs net
-    inside = omega (arith, full .among, sound .counts .of-arcs .least)
+    inside : b < resources net
+    inside = omega (arith, full .among, resources-within net q sound .least)
 
-    at-mark : q * level (arcs net) q * capacity net b ≤ getD (t .loads) b 0
+    at-mark : q * level (resources net) q * room net b ≤ getD (t .loads) b 0
     at-mark = fullest-full t (f .full) b full
 
     loaded : 0 < getD (t .loads) b 0
@@ -126,15 +128,15 @@ module _ (net : Network) (q : ℕ) (sound : Sound net q) where
         by-best (unset e z) = absurd (omega (arith, alpha-pos))
         by-best (kept e far) = rw e (bounded net (sound-ends net q sound) (t .bestLengths) (t .alpha) far)
 
-    near-by : (8 * q - 9) * (t .bound * getD (t .loads) b 0) ≤ (8 * q + 5) * (t .total * capacity net b * t .alpha)
+    near-by : (8 * q - 9) * (t .bound * getD (t .loads) b 0) ≤ (8 * q + 5) * (t .total * room net b * t .alpha)
     unfolding seen
     near-by = near (program net q sound) (f .reached .valid .run) (f .reached .below) step b inside at-mark
 
-    near-enough : (q - 2) * (t .bound * getD (t .loads) b 0) ≤ q * (t .total * capacity net b * t .alpha)
+    near-enough : (q - 2) * (t .bound * getD (t .loads) b 0) ≤ q * (t .total * room net b * t .alpha)
     unfolding seen
     near-enough = near-two (program net q sound) (f .reached .valid .run) (f .reached .below) step b inside at-mark
 
-    few : t .count ≤ arcs net * threshold (arcs net) q
+    few : t .count ≤ resources net * threshold (resources net) q
     unfolding seen threshold
     few = count-all (program net q sound) (f .reached .valid .run) (f .reached .below) step
 
@@ -158,8 +160,16 @@ module _ (net : Network) (q : ℕ) (sound : Sound net q) where
           capacities = λ e l.
               omega (
                 arith,
-                mul-le-mul-right (capacity net b) (valid .table .within e l),
-                full .greatest e (omega arith),
+                mul-le-mul-right (room net b) (valid .table .within e l),
+                full .greatest e (omega (arith, arcs-le net)),
+                ap (λ c. c * getD (t .loads) b 0) (room-arc net e l),
+              );
+          limits = λ v l h.
+              omega (
+                arith,
+                mul-le-mul-right (room net b) (valid .table .limits v h),
+                full .greatest (place net v) (omega (arith, place-high net v l h)),
+                ap (λ c. c * getD (t .loads) b 0) (room-node net v l h),
               );
           some-load = loaded;
           upper = upper;
@@ -180,6 +190,7 @@ module _ (net : Network) (q : ℕ) (sound : Sound net q) where
         flow = zero-flow net (commodities net * arcs net);
         total = zero-carries net (commodities net * arcs net);
         capacities = λ e l. omega (arith, zero-load net (commodities net * arcs net) e);
+        limits = λ v l h. omega (arith, zero-use net (commodities net * arcs net) v);
         some-load = omega arith;
         upper =
             unjoined-bounded net (sound-ends net q sound)
@@ -187,7 +198,7 @@ module _ (net : Network) (q : ℕ) (sound : Sound net q) where
         some-alpha = omega arith;
         near = omega arith;
         nearer = omega arith;
-        steps = still net q (arcs net * threshold (arcs net) q) h;
+        steps = still net q (resources net * threshold (resources net) q) h;
         count = omega arith;
         fits = unjoined-fits net;
       }

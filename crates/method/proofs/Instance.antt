@@ -1,4 +1,4 @@
--- An iteration of the method is an iteration of the packing program whose resources are the arcs and whose columns are the paths.
+-- An iteration of the method is an iteration of the packing program whose resources are the network's and whose columns are what paths use.
 -- Assumes nothing.
 use mathlib.Core.Path.{_≡_, refl, sym, ap, _∙_}
 use mathlib.Core.Bool.{Bool, true, false, cond}
@@ -16,10 +16,11 @@ use Rattle.arith.proofs.Ceilings.{ceil-zero}
 use Rattle.arith.proofs.Exists.{exists-true, exists-false}
 use Rattle.arith.proofs.Sums.{sum-cong, sum-scale}
 use Rattle.length.specs.Length.{mark, growth, halving}
-use Rattle.network.specs.Network.{Network, arcs, capacity}
+use Rattle.network.specs.Network.{Network}
 use Rattle.network.specs.Path.{pathLength}
+use Rattle.network.specs.Resources.{resources, rooms, room}
 use Rattle.packing.proofs.Run as packing
-use Rattle.method.specs.Choice.{Choice}
+use Rattle.method.specs.Choice.{Choice, usedBy}
 use Rattle.method.specs.Iteration.{State, weight, draw, update, grown, settled, advance}
 use Rattle.method.proofs.Changed.{update-other, update-once}
 use Rattle.method.proofs.Draws.{At, draw-within}
@@ -44,7 +45,7 @@ unfolding pathLength along
 path-along l [] = refl
 path-along l (e ∷ p) = ap (λ t. getD l e 0 + t) (path-along l p)
 
--- The lengths after growth: a draw of g as often as the path has the arc, which is at most once.
+-- The lengths after growth: a draw of g as often as the resource is used, which is at most once.
 none : (x g : ℕ) → x * (0 * g) ≡ 0
 none x g = omega arith
 
@@ -52,23 +53,23 @@ one : (x g : ℕ) → x * g ≡ x * (1 * g)
 one x g = omega arith
 
 grown-at :
-    (net : Network) (q g : ℕ) (p l : List ℕ) (e : ℕ) → e < length l → times e p ≤ 1 → 0 < q * capacity net e →
-    getD (grown net q g p l) e 0 ≡ getD l e 0 + ceil (getD l e 0 * (times e p * g)) (q * capacity net e)
+    (net : Network) (q g : ℕ) (p l : List ℕ) (e : ℕ) → e < length l → times e p ≤ 1 → 0 < q * room net e →
+    getD (grown net q g p l) e 0 ≡ getD l e 0 + ceil (getD l e 0 * (times e p * g)) (q * room net e)
 unfolding grown growth
 grown-at net q g p l e b d pos = go (times e p) refl d
   where
     x : ℕ
     x = getD l e 0
 
-    go : (n : ℕ) → times e p ≡ n → n ≤ 1 → getD (update (λ e x. growth q g (capacity net e) x) p l) e 0 ≡ x + ceil (x * (n * g)) (q * capacity net e)
+    go : (n : ℕ) → times e p ≡ n → n ≤ 1 → getD (update (λ e x. growth q g (room net e) x) p l) e 0 ≡ x + ceil (x * (n * g)) (q * room net e)
     go zero h k =
-        update-other (λ e x. growth q g (capacity net e) x) p l e h ∙
-        omega (arith, ceil-zero (q * capacity net e) pos, ap (λ t. ceil t (q * capacity net e)) (none x g))
+        update-other (λ e x. growth q g (room net e) x) p l e h ∙
+        omega (arith, ceil-zero (q * room net e) pos, ap (λ t. ceil t (q * room net e)) (none x g))
     go (suc zero) h k =
-        update-once (λ e x. growth q g (capacity net e) x) p l e b h ∙ ap (λ t. x + ceil t (q * capacity net e)) (one x g)
+        update-once (λ e x. growth q g (room net e) x) p l e b h ∙ ap (λ t. x + ceil t (q * room net e)) (one x g)
     go (suc (suc n)) h k = absurd (omega arith)
 
--- A member of a list of arcs is an arc.
+-- A member of a list of resources is one.
 member-below : (m : ℕ) (p : List ℕ) (e : ℕ) → Below m p → 0 < times e p → e < m
 unfolding times
 member-below m [] e b h = absurd (omega arith)
@@ -93,59 +94,59 @@ halved-at : (l : List ℕ) (e : ℕ) → getD (map halving l) e 0 ≡ ceil (getD
 unfolding halving ceil
 halved-at l e = List·getD-map halving l e 0
 
--- What the argument asks of an iteration: the path's arcs are arcs, each once; capacities and tables as they should be.
+-- What the argument asks of an iteration: what the path uses are resources, each once; capacities and tables as they should be.
 pub record Fair (net : Network) (q : ℕ) (p : List ℕ) (s : State) : Type 0 where
   pub coarse : 1 ≤ q
-  pub positive : (e : ℕ) → e < arcs net → 1 ≤ capacity net e
-  pub below : Below (arcs net) p
+  pub positive : (e : ℕ) → e < resources net → 1 ≤ room net e
+  pub below : Below (resources net) p
   pub once : (e : ℕ) → times e p ≤ 1
-  pub whole : At (net .capacities) p (draw (net .capacities) p)
-  pub lengths : length (s .lengths) ≡ arcs net
-  pub loads : length (s .loads) ≡ arcs net
+  pub whole : At (rooms net) p (draw (rooms net) p)
+  pub lengths : length (s .lengths) ≡ resources net
+  pub loads : length (s .loads) ≡ resources net
 
-module _ (net : Network) (q : ℕ) (c : Choice) (s : State) (fair : Fair net q (c .path) s) where
+module _ (net : Network) (q : ℕ) (c : Choice) (s : State) (fair : Fair net q (usedBy net c) s) where
   abbrev m : ℕ
-  m = arcs net
+  m = resources net
 
   abbrev g : ℕ
-  g = draw (net .capacities) (c .path)
+  g = draw (rooms net) (usedBy net c)
 
-  -- The draw on each arc.
+  -- The draw on each resource.
   abbrev y : ℕ → ℕ
-  y e = times e (c .path) * g
+  y e = times e (usedBy net c) * g
 
   abbrev l : ℕ → ℕ
   l e = getD (s .lengths) e 0
 
-  pub column : packing.Column m (capacity net) l y g (pathLength (s .lengths) (c .path))
+  pub column : packing.Column m (room net) l y g (pathLength (s .lengths) (usedBy net c))
   column =
       record {
-        within = λ e b. drawn-within (times e (c .path)) g (capacity net e) (fair .once e) (draw-within (net .capacities) (c .path) e);
+        within = λ e b. drawn-within (times e (usedBy net c)) g (room net e) (fair .once e) (draw-within (rooms net) (usedBy net c) e);
         size =
-            sum-cong m (λ e. y e * l e) (λ e. g * (times e (c .path) * l e)) (λ e b. omega arith) ∙
-            (sum-scale m g (λ e. times e (c .path) * l e) ∙
-            ap (λ t. g * t) (sum-times m l (c .path) (fair .below) ∙ sym (path-along (s .lengths) (c .path))));
+            sum-cong m (λ e. y e * l e) (λ e. g * (times e (usedBy net c) * l e)) (λ e b. omega arith) ∙
+            (sum-scale m g (λ e. times e (usedBy net c) * l e) ∙
+            ap (λ t. g * t) (sum-times m l (usedBy net c) (fair .below) ∙ sym (path-along (s .lengths) (usedBy net c))));
         narrow = fair .whole .arc;
-        inside = member-below m (c .path) (fair .whole .arc) (fair .below) (fair .whole .member);
-        used = drawn-whole (times (fair .whole .arc) (c .path)) g (fair .once (fair .whole .arc)) (fair .whole .member);
+        inside = member-below m (usedBy net c) (fair .whole .arc) (fair .below) (fair .whole .member);
+        used = drawn-whole (times (fair .whole .arc) (usedBy net c)) g (fair .once (fair .whole .arc)) (fair .whole .member);
         full = fair .whole .whole;
       }
 
   -- The grown lengths, as the program has them.
   abbrev after : List ℕ
-  after = grown net q g (c .path) (s .lengths)
+  after = grown net q g (usedBy net c) (s .lengths)
 
-  pub after-at : (e : ℕ) → e < m → getD after e 0 ≡ packing.grown q (capacity net) l y e
+  pub after-at : (e : ℕ) → e < m → getD after e 0 ≡ packing.grown q (room net) l y e
   after-at e b =
-      grown-at net q g (c .path) (s .lengths) e (rw (fair .lengths) b) (fair .once e)
+      grown-at net q g (usedBy net c) (s .lengths) e (rw (fair .lengths) b) (fair .once e)
       (mul-pos (fair .coarse) (fair .positive e b))
 
-  lengths : packing.Lengths m (packing.grown q (capacity net) l y) (λ e. getD (settled net after) e 0)
+  lengths : packing.Lengths m (packing.grown q (room net) l y) (λ e. getD (settled net after) e 0)
   unfolding settled halving mark
   lengths = go (exists m (λ e. leb mark (getD after e 0))) refl
     where
       go : (t : Bool) → exists m (λ e. leb mark (getD after e 0)) ≡ t →
-          packing.Lengths m (packing.grown q (capacity net) l y) (λ e. getD (cond t (map halving after) after) e 0)
+          packing.Lengths m (packing.grown q (room net) l y) (λ e. getD (cond t (map halving after) after) e 0)
       go true h =
           let w = exists-true m (λ e. leb mark (getD after e 0)) h in
           packing.Lengths.halved (w .0) (w .1) (rw (after-at (w .0) (w .1)) at (leb-true mark (getD after (w .0) 0) (w .2)))
@@ -156,32 +157,32 @@ module _ (net : Network) (q : ℕ) (c : Choice) (s : State) (fair : Fair net q (
           (λ e b. after-at e b)
 
   least :
-      packing.Least (packing.volume m (capacity net) l) (pathLength (s .lengths) (c .path)) (s .bound) (s .alpha) (advance net q c s .bound)
+      packing.Least (packing.volume m (room net) l) (pathLength (s .lengths) (usedBy net c)) (s .bound) (s .alpha) (advance net q c s .bound)
       (advance net q c s .alpha)
   unfolding advance weight
   least = go (ltb (D * s .alpha) (s .bound * a)) refl
     where
       D : ℕ
-      D = sum m (λ e. capacity net e * getD (s .lengths) e 0)
+      D = sum m (λ e. room net e * getD (s .lengths) e 0)
 
       a : ℕ
-      a = pathLength (s .lengths) (c .path)
+      a = pathLength (s .lengths) (usedBy net c)
 
       go : (t : Bool) → ltb (D * s .alpha) (s .bound * a) ≡ t → packing.Least D a (s .bound) (s .alpha) (cond t D (s .bound)) (cond t a (s .alpha))
       go true h = packing.Least.smaller (ltb-true (D * s .alpha) (s .bound * a) h) refl refl
       go false h = packing.Least.held (ltb-false (D * s .alpha) (s .bound * a) h) refl refl
 
   -- The iteration.
-  pub iterated : packing.Iteration m q (capacity net) (seen s) (seen (advance net q c s))
+  pub iterated : packing.Iteration m q (room net) (seen s) (seen (advance net q c s))
   unfolding seen advance
   iterated =
       record {
         draw = y;
         amount = g;
-        size = pathLength (s .lengths) (c .path);
+        size = pathLength (s .lengths) (usedBy net c);
         column = column;
         lengths = lengths;
-        load = λ e b. update-adds g (c .path) (s .loads) e (rw (fair .loads) (fair .below));
+        load = λ e b. update-adds g (usedBy net c) (s .loads) e (rw (fair .loads) (fair .below));
         total = refl;
         count = refl;
         least = least;

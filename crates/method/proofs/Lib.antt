@@ -1,12 +1,11 @@
-pub mod Arcs
 pub mod Bound
 pub mod BoundExample
 pub mod Candidates
 pub mod Capped
 pub mod Changed
 pub mod Choosing
-pub mod Distance
 pub mod Crossed
+pub mod Distance
 pub mod Drawn
 pub mod Draws
 pub mod Ends
@@ -29,4 +28,5 @@ pub mod Tied
 pub mod Times
 pub mod TwoArcs
 pub mod Unique
+pub mod Used
 pub mod Words

@@ -12,21 +12,22 @@ use lib.Dec.{leb, ltb}
 use lib.ListN.{length, getD, length-map, length-replicate}
 use Rattle.arith.specs.Lists.{exists}
 use Rattle.arith.proofs.Exists.{exists-false}
-use Rattle.arith.proofs.Ranges.{getD-map-upTo, length-map-upTo}
+use Rattle.arith.proofs.Lists.{map-at}
 use Rattle.length.specs.Level.{level, threshold}
 use Rattle.length.specs.Length.{scale, mark, start, halving}
-use Rattle.network.specs.Network.{Network, arcs, capacity, source, sink}
+use Rattle.network.specs.Network.{Network}
 use Rattle.network.specs.Path.{pathLength}
+use Rattle.network.specs.Resources.{resources, rooms, room}
 use Rattle.network.specs.Sound.{Sound}
 use Rattle.network.proofs.Paths.{length-le-pathLength}
-use Rattle.network.proofs.Sounds.{sound-ends}
+use Rattle.network.proofs.Resources.{rooms-length}
+use Rattle.network.proofs.Sounds.{sound-ends, room-within}
 use Rattle.packing.proofs.Run as packing
 use Rattle.packing.proofs.Sizes.{length-pos}
-use Rattle.method.specs.Choice.{Choice, choice}
+use Rattle.method.specs.Choice.{Choice, usedBy, choice}
 use Rattle.method.specs.Chosen.{Chosen}
 use Rattle.method.specs.Iteration.{State, initial, weight, draw, grown, settled, advance}
 use Rattle.method.specs.Run.{ended}
-use Rattle.method.proofs.Arcs.{path-below, chosen-arcs, chosen-arcs-distinct, chosen-some}
 use Rattle.method.proofs.Bound.{Far}
 use Rattle.method.proofs.Choosing.{chosen}
 use Rattle.method.proofs.Draws.{At, draw-whole}
@@ -34,7 +35,8 @@ use Rattle.method.proofs.Instance.{seen, Fair, iterated}
 use Rattle.method.proofs.Once.{distinct-once}
 use Rattle.method.proofs.Programs.{program}
 use Rattle.method.proofs.Table.{Table, zeros, table-start, table-step}
-use Rattle.method.proofs.Times.{update-length}
+use Rattle.method.proofs.Times.{Below, update-length}
+use Rattle.method.proofs.Used.{members-below, chosen-below, chosen-distinct, chosen-some}
 
 -- The kept fraction is 1 over 0, or D over alpha for the kept lengths, by which no path is shorter than alpha.
 pub data Best (net : Network) (bound alpha : ℕ) (l : List ℕ) : Type 0 where
@@ -43,58 +45,61 @@ pub data Best (net : Network) (bound alpha : ℕ) (l : List ℕ) : Type 0 where
 
 -- What holds of a state whether or not the run ends there.
 pub record Valid (net : Network) (q : ℕ) (s : State) : Type 0 where
-  pub run : packing.Run (arcs net) q (capacity net) (seen s)
+  pub run : packing.Run (resources net) q (room net) (seen s)
   pub table : Table net (s .flow) (s .loads) (s .total)
-  pub lengths : length (s .lengths) ≡ arcs net
-  pub bests : length (s .bestLengths) ≡ arcs net
+  pub lengths : length (s .lengths) ≡ resources net
+  pub bests : length (s .bestLengths) ≡ resources net
   pub best : Best net (s .bound) (s .alpha) (s .bestLengths)
   pub which : s .best ≤ s .count
 
 -- ... and every load is still below the threshold.
 pub record Reached (net : Network) (q : ℕ) (s : State) : Type 0 where
   pub valid : Valid net q s
-  pub below : packing.Below (arcs net) q (level (arcs net) q) (capacity net) (seen s)
+  pub below : packing.Below (resources net) q (level (resources net) q) (room net) (seen s)
 
 module _ (net : Network) (q : ℕ) (sound : Sound net q) where
-  positive : (s : State) → Valid net q s → (e : ℕ) → e < arcs net → 1 ≤ getD (s .lengths) e 0
+  positive : (s : State) → Valid net q s → (e : ℕ) → e < resources net → 1 ≤ getD (s .lengths) e 0
   unfolding seen
   positive s v e l = length-pos (program net q sound) (v .run) e l
 
   pub chosen-at : (s : State) → Valid net q s → (c : Choice) → choice net (s .lengths) ≡ some c → Chosen net (s .lengths) c
   chosen-at s v c h = chosen net (s .lengths) (sound-ends net q sound) c h
 
+  used-below : (s : State) → Valid net q s → (c : Choice) → Chosen net (s .lengths) c → Below (resources net) (usedBy net c)
+  used-below s v c x = members-below (usedBy net c) (chosen-below net (s .lengths) c x (sound-ends net q sound))
+
   whole : (caps p : List ℕ) → 1 ≤ length p → At caps p (draw caps p)
   whole caps [] h = absurd (omega arith)
   whole caps (e ∷ p) h = draw-whole caps e p
 
-  pub fair : (s : State) → Valid net q s → (c : Choice) → choice net (s .lengths) ≡ some c → Fair net q (c .path) s
+  pub fair : (s : State) → Valid net q s → (c : Choice) → choice net (s .lengths) ≡ some c → Fair net q (usedBy net c) s
   fair s v c h =
       let x = chosen-at s v c h in
       record {
         coarse = omega (arith, sound .counts .precision .least);
-        positive = λ e l. sound .arc-capacity e l .least;
-        below = path-below net (source net (c .commodity)) (sink net (c .commodity)) (c .path) (x .path);
-        once = distinct-once (chosen-arcs-distinct net (s .lengths) c x);
-        whole = whole (net .capacities) (c .path) (chosen-some net (s .lengths) c x (sound-ends net q sound));
+        positive = λ e l. room-within net q sound e l .least;
+        below = used-below s v c x;
+        once = distinct-once (chosen-distinct net (s .lengths) c x);
+        whole = whole (rooms net) (usedBy net c) (chosen-some net (s .lengths) c x (sound-ends net q sound));
         lengths = v .lengths;
         loads = v .table .places;
       }
 
   settled-length : (l : List ℕ) → length (settled net l) ≡ length l
   unfolding settled
-  settled-length l = by-test (exists (arcs net) (λ e. leb mark (getD l e 0)))
+  settled-length l = by-test (exists (resources net) (λ e. leb mark (getD l e 0)))
     where
       by-test : (t : Bool) → length (cond t (map halving l) l) ≡ length l
       by-test true = length-map l halving
       by-test false = refl
 
   -- A chosen path has length.
-  chosen-pos : (s : State) → Valid net q s → (c : Choice) → Chosen net (s .lengths) c → 1 ≤ pathLength (s .lengths) (c .path)
+  chosen-pos : (s : State) → Valid net q s → (c : Choice) → Chosen net (s .lengths) c → 1 ≤ pathLength (s .lengths) (usedBy net c)
   chosen-pos s v c x =
       omega (
         arith,
         chosen-some net (s .lengths) c x (sound-ends net q sound),
-        length-le-pathLength (s .lengths) (c .path) (λ e m. positive s v e (chosen-arcs net (s .lengths) c x e m)),
+        length-le-pathLength (s .lengths) (usedBy net c) (λ e m. positive s v e (chosen-below net (s .lengths) c x (sound-ends net q sound) e m)),
       )
 
   -- A smaller fraction is kept with its lengths; else there was one before, since the first is always smaller than 1 over 0.
@@ -105,7 +110,7 @@ module _ (net : Network) (q : ℕ) (sound : Sound net q) where
   best-step s v c x = by-test (ltb (d * s .alpha) (s .bound * a)) refl (v .best)
     where
       a : ℕ
-      a = pathLength (s .lengths) (c .path)
+      a = pathLength (s .lengths) (usedBy net c)
 
       d : ℕ
       d = weight net (s .lengths)
@@ -119,25 +124,25 @@ module _ (net : Network) (q : ℕ) (sound : Sound net q) where
           absurd (omega (arith, ltb-false (d * s .alpha) (s .bound * a) h, ap (λ t. t * a) e, ap (λ t. d * t) f, chosen-pos s v c x))
 
   bests-length :
-      (s : State) → Valid net q s → (c : Choice) → length (advance net q c s .bestLengths) ≡ arcs net
+      (s : State) → Valid net q s → (c : Choice) → length (advance net q c s .bestLengths) ≡ resources net
   unfolding advance
-  bests-length s v c = by-test (ltb (weight net (s .lengths) * s .alpha) (s .bound * pathLength (s .lengths) (c .path)))
+  bests-length s v c = by-test (ltb (weight net (s .lengths) * s .alpha) (s .bound * pathLength (s .lengths) (usedBy net c)))
     where
-      by-test : (t : Bool) → length (cond t (s .lengths) (s .bestLengths)) ≡ arcs net
+      by-test : (t : Bool) → length (cond t (s .lengths) (s .bestLengths)) ≡ resources net
       by-test true = v .lengths
       by-test false = v .bests
 
   which-step : (s : State) → Valid net q s → (c : Choice) → advance net q c s .best ≤ advance net q c s .count
   unfolding advance
-  which-step s v c = by-test (ltb (weight net (s .lengths) * s .alpha) (s .bound * pathLength (s .lengths) (c .path)))
+  which-step s v c = by-test (ltb (weight net (s .lengths) * s .alpha) (s .bound * pathLength (s .lengths) (usedBy net c)))
     where
       by-test : (t : Bool) → cond t (suc (s .count)) (s .best) ≤ suc (s .count)
       by-test true = omega arith
       by-test false = omega (arith, v .which)
 
-  lengths-length : (s : State) → Valid net q s → (c : Choice) → length (advance net q c s .lengths) ≡ arcs net
+  lengths-length : (s : State) → Valid net q s → (c : Choice) → length (advance net q c s .lengths) ≡ resources net
   unfolding advance grown
-  lengths-length s v c = settled-length _ ∙ (update-length _ (c .path) (s .lengths) ∙ v .lengths)
+  lengths-length s v c = settled-length _ ∙ (update-length _ (usedBy net c) (s .lengths) ∙ v .lengths)
 
   -- An iteration keeps all this.
   pub valid-step : (s : State) → Valid net q s → (c : Choice) → choice net (s .lengths) ≡ some c → Valid net q (advance net q c s)
@@ -145,7 +150,7 @@ module _ (net : Network) (q : ℕ) (sound : Sound net q) where
       let x = chosen-at s v c h in
       record {
         run = packing.Run.next (v .run) (iterated net q c s (fair s v c h));
-        table = table-step net q c s (x .path) (x .commodity) (sound-ends net q sound .apart (c .commodity) (x .commodity)) (v .table);
+        table = table-step net q c s (x .path) (used-below s v c x) (x .commodity) (sound-ends net q sound .apart (c .commodity) (x .commodity)) (v .table);
         lengths = lengths-length s v c;
         bests = bests-length s v c;
         best = best-step s v c x;
@@ -153,10 +158,10 @@ module _ (net : Network) (q : ℕ) (sound : Sound net q) where
       }
 
   -- The run has not ended, so every load is below the threshold.
-  pub not-ended : (s : State) → ended net q s ≡ false → packing.Below (arcs net) q (level (arcs net) q) (capacity net) (seen s)
+  pub not-ended : (s : State) → ended net q s ≡ false → packing.Below (resources net) q (level (resources net) q) (room net) (seen s)
   unfolding ended threshold seen
   not-ended s h e l =
-      leb-false _ _ (exists-false (arcs net) (λ e. leb (q * level (arcs net) q * capacity net e) (getD (s .loads) e 0)) h e l)
+      leb-false _ _ (exists-false (resources net) (λ e. leb (q * level (resources net) q * room net e) (getD (s .loads) e 0)) h e l)
 
   pub valid-start : Valid net q (initial net)
   unfolding initial seen start scale
@@ -165,16 +170,16 @@ module _ (net : Network) (q : ℕ) (sound : Sound net q) where
         run =
             packing.Run.start
             (record {
-              length = λ e l. getD-map-upTo (λ e. start (capacity net e)) (arcs net) e l;
-              load = λ e l. zeros (arcs net) e;
+              length = λ e l. map-at start (rooms net) e (rw (rooms-length net) l);
+              load = λ e l. zeros (resources net) e;
               total = refl;
               count = refl;
               bound = refl;
               alpha = refl;
             });
         table = table-start net;
-        lengths = length-map-upTo (λ e. start (capacity net e)) (arcs net);
-        bests = length-replicate (arcs net) 0;
+        lengths = length-map (rooms net) start ∙ rooms-length net;
+        bests = length-replicate (resources net) 0;
         best = unset refl refl;
         which = omega arith;
       }
@@ -188,5 +193,5 @@ module _ (net : Network) (q : ℕ) (sound : Sound net q) where
         below = λ e l.
             let p = program net q sound in
             let coarse : 0 < q = omega (arith, p .precision-low) in
-            omega (arith, zeros (arcs net) e, mul-pos (mul-pos coarse (p .level)) (p .capacity-low e l));
+            omega (arith, zeros (resources net) e, mul-pos (mul-pos coarse (p .level)) (p .capacity-low e l));
       }

@@ -9,8 +9,9 @@ use Rattle.arith.specs.Member.{Member}
 use Rattle.network.specs.Ends.{Ends}
 use Rattle.network.specs.Network.{Network, commodities, source, sink}
 use Rattle.network.specs.Path.{Path, pathLength}
-use Rattle.network.proofs.Shortcuts.{Shortcut, shortcut, shortcut-few}
-use Rattle.method.specs.Choice.{Choice, choiceOf, candidates, choice}
+use Rattle.network.specs.Resources.{uses}
+use Rattle.network.proofs.Shortcuts.{Shortcut, shortcut, shortcut-few, shortcut-length}
+use Rattle.method.specs.Choice.{Choice, usedBy, choiceOf, candidates, choice}
 use Rattle.method.proofs.Candidates.{Earlier, lower, earlier-not-later, Candidate, member-candidate, candidate-member, candidates-sorted}
 use Rattle.method.proofs.Least.{First, first-member, first-le, first-lt, least-first}
 
@@ -23,26 +24,26 @@ shortcut-member net ends i p b k =
     candidate-member net (choiceOf i (k .path)) (record { commodity = b; path = k .leads; short = omega arith })
 
 module _ (net : Network) (l : List ℕ) (c : Choice) (h : choice net l ≡ some c) where
-  is-first : First (λ (d : Choice). pathLength l (d .path)) (candidates net) c
+  is-first : First (λ (d : Choice). pathLength l (usedBy net d)) (candidates net) c
   unfolding choice
-  is-first = least-first (λ d. pathLength l (d .path)) (candidates net) c h
+  is-first = least-first (λ d. pathLength l (usedBy net d)) (candidates net) c h
 
   pub choice-candidate : Candidate net c
   choice-candidate = member-candidate net c (first-member is-first)
 
   -- An earlier candidate is longer.
-  pub choice-earlier : (d : Choice) → Candidate net d → Earlier d c → pathLength l (c .path) < pathLength l (d .path)
+  pub choice-earlier : (d : Choice) → Candidate net d → Earlier d c → pathLength l (usedBy net c) < pathLength l (usedBy net d)
   choice-earlier d k e = first-lt earlier-not-later (candidates-sorted net) is-first d (candidate-member net d k) e
 
   module _ (ends : Ends net) (i : ℕ) (p : List ℕ) (r : Path net (source net i) (sink net i) p) where
-    pub choice-shortest : i < commodities net → pathLength l (c .path) ≤ pathLength l p
+    pub choice-shortest : i < commodities net → pathLength l (usedBy net c) ≤ pathLength l (uses net (source net i) p)
     choice-shortest b =
         let k = shortcut net (source net i) (sink net i) p r in
-        omega (arith, k .no-longer l, first-le is-first (choiceOf i (k .path)) (shortcut-member net ends i p b k))
+        omega (arith, shortcut-length net (source net i) (sink net i) p r k l, first-le is-first (choiceOf i (k .path)) (shortcut-member net ends i p b k))
 
-    pub choice-lowest : i < c .commodity → pathLength l (c .path) < pathLength l p
+    pub choice-lowest : i < c .commodity → pathLength l (usedBy net c) < pathLength l (uses net (source net i) p)
     choice-lowest b =
         let k = shortcut net (source net i) (sink net i) p r in
         let below : i < commodities net = omega (arith, choice-candidate .commodity) in
         let m = shortcut-member net ends i p below k in
-        omega (arith, k .no-longer l, choice-earlier (choiceOf i (k .path)) (member-candidate net (choiceOf i (k .path)) m) (lower b))
+        omega (arith, shortcut-length net (source net i) (sink net i) p r k l, choice-earlier (choiceOf i (k .path)) (member-candidate net (choiceOf i (k .path)) m) (lower b))

@@ -8,12 +8,14 @@ use native.Mathlib.Omega.{arith}
 use lib.ListN.{getD}
 use Rattle.length.specs.Level.{level, threshold}
 use Rattle.length.proofs.Bounds.{threshold-most}
-use Rattle.network.specs.Network.{Network, arcs, capacity}
+use Rattle.network.specs.Network.{Network}
+use Rattle.network.specs.Resources.{resources, rooms, room}
 use Rattle.network.specs.Sound.{Sound}
+use Rattle.network.proofs.Sounds.{resources-within}
 use Rattle.packing.proofs.Count.{count-below}
 use Rattle.packing.proofs.Run as packing
 use Rattle.packing.proofs.Sizes.{length-pos, length-below, volume-below, grown-below, bound-below, alpha-below, total-le}
-use Rattle.method.specs.Choice.{Choice, choice}
+use Rattle.method.specs.Choice.{Choice, usedBy, choice}
 use Rattle.method.specs.Iteration.{State, weight, draw, grown, advance}
 use Rattle.method.specs.Sizes.{Sizes}
 use Rattle.method.proofs.Instance.{seen, iterated, column, after-at}
@@ -22,31 +24,31 @@ use Rattle.method.proofs.Programs.{program}
 use Rattle.method.proofs.Reached.{Valid, Reached, valid-step, fair}
 
 module _ (net : Network) (q : ℕ) (sound : Sound net q) where
-  mark : q * level (arcs net) q ≤ 1472
+  mark : q * level (resources net) q ≤ 1472
   unfolding threshold
   mark =
-      let m = sound .counts .of-arcs in
+      let m = resources-within net q sound in
       let p = sound .counts .precision in
-      threshold-most (arcs net) q (m .least) (m .most) (p .least) (p .most)
+      threshold-most (resources net) q (m .least) (m .most) (p .least) (p .most)
 
   -- m * T iterations are more than enough.
-  pub enough : arcs net * (q * level (arcs net) q - 1) < 0 + arcs net * (q * level (arcs net) q)
+  pub enough : resources net * (q * level (resources net) q - 1) < 0 + resources net * (q * level (resources net) q)
   enough =
       let p = program net q sound in
       let coarse : 0 < q = omega (arith, p .precision-low) in
-      omega (arith, ap (λ x. arcs net * x) (less-one (q * level (arcs net) q) (mul-pos coarse (p .level))), p .resources-low)
+      omega (arith, ap (λ x. resources net * x) (less-one (q * level (resources net) q) (mul-pos coarse (p .level))), p .resources-low)
     where
       less-one : (n : ℕ) → 0 < n → n ≡ n - 1 + 1
       less-one n h = omega arith
 
-  pub reached-count : (s : State) → Reached net q s → s .count < arcs net * threshold (arcs net) q
+  pub reached-count : (s : State) → Reached net q s → s .count < resources net * threshold (resources net) q
   unfolding seen threshold
   reached-count s r = omega (arith, enough, count-below (program net q sound) (r .valid .run) (r .below))
 
   -- From what is known of the loads and the count.
   sizes :
-      (s : State) → Valid net q s → ((e : ℕ) → e < arcs net → getD (s .loads) e 0 < q * level (arcs net) q * capacity net e + capacity net e) →
-      s .count ≤ arcs net * (q * level (arcs net) q - 1) + 1 → Sizes net s
+      (s : State) → Valid net q s → ((e : ℕ) → e < resources net → getD (s .loads) e 0 < q * level (resources net) q * room net e + room net e) →
+      s .count ≤ resources net * (q * level (resources net) q - 1) + 1 → Sizes net s
   unfolding seen weight
   sizes s v loads count =
       let p = program net q sound in
@@ -83,10 +85,10 @@ module _ (net : Network) (q : ℕ) (sound : Sound net q) where
 
   -- The lengths of an iteration as grown, before any halving.
   pub grown-sizes :
-      (s : State) → Valid net q s → (c : Choice) → choice net (s .lengths) ≡ some c → (e : ℕ) → e < arcs net →
-      getD (grown net q (draw (net .capacities) (c .path)) (c .path) (s .lengths)) e 0 < 2 ^ 41
+      (s : State) → Valid net q s → (c : Choice) → choice net (s .lengths) ≡ some c → (e : ℕ) → e < resources net →
+      getD (grown net q (draw (rooms net) (usedBy net c)) (usedBy net c) (s .lengths)) e 0 < 2 ^ 41
   unfolding seen
   grown-sizes s v c h e l =
       let f = fair net q sound s v c h in
       rw (after-at net q c s f e l)
-      (grown-below (program net q sound) (v .run) (λ e. times e (c .path) * draw (net .capacities) (c .path)) (column net q c s f .within) e l)
+      (grown-below (program net q sound) (v .run) (λ e. times e (usedBy net c) * draw (rooms net) (usedBy net c)) (column net q c s f .within) e l)

@@ -1,11 +1,11 @@
--- The flow table at every state of a run: it is a flow of total F, and the sizes of its amounts are within the loads.
+-- The flow table at every state of a run: it is a flow of total F, and the sizes of its amounts and the uses of the limited nodes are within the loads.
 -- Assumes nothing.
 use mathlib.Core.Path.{_≡_, refl, sym, ap, _∙_}
 use mathlib.Core.Bool.{Bool, true, false, cond}
 use mathlib.Core.Logic.{⊎-elim}
 use mathlib.Core.List.{List}
-use Prim.Native.Nat.{ℕ, _+_, _*_, _≤_, _<_}
-use native.Mathlib.Nat.{le-trans, le-of-eq}
+use Prim.Native.Nat.{ℕ, _+_, _*_, _≤_, _<_, max}
+use native.Mathlib.Nat.{le-trans, le-of-eq, mul-le-mul-right}
 use native.Mathlib.Omega.{arith}
 use lib.Dec.{eqb}
 use lib.IntN.{ℤ, pos}
@@ -13,21 +13,24 @@ use lib.ListN.{length, getD, replicate, length-replicate, getD-replicate, List·
 use Rattle.arith.proofs.Order.{le-or-lt}
 use Rattle.arith.proofs.Sums.{sum-cong, sum-zero}
 use Rattle.signed.specs.Signed.{ahead, back, size}
-use Rattle.network.specs.Network.{Network, arcs, commodities, tail, head, source, sink}
+use Rattle.network.specs.Network.{Network, arcs, commodities, tail, head, limited, source, sink}
 use Rattle.network.specs.Path.{Path}
-use Rattle.network.specs.Flow.{Flow, Carries, passing, outflow, inflow, loadOf, leaving, entering}
-use Rattle.method.specs.Choice.{Choice}
+use Rattle.network.specs.Resources.{place, resources, rooms}
+use Rattle.network.specs.Flow.{Flow, Carries, passing, outflow, inflow, loadOf, useOf, leaving, entering}
+use Rattle.method.specs.Choice.{Choice, usedBy}
 use Rattle.method.specs.Iteration.{State, initial, draw, advance}
 use Rattle.method.specs.Answer.{amounts}
-use Rattle.method.proofs.Drawn.{drawn-sized, drawn-within, stays-flow, carries-more}
-use Rattle.method.proofs.Times.{update-length}
+use Rattle.method.proofs.Drawn.{drawn-sized, drawn-load, drawn-use, stays-flow, carries-more}
+use Rattle.method.proofs.Times.{Below, update-length, update-adds}
+use Rattle.method.proofs.Used.{arc-used, node-used}
 
 pub record Table (net : Network) (flow : List ℤ) (loads : List ℕ) (total : ℕ) : Type 0 where
   pub rows : length flow ≡ commodities net * arcs net
-  pub places : length loads ≡ arcs net
+  pub places : length loads ≡ resources net
   pub flows : Flow net (amounts net flow)
   pub carries : Carries net (amounts net flow) total
   pub within : (e : ℕ) → e < arcs net → loadOf net (amounts net flow) e ≤ getD loads e 0
+  pub limits : (v : ℕ) → limited net v ≡ true → useOf net (amounts net flow) v ≤ getD loads (place net v) 0
 
 -- Every place of a table of equal entries, and past its end, reads as such an entry.
 pub all-alike : {A : Type 0} (x : A) (n j : ℕ) → getD (replicate n x) j x ≡ x
@@ -80,30 +83,54 @@ module _ (net : Network) (n : ℕ) where
   unfolding loadOf ahead back
   zero-load e = sum-cong (commodities net) (λ i. size (nothing i e)) (λ i. 0) (λ i l. ap (λ x. size x) (nothing-at i e)) ∙ sum-zero (commodities net)
 
+  -- and uses no node.
+  pub zero-use : (v : ℕ) → useOf net nothing v ≡ 0
+  unfolding useOf
+  zero-use v =
+      sum-cong (commodities net) (λ i. max (inflow net (nothing i) v) (outflow net (nothing i) v)) (λ i. 0)
+      (λ i l. omega (arith, in-zero i v, out-zero i v)) ∙
+      sum-zero (commodities net)
+
 pub table-start : (net : Network) → Table net (initial net .flow) (initial net .loads) (initial net .total)
 unfolding initial
 table-start net =
     record {
       rows = length-replicate (commodities net * arcs net) (pos 0);
-      places = length-replicate (arcs net) 0;
+      places = length-replicate (resources net) 0;
       flows = zero-flow net (commodities net * arcs net);
       carries = zero-carries net (commodities net * arcs net);
       within = λ e l. omega (arith, zero-load net (commodities net * arcs net) e);
+      limits = λ v h. omega (arith, zero-use net (commodities net * arcs net) v);
     }
 
 pub table-step :
     (net : Network) (q : ℕ) (c : Choice) (s : State) → Path net (source net (c .commodity)) (sink net (c .commodity)) (c .path) →
-    c .commodity < commodities net → (source net (c .commodity) ≡ sink net (c .commodity) → ⊥) → Table net (s .flow) (s .loads) (s .total) →
+    Below (resources net) (usedBy net c) → c .commodity < commodities net → (source net (c .commodity) ≡ sink net (c .commodity) → ⊥) → Table net (s .flow) (s .loads) (s .total) →
     Table net (advance net q c s .flow) (advance net q c s .loads) (advance net q c s .total)
 unfolding advance
-table-step net q c s path listed apart w =
-    let g : ℕ = draw (net .capacities) (c .path) in
+table-step net q c s path below listed apart w =
+    let g : ℕ = draw (rooms net) (usedBy net c) in
     let v : ℕ = source net (c .commodity) in
     let t : ℕ = sink net (c .commodity) in
     record {
       rows = drawn-sized net (c .commodity) g listed v (c .path) (s .flow) (w .rows);
-      places = update-length (λ e x. x + g) (c .path) (s .loads) ∙ w .places;
+      places = update-length (λ e x. x + g) (usedBy net c) (s .loads) ∙ w .places;
       flows = stays-flow net (c .commodity) g listed (c .path) path (s .flow) (w .rows) (w .flows);
       carries = carries-more net (c .commodity) g listed (c .path) path (s .flow) (w .rows) (s .total) apart (w .carries);
-      within = drawn-within net (c .commodity) g listed v t (c .path) (s .flow) (s .loads) path (w .rows) (w .places) (w .within);
+      within = λ e l.
+          omega (
+            arith,
+            drawn-load net (c .commodity) g listed v t (c .path) (s .flow) path (w .rows) e l,
+            w .within e l,
+            update-adds g (usedBy net c) (s .loads) e (rw (w .places) below),
+            mul-le-mul-right g (arc-used net e v (c .path)),
+          );
+      limits = λ u h.
+          omega (
+            arith,
+            drawn-use net (c .commodity) g listed (c .path) path (s .flow) (w .rows) u,
+            w .limits u h,
+            update-adds g (usedBy net c) (s .loads) (place net u) (rw (w .places) below),
+            mul-le-mul-right g (node-used net u v (c .path) h),
+          );
     }

@@ -1,6 +1,7 @@
 -- Two arcs of capacity 1, both from node 1 to node 2, with one commodity and the amount 1 on each arc: the network of the worked bounds.
 -- Assumes nothing.
-use mathlib.Core.Path.{_≡_, refl}
+use mathlib.Core.Path.{_≡_, refl, sym, _∙_}
+use mathlib.Core.Bool.{false, true≢false}
 use mathlib.Core.List.{List, [], _∷_}
 use Prim.Native.Nat.{ℕ, zero, suc, _+_, _≤_, _<_}
 use native.Mathlib.Omega.{arith}
@@ -8,7 +9,7 @@ use lib.IntN.{ℤ, pos}
 use lib.ListN.{getD}
 use Rattle.arith.specs.Sum.{sum}
 use Rattle.signed.specs.Signed.{ahead, back}
-use Rattle.network.specs.Network.{Network}
+use Rattle.network.specs.Network.{Network, limited}
 use Rattle.network.specs.Flow.{Flow, Keeps, loadOf}
 use Rattle.network.specs.Ends.{Ends}
 
@@ -18,7 +19,7 @@ both x = x ∷ x ∷ []
 
 -- The commodity goes from s to t.
 abbrev pub net : ℕ → ℕ → Network
-net s t = record { nodes = 2; tails = both 1; heads = both 2; capacities = both 1; marks = both 0; sources = s ∷ []; sinks = t ∷ [] }
+net s t = record { nodes = 2; tails = both 1; heads = both 2; capacities = both 1; marks = both 0; limits = []; sources = s ∷ []; sinks = t ∷ [] }
 
 -- 1 on each arc
 unfoldable pub ones : ℕ → ℕ → ℤ
@@ -50,4 +51,8 @@ module _ (s t : ℕ) where
 
   pub keeps : Keeps (net s t) 1 ones
   unfolding ones loadOf sum ahead back
-  keeps = record { within = λ e b. omega (arith, arc-at 1 e b) }
+  keeps = record { within = λ e b. omega (arith, arc-at 1 e b); limits = λ v b h. absurd (true≢false (sym h ∙ none v)) }
+    where
+      none : (v : ℕ) → limited (net s t) v ≡ false
+      none zero = refl
+      none (suc v) = refl

@@ -11,7 +11,8 @@ use Rattle.arith.proofs.Order.{Compared, below, equal, above, compare}
 use Rattle.network.specs.Ends.{Ends}
 use Rattle.network.specs.Network.{Network, source, sink}
 use Rattle.network.specs.Path.{Path, pathLength}
-use Rattle.method.specs.Choice.{Choice, choiceOf, choice}
+use Rattle.network.specs.Resources.{uses}
+use Rattle.method.specs.Choice.{Choice, usedBy, choiceOf, choice}
 use Rattle.method.specs.Chosen.{Chosen}
 use Rattle.method.specs.Order.{Before}
 use Rattle.method.proofs.Choosing.{chosen}
@@ -24,7 +25,7 @@ module _ (net : Network) (l : List ℕ) where
     not-lower b = omega (arith, y .lowest (c .commodity) (c .path) b (x .path), x .shortest (d .commodity) (d .path) (y .commodity) (y .path))
 
     -- Neither is shorter;
-    as-short : pathLength l (c .path) ≡ pathLength l (d .path)
+    as-short : pathLength l (usedBy net c) ≡ pathLength l (usedBy net d)
     as-short =
         le-antisymm
         (x .shortest (d .commodity) (d .path) (y .commodity) (y .path))
@@ -34,13 +35,16 @@ module _ (net : Network) (l : List ℕ) where
       there : Path net (source net (d .commodity)) (sink net (d .commodity)) (c .path)
       there = subst (λ (i : ℕ). Path net (source net i) (sink net i) (c .path)) q (x .path)
 
+      as-short-there : pathLength l (uses net (source net (d .commodity)) (c .path)) ≡ pathLength l (usedBy net d)
+      as-short-there = subst (λ (i : ℕ). pathLength l (uses net (source net i) (c .path)) ≡ pathLength l (usedBy net d)) q as-short
+
       -- of one commodity neither has more arcs,
       no-more : length (d .path) ≤ length (c .path)
-      no-more = y .fewest (c .path) there as-short
+      no-more = y .fewest (c .path) there as-short-there
 
       -- so neither is before the other.
       not-before : length (c .path) ≡ length (d .path) → Before (c .path) (d .path) → ⊥
-      not-before e b = y .first (c .path) there as-short e b
+      not-before e b = y .first (c .path) there as-short-there e b
 
   pub chosen-unique : (c d : Choice) → Chosen net l c → Chosen net l d → c ≡ d
   chosen-unique c d x y = by-commodity (compare (c .commodity) (d .commodity))

@@ -6,13 +6,15 @@ use Prim.Native.Nat.{ℕ, zero, suc, _+_, _*_, _-_}
 use lib.Dec.{ltb}
 use lib.IntN.{ℤ, pos}
 use lib.ListN.{length, getD, drop, replicate}
-use Rattle.network.specs.Network.{Network, arcs, commodities, capacity}
+use Rattle.network.specs.Network.{Network, arcs, commodities}
+use Rattle.network.specs.Resources.{resources, rooms, room}
 use Rattle.method.specs.declared.Answer.{Answer}
 use Rattle.method.specs.Choice.{choice}
 use Rattle.method.specs.Iteration.{State, initial}
 use Rattle.method.specs.Run.{run}
 
--- Of the arcs 0 to n the lowest-numbered with the greatest load over capacity: b, for n one less than the number of arcs.
+-- Of the resources 0 to n the lowest-numbered with the greatest load over capacity: b, for n one less than the number of resources. So arcs come
+-- first among equals.
 unfoldable pub fullest : List ℕ → List ℕ → ℕ → ℕ
 fullest capacities loads zero = 0
 fullest capacities loads (suc n) =
@@ -39,21 +41,21 @@ unfoldable pub unjoined : Network → Outcome
 unjoined net =
     record {
       flow = replicate (commodities net * arcs net) (pos 0);
-      lengths = replicate (arcs net) 0;
+      lengths = replicate (resources net) 0;
       answer = record { total = 0; capacity = 1; load = 1; bound = 0; alpha = 1; count = 0; best = 0 };
     }
 
 -- The outcome of a run that left the state s.
 unfoldable pub outcomeOf : Network → State → Outcome
 outcomeOf net s =
-    let b = fullest (net .capacities) (s .loads) (arcs net - 1) in
+    let b = fullest (rooms net) (s .loads) (resources net - 1) in
     record {
       flow = s .flow;
       lengths = s .bestLengths;
       answer =
           record {
             total = s .total;
-            capacity = capacity net b;
+            capacity = room net b;
             load = getD (s .loads) b 0;
             bound = s .bound;
             alpha = s .alpha;

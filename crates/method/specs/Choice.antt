@@ -7,6 +7,7 @@ use lib.Dec.{leb, eqb}
 use Rattle.arith.specs.Lists.{upTo, flat, keep}
 use Rattle.network.specs.Network.{Network, arcs, commodities, source, sink}
 use Rattle.network.specs.Path.{follow, pathLength}
+use Rattle.network.specs.Resources.{uses}
 
 -- All lists of just k of the numbers below m, in dictionary order, the numbers compared as numbers.
 unfoldable pub words : ℕ → ℕ → List (List ℕ)
@@ -26,6 +27,10 @@ paths net v t = keep (λ p. endsAt t (follow net v p)) (flat (words (arcs net)) 
 pub record Choice : Type 0 where
   pub commodity : ℕ
   pub path : List ℕ
+
+-- What it uses: the arcs of its path, and the limited nodes on it.
+abbrev pub usedBy : Network → Choice → List ℕ
+usedBy net c = uses net (source net (c .commodity)) (c .path)
 
 -- the choice of path p for commodity i
 abbrev pub choiceOf : ℕ → List ℕ → Choice
@@ -49,4 +54,4 @@ module _ {A : Type 0} where
 -- What is chosen by the lengths l: of all paths of all commodities the first of least length, so the lowest-numbered commodity that has
 -- such a path, of its shortest paths those of fewest arcs, and of these the first in dictionary order; none where no commodity is joined.
 unfoldable pub choice : Network → List ℕ → Option Choice
-choice net l = least (λ c. pathLength l (c .path)) (candidates net)
+choice net l = least (λ c. pathLength l (usedBy net c)) (candidates net)

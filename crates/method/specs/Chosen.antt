@@ -6,8 +6,9 @@ use lib.ListN.{length}
 use Rattle.arith.specs.Distinct.{Distinct}
 use Rattle.network.specs.Network.{Network, commodities, source, sink}
 use Rattle.network.specs.Path.{Path, pathLength}
+use Rattle.network.specs.Resources.{uses}
 use Rattle.network.specs.Visited.{visited}
-use Rattle.method.specs.Choice.{Choice}
+use Rattle.method.specs.Choice.{Choice, usedBy}
 use Rattle.method.specs.Order.{Before}
 
 -- c is the choice by the lengths l, paths having any number of arcs. What the rule chooses is so (proofs/Choosing), and nothing else is
@@ -18,17 +19,19 @@ pub record Chosen (net : Network) (l : List ℕ) (c : Choice) : Type 0 where
   pub path : Path net (source net (c .commodity)) (sink net (c .commodity)) (c .path)
   -- no path of any commodity is shorter
   pub shortest :
-      (i : ℕ) (p : List ℕ) → i < commodities net → Path net (source net i) (sink net i) p → pathLength l (c .path) ≤ pathLength l p
+      (i : ℕ) (p : List ℕ) → i < commodities net → Path net (source net i) (sink net i) p →
+      pathLength l (usedBy net c) ≤ pathLength l (uses net (source net i) p)
   -- lower-numbered commodities have only longer paths
   pub lowest :
-      (i : ℕ) (p : List ℕ) → i < c .commodity → Path net (source net i) (sink net i) p → pathLength l (c .path) < pathLength l p
+      (i : ℕ) (p : List ℕ) → i < c .commodity → Path net (source net i) (sink net i) p →
+      pathLength l (usedBy net c) < pathLength l (uses net (source net i) p)
   -- no path of its commodity that is as short has fewer arcs
   pub fewest :
-      (p : List ℕ) → Path net (source net (c .commodity)) (sink net (c .commodity)) p → pathLength l p ≡ pathLength l (c .path) →
+      (p : List ℕ) → Path net (source net (c .commodity)) (sink net (c .commodity)) p → pathLength l (uses net (source net (c .commodity)) p) ≡ pathLength l (usedBy net c) →
       length (c .path) ≤ length p
   -- and of those with as few none is before it in dictionary order
   pub first :
-      (p : List ℕ) → Path net (source net (c .commodity)) (sink net (c .commodity)) p → pathLength l p ≡ pathLength l (c .path) →
+      (p : List ℕ) → Path net (source net (c .commodity)) (sink net (c .commodity)) p → pathLength l (uses net (source net (c .commodity)) p) ≡ pathLength l (usedBy net c) →
       length p ≡ length (c .path) → Before p (c .path) → ⊥
   -- it visits no node twice, and has at most n - 1 arcs
   pub distinct : Distinct (visited net (source net (c .commodity)) (c .path))

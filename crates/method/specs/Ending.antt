@@ -3,7 +3,8 @@ use mathlib.Core.Path.{_≡_}
 use mathlib.Core.Bool.{true, false}
 use Prim.Native.Nat.{ℕ, _+_, _*_, _-_, _≤_, _<_}
 use Rattle.length.specs.Level.{threshold}
-use Rattle.network.specs.Network.{Network, arcs}
+use Rattle.network.specs.Network.{Network}
+use Rattle.network.specs.Resources.{resources}
 use Rattle.method.specs.Run.{ended, nth, run}
 
 -- The run is its own count of iterations; at the last some load is at the threshold, and at none before; and they are at most
@@ -12,4 +13,4 @@ pub record Ending (net : Network) (q : ℕ) : Type 0 where
   pub steps : run net q ≡ nth net q (run net q .count)
   pub last : ended net q (run net q) ≡ true
   pub before : (j : ℕ) → j < run net q .count → ended net q (nth net q j) ≡ false
-  pub few : run net q .count ≤ arcs net * (threshold (arcs net) q - 1) + 1
+  pub few : run net q .count ≤ resources net * (threshold (resources net) q - 1) + 1

@@ -6,6 +6,7 @@ use lib.IntN.{ℤ, pos}
 use lib.ListN.{length, getD}
 use Rattle.network.specs.Flow.{loadOf}
 use Rattle.network.specs.Network.{Network, arcs, commodities}
+use Rattle.network.specs.Resources.{resources}
 use Rattle.signed.specs.Signed.{size}
 use Rattle.method.specs.Answer.{Outcome, numbersOf, amounts}
 
@@ -17,10 +18,10 @@ Words xs = (j : ℕ) → getD xs j 0 < 2 ^ 64
 abbrev pub Amounts : List ℤ → Type 0
 Amounts xs = (j : ℕ) → size (getD xs j (pos 0)) < 2 ^ 63
 
--- k * m amounts and m lengths. Lengths and the answer's numbers are below 2^64, and so are F * c(b) and each arc's load times c(b).
+-- k * m amounts, and a length for each resource. Lengths and the answer's numbers are below 2^64, and so are F * c(b) and each arc's load times c(b).
 pub record Fits (net : Network) (o : Outcome) : Type 0 where
   pub amounts-count : length (o .flow) ≡ commodities net * arcs net
-  pub lengths-count : length (o .lengths) ≡ arcs net
+  pub lengths-count : length (o .lengths) ≡ resources net
   pub flow : Amounts (o .flow)
   pub lengths : Words (o .lengths)
   pub answer : Words (numbersOf (o .answer))

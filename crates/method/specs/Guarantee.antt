@@ -3,12 +3,14 @@
 -- The definition of a flow is source document 000's, section 3.1.
 use mathlib.Core.Logic.{_↔_}
 use mathlib.Core.Path.{_≡_}
+use mathlib.Core.Bool.{true}
 use Prim.Native.Nat.{ℕ, _+_, _*_, _-_, _≤_, _<_}
 use lib.IntN.{ℤ}
 use Rattle.length.specs.Level.{threshold}
-use Rattle.network.specs.Network.{Network, arcs, commodities, capacity}
-use Rattle.network.specs.Flow.{Flow, Keeps, Carries, AtMost, loadOf}
+use Rattle.network.specs.Network.{Network, arcs, commodities, capacity, limit, limited}
+use Rattle.network.specs.Flow.{Flow, Keeps, Carries, AtMost, loadOf, useOf}
 use Rattle.network.specs.Path.{Joined}
+use Rattle.network.specs.Resources.{resources}
 use Rattle.method.specs.Answer.{Outcome, amounts, unjoined}
 use Rattle.method.specs.Fits.{Fits}
 use Rattle.method.specs.Run.{nth, run}
@@ -19,18 +21,20 @@ pub record Guarantee (net : Network) (q : ℕ) (o : Outcome) : Type 0 where
   -- The table is a flow, and carries F.
   pub flow : Flow net (amounts net (o .flow))
   pub total : Carries net (amounts net (o .flow)) (o .answer .total)
-  -- After its scale c(b) / Y(b) it keeps every capacity.
+  -- After its scale c(b) / Y(b) it keeps every capacity, and every limit.
   pub capacities : (e : ℕ) → e < arcs net → loadOf net (amounts net (o .flow)) e * o .answer .capacity ≤ capacity net e * o .answer .load
+  pub limits :
+      (v : ℕ) → v ≤ net .nodes → limited net v ≡ true → useOf net (amounts net (o .flow)) v * o .answer .capacity ≤ limit net v * o .answer .load
   pub some-load : 0 < o .answer .load
-  -- No flow, whole or fractional, that keeps the capacities carries more than B = D / alpha: d is the common divisor of its amounts.
+  -- No flow, whole or fractional, that keeps the capacities and the limits carries more than B = D / alpha: d is the common divisor of its amounts.
   pub upper : (d : ℕ) (f : ℕ → ℕ → ℤ) → Flow net f → Keeps net d f → AtMost net f d (o .answer .bound) (o .answer .alpha)
   pub some-alpha : 0 < o .answer .alpha
   -- V is at least (1 - 2/q) * B, and, sharper, at least (8q - 9) / (8q + 5) times B.
   pub near : (q - 2) * (o .answer .bound * o .answer .load) ≤ q * (o .answer .total * o .answer .capacity * o .answer .alpha)
   pub nearer :
       (8 * q - 9) * (o .answer .bound * o .answer .load) ≤ (8 * q + 5) * (o .answer .total * o .answer .capacity * o .answer .alpha)
-  -- The count is that of the run's iterations, and at most m * T paths were chosen.
+  -- The count is that of the run's iterations, and at most m * T paths were chosen: m counts the resources.
   pub steps : run net q ≡ nth net q (o .answer .count)
-  pub count : o .answer .count ≤ arcs net * threshold (arcs net) q
+  pub count : o .answer .count ≤ resources net * threshold (resources net) q
   -- Nothing that is handed back is cut.
   pub fits : Fits net o

@@ -6,16 +6,17 @@ use Prim.Native.Nat.{ℕ, suc, _+_, _*_, min}
 use lib.Dec.{leb, ltb}
 use lib.IntN.{ℤ, pos}
 use lib.ListN.{getD, set, replicate}
-use Rattle.arith.specs.Lists.{exists, upTo}
+use Rattle.arith.specs.Lists.{exists}
 use Rattle.arith.specs.Sum.{sum}
 use Rattle.length.specs.Length.{mark, start, growth, halving}
-use Rattle.network.specs.Network.{Network, arcs, commodities, capacity, source}
+use Rattle.network.specs.Network.{Network, arcs, commodities, source}
 use Rattle.network.specs.Path.{forward, beyond, pathLength}
+use Rattle.network.specs.Resources.{resources, rooms, room}
 use Rattle.signed.specs.Signed.{moved}
-use Rattle.method.specs.Choice.{Choice, choice}
+use Rattle.method.specs.Choice.{Choice, usedBy, choice}
 
--- What the method keeps: the lengths; the flow, m amounts for each commodity in turn; the load of each arc, all that was drawn over it; the drawn
--- total F; the count of iterations; and of the least D over alpha so far D, alpha, the iteration that gave it, from 1, and the lengths of that iteration.
+-- What the method keeps: the lengths of the resources; the flow, m amounts for each commodity in turn; the load of each resource, all that was drawn
+-- over it; the drawn total F; the count of iterations; and of the least D over alpha so far D, alpha, the iteration that gave it, from 1, and the lengths of that iteration.
 pub record State : Type 0 where
   pub lengths : List ℕ
   pub flow : List ℤ
@@ -31,27 +32,27 @@ pub record State : Type 0 where
 unfoldable pub initial : Network → State
 initial net =
     record {
-      lengths = map (λ e. start (capacity net e)) (upTo (arcs net));
+      lengths = map start (rooms net);
       flow = replicate (commodities net * arcs net) (pos 0);
-      loads = replicate (arcs net) 0;
+      loads = replicate (resources net) 0;
       total = 0;
       count = 0;
       bound = 1;
       alpha = 0;
       best = 0;
-      bestLengths = replicate (arcs net) 0;
+      bestLengths = replicate (resources net) 0;
     }
 
--- D, the sum over all arcs of capacity times length.
+-- D, the sum over all resources of capacity times length.
 unfoldable pub weight : Network → List ℕ → ℕ
-weight net l = sum (arcs net) (λ e. capacity net e * getD l e 0)
+weight net l = sum (resources net) (λ e. room net e * getD l e 0)
 
--- The least of g and the capacities of the arcs of a list.
+-- The least of g and the capacities of the resources of a list.
 unfoldable pub lowest : List ℕ → ℕ → List ℕ → ℕ
 lowest capacities g [] = g
 lowest capacities g (e ∷ p) = lowest capacities (min g (getD capacities e 0)) p
 
--- The draw g: the least capacity on the path.
+-- The draw g: the least capacity of what the path uses.
 unfoldable pub draw : List ℕ → List ℕ → ℕ
 draw capacities [] = 0
 draw capacities (e ∷ p) = lowest capacities (getD capacities e 0) p
@@ -70,25 +71,26 @@ unfoldable pub pushed : Network → ℕ → ℕ → ℕ → List ℕ → List �
 pushed net base g v [] flow = flow
 pushed net base g v (e ∷ p) flow = pushed net base g (beyond net v e) p (crossed net base g v e flow)
 
--- The lengths with those of the path grown.
+-- The lengths with those of what the path uses grown.
 unfoldable pub grown : Network → ℕ → ℕ → List ℕ → List ℕ → List ℕ
-grown net q g p l = update (λ e x. growth q g (capacity net e) x) p l
+grown net q g p l = update (λ e x. growth q g (room net e) x) p l
 
 -- Every length halved once if some length is at the mark.
 unfoldable pub settled : Network → List ℕ → List ℕ
-settled net l = cond (exists (arcs net) (λ e. leb mark (getD l e 0))) (map halving l) l
+settled net l = cond (exists (resources net) (λ e. leb mark (getD l e 0))) (map halving l) l
 
 -- The state after an iteration that chose c. A smaller D over alpha replaces the least so far, an equal one does not.
 unfoldable pub advance : Network → ℕ → Choice → State → State
 advance net q c s =
-    let g = draw (net .capacities) (c .path) in
-    let a = pathLength (s .lengths) (c .path) in
+    let u = usedBy net c in
+    let g = draw (rooms net) u in
+    let a = pathLength (s .lengths) u in
     let d = weight net (s .lengths) in
     let better = ltb (d * s .alpha) (s .bound * a) in
     record {
-      lengths = settled net (grown net q g (c .path) (s .lengths));
+      lengths = settled net (grown net q g u (s .lengths));
       flow = pushed net (c .commodity * arcs net) g (source net (c .commodity)) (c .path) (s .flow);
-      loads = update (λ e x. x + g) (c .path) (s .loads);
+      loads = update (λ e x. x + g) u (s .loads);
       total = s .total + g;
       count = suc (s .count);
       bound = cond better d (s .bound);

@@ -1,16 +1,17 @@
--- The run: iterations until some arc's load is at the threshold. Document 01, "One choice of route".
+-- The run: iterations until some resource's load is at the threshold. Document 01, "One choice of route".
 use mathlib.Core.Bool.{Bool, true, false}
 use Prim.Native.Nat.{ℕ, zero, suc, _*_}
 use lib.Dec.{leb}
 use lib.ListN.{getD}
 use Rattle.arith.specs.Lists.{exists}
 use Rattle.length.specs.Level.{threshold}
-use Rattle.network.specs.Network.{Network, arcs, capacity}
+use Rattle.network.specs.Network.{Network}
+use Rattle.network.specs.Resources.{resources, room}
 use Rattle.method.specs.Iteration.{State, initial, iteration}
 
--- Some arc's load is at least T times its capacity.
+-- Some resource's load is at least T times its capacity.
 unfoldable pub ended : Network → ℕ → State → Bool
-ended net q s = exists (arcs net) (λ e. leb (threshold (arcs net) q * capacity net e) (getD (s .loads) e 0))
+ended net q s = exists (resources net) (λ e. leb (threshold (resources net) q * room net e) (getD (s .loads) e 0))
 
 -- The state after j iterations, whatever ends the run.
 unfoldable pub nth : Network → ℕ → ℕ → State
@@ -26,4 +27,4 @@ runs net q (suc n) s =
 
 -- The whole run. That m * T iterations are enough, so that it ends by its own rule, is shown, not assumed.
 unfoldable pub run : Network → ℕ → State
-run net q = runs net q (arcs net * threshold (arcs net) q) (initial net)
+run net q = runs net q (resources net * threshold (resources net) q) (initial net)

@@ -11,3 +11,11 @@ pub struct Answer {
     pub count: u64,
     pub best: u64,
 }
+
+// What an iteration chose: the commodity, how many arcs its path has, how many resources it uses, the arcs among them, and alpha, their length.
+pub struct Selected {
+    pub commodity: usize,
+    pub arcs: usize,
+    pub used: usize,
+    pub alpha: u64,
+}

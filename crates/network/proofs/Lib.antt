@@ -7,8 +7,10 @@ pub mod Each
 pub mod Example
 pub mod Faults
 pub mod First
+pub mod Given
 pub mod HostNumber
 pub mod Leads
+pub mod Limits
 pub mod Loops
 pub mod Nodes
 pub mod Once
@@ -16,9 +18,12 @@ pub mod OneCommodity
 pub mod Or
 pub mod Parts
 pub mod Paths
+pub mod Plain
 pub mod Potential
+pub mod Resources
 pub mod Search
 pub mod Shortcuts
 pub mod Sizes
 pub mod Sounds
+pub mod Uses
 pub mod Walked

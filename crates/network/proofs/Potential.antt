@@ -10,11 +10,13 @@ use Rattle.network.specs.Network.{Network, arcs, tail, head}
 use Rattle.network.specs.Flow.{outflow, inflow}
 use Rattle.network.specs.Path.{leads}
 
--- A potential by the lengths l: alpha at s, 0 at t, and nowhere does it fall along an arc by more than the arc's length.
-pub record Potential (net : Network) (l : ℕ → ℕ) (s t alpha : ℕ) (pi : ℕ → ℕ) : Type 0 where
+-- A node with a length is passed through like an arc, so it has two potentials: pi on entering and rho on leaving. By the lengths l of the arcs and w
+-- of the nodes they fall along no arc and through no node by more than its length; at s the first is alpha, at t the second is 0.
+pub record Potential (net : Network) (l w : ℕ → ℕ) (s t alpha : ℕ) (pi rho : ℕ → ℕ) : Type 0 where
   pub top : pi s ≡ alpha
-  pub bottom : pi t ≡ 0
-  pub feasible : (v e w : ℕ) → leads net v e ≡ some w → pi v ≤ l e + pi w
+  pub bottom : rho t ≡ 0
+  pub through : (v : ℕ) → 1 ≤ v → v ≤ net .nodes → pi v ≤ w v + rho v
+  pub along : (v e u : ℕ) → leads net v e ≡ some u → rho v ≤ l e + pi u
 
 -- What enters a node leaves it, but at s and t, and nothing goes back but where an arc leads back: Flow, for one commodity.
 pub record Balanced (net : Network) (f : ℕ → ℤ) (s t : ℕ) : Type 0 where

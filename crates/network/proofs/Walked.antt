@@ -16,6 +16,7 @@ three =
       heads = 2 ∷ 3 ∷ 3 ∷ [];
       capacities = 1 ∷ 1 ∷ 1 ∷ [];
       marks = 0 ∷ 2 ∷ 0 ∷ [];
+      limits = [];
       sources = 1 ∷ [];
       sinks = 3 ∷ [];
     }

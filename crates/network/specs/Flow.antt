@@ -2,13 +2,13 @@
 -- way. Source document 000, section 3.1: the directed case, and for reversible arcs the undirected one.
 -- A flow in fractions is one in whole amounts over a common divisor d: it keeps the capacities where the whole amounts keep d times them.
 use mathlib.Core.Path.{_≡_}
-use mathlib.Core.Bool.{false, cond}
-use Prim.Native.Nat.{ℕ, _+_, _*_, _≤_, _<_}
+use mathlib.Core.Bool.{true, false, cond}
+use Prim.Native.Nat.{ℕ, _+_, _*_, _≤_, _<_, max}
 use lib.Dec.{eqb}
 use lib.IntN.{ℤ}
 use Rattle.arith.specs.Sum.{sum}
 use Rattle.signed.specs.Signed.{ahead, back, size}
-use Rattle.network.specs.Network.{Network, arcs, commodities, tail, head, capacity, reversible, source, sink}
+use Rattle.network.specs.Network.{Network, arcs, commodities, tail, head, capacity, reversible, limit, limited, source, sink}
 
 -- What the first m arcs have at node v, of the numbers x e: those of the arcs whose end there is v.
 unfoldable pub passing : ℕ → (ℕ → ℕ) → (ℕ → ℕ) → ℕ → ℕ
@@ -33,9 +33,14 @@ pub record Flow (net : Network) (f : ℕ → ℕ → ℤ) : Type 0 where
 unfoldable pub loadOf : Network → (ℕ → ℕ → ℤ) → ℕ → ℕ
 loadOf net f e = sum (commodities net) (λ i. size (f i e))
 
--- Keeping d times the capacities.
+-- All commodities' use of node v together: for each the larger of what it brings in and what it takes out. Request C-17.
+unfoldable pub useOf : Network → (ℕ → ℕ → ℤ) → ℕ → ℕ
+useOf net f v = sum (commodities net) (λ i. max (inflow net (f i) v) (outflow net (f i) v))
+
+-- Keeping d times the capacities, and d times the limits.
 pub record Keeps (net : Network) (d : ℕ) (f : ℕ → ℕ → ℤ) : Type 0 where
   pub within : (e : ℕ) → e < arcs net → loadOf net f e ≤ d * capacity net e
+  pub limits : (v : ℕ) → v ≤ net .nodes → limited net v ≡ true → useOf net f v ≤ d * limit net v
 
 -- What leaves the sources, each commodity's own amount at its own source.
 unfoldable pub leaving : Network → (ℕ → ℕ → ℤ) → ℕ

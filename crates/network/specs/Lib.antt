@@ -1,9 +1,12 @@
 pub mod Ends
 pub mod Flow
+pub mod Given
 pub mod Network
+pub mod Onward
 pub mod Parts
 pub mod Path
 pub mod Refusal
+pub mod Resources
 pub mod Sound
 pub mod Verdict
 pub mod Visited

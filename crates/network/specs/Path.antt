@@ -34,7 +34,7 @@ Path net v t p = follow net v p ≡ some t
 abbrev pub Joined : Network → ℕ → Type 0
 Joined net i = (p : List ℕ) × Path net (source net i) (sink net i) p
 
--- The length of a path: the sum of the lengths l of its arcs.
+-- The length of a list of arcs, or of what a path uses: the sum of their lengths l.
 unfoldable pub pathLength : List ℕ → List ℕ → ℕ
 pathLength l [] = 0
 pathLength l (e ∷ p) = getD l e 0 + pathLength l p

@@ -12,6 +12,8 @@ pub enum Refusal {
     Layout(u64),
     LongFile,
     FullCount,
+    Limit(u64),
+    Resources,
 }
 
 pub enum Verdict {

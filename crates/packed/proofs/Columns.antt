@@ -7,7 +7,7 @@ use borrow.Rule.Slice.PartMut.{same-len-mid, mid-len, drop-put, postOf}
 use lib.ListN.{length, getD, take, drop, length-take, length-drop, take-append-drop}
 use lib.Seq.{length-take-le, take-at, drop-at, take-append-le, drop-append-le, drop-drop, getD-take, getD-drop}
 use Rattle.network.specs.Network.{arcs, commodities, tail, head, capacity, source, sink}
-use Rattle.packed.specs.Packed.{part, put, tailsFrom, headsFrom, capacitiesFrom, sourcesFrom, sinksFrom, marksFrom, netIn, Packed}
+use Rattle.packed.specs.Packed.{part, put, tailsFrom, headsFrom, capacitiesFrom, sourcesFrom, sinksFrom, marksFrom, limitsFrom, netIn, Packed}
 use Rattle.packed.specs.declared.Shape.{Shape}
 
 module _ (a n : ℕ) (xs : List ℕ) where
@@ -61,6 +61,10 @@ module _ {s : Shape} {xs : List ℕ} (p : Packed s xs) where
   pub marks-length : length (netIn s xs .marks) ≡ arcs (netIn s xs)
   unfolding netIn
   marks-length = part-length marksFrom (s .arcs) xs (omega (arith, p .few-arcs, p .places)) ∙ sym arcs-is
+
+  pub limits-length : length (netIn s xs .limits) ≡ s .limits
+  unfolding netIn
+  limits-length = part-length limitsFrom (s .limits) xs (omega (arith, p .few-nodes, p .few-limits, p .places))
 
   pub commodities-is : commodities (netIn s xs) ≡ s .commodities
   unfolding netIn

@@ -23,13 +23,13 @@ use Rattle.paths.proofs.Lowest.{lowest}
 way-or-not : (net : Network) (l d : List ℕ) (v x e : ℕ) → Way net l d v x e ⊎ (Way net l d v x e → ⊥)
 way-or-not net l d v x e = by-end (leads net v e) refl
   where
-    by-test : (w : ℕ) → leads net v e ≡ some w → (b : Bool) → eqb (over l d e w) x ≡ b → Way net l d v x e ⊎ (Way net l d v x e → ⊥)
+    by-test : (w : ℕ) → leads net v e ≡ some w → (b : Bool) → eqb (over net l d e w) x ≡ b → Way net l d v x e ⊎ (Way net l d v x e → ⊥)
     by-test w h true q = inl (record { to = w; leads-to = h; long = eqb-true _ x q })
-    by-test w h false q = inr (λ y. eqb-false _ x q (ap (over l d e) (Option·some-injective w (y .to) (sym h ∙ y .leads-to)) ∙ y .long))
+    by-test w h false q = inr (λ y. eqb-false _ x q (ap (over net l d e) (Option·some-injective w (y .to) (sym h ∙ y .leads-to)) ∙ y .long))
 
     by-end : (o : Option ℕ) → leads net v e ≡ o → Way net l d v x e ⊎ (Way net l d v x e → ⊥)
     by-end none h = inr (λ y. Option·none-ne-some (y .to) (sym h ∙ y .leads-to))
-    by-end (some w) h = by-test w h (eqb (over l d e w) x) refl
+    by-end (some w) h = by-test w h (eqb (over net l d e w) x) refl
 
 module _ {net : Network} {l d : List ℕ} {t far : ℕ} (ends : Ends net) (D : Distances net l d t far) where
   -- one step, where there is a walk from each nearer node

@@ -1,3 +1,4 @@
+pub mod Collecting
 pub mod Descent
 pub mod Enlisting
 pub mod Fars
@@ -7,6 +8,7 @@ pub mod Labels
 pub mod Listings
 pub mod Lower
 pub mod Lowest
+pub mod NodeLengths
 pub mod Passing
 pub mod Relaxing
 pub mod Rooms

@@ -11,7 +11,7 @@ use lib.Seq.{getD-set-same}
 use borrow.Author.Tests.{ltb-true, ltb-false, lt-ltb, le-ltb}
 use Rattle.arith.proofs.Sums.{sum-lt}
 use Rattle.network.specs.Network.{Network}
-use Rattle.paths.specs.Distances.{over}
+use Rattle.paths.specs.Distances.{via}
 use Rattle.paths.specs.Relax.{shortens, relaxed, Relaxed}
 use Rattle.paths.specs.Searching.{total}
 
@@ -23,77 +23,77 @@ set-entry (a ∷ d) zero x (suc u) = inl refl
 set-entry (a ∷ d) (suc v) x zero = inl refl
 set-entry (a ∷ d) (suc v) x (suc u) = ⊎-elim inl (λ (h : (u ≡ v) × (getD (set d v x) u 0 ≡ x)). inr (ap suc (h .0), h .1)) (set-entry d v x u)
 
--- The way x over the arc is compared with the distance of where it starts, and stored there if it is nearer.
-module _ {l d : List ℕ} {u e w x : ℕ} (way : x ≡ over l d e w) where
-  pub relaxes : x < getD d u 0 → Relaxed l u e w d true (set d u x)
+-- The way y over the arc is compared with the distance of where it starts, and stored there if it is nearer.
+module _ {l d : List ℕ} {x u e w y : ℕ} (way : y ≡ via l d x e w) where
+  pub relaxes : y < getD d u 0 → Relaxed l x u e w d true (set d u y)
   unfolding shortens relaxed
-  relaxes b = rw way (let t = lt-ltb (over l d e w) (getD d u 0) (rw way at b) in record { told = sym t; entries = rw t refl })
+  relaxes b = rw way (let t = lt-ltb (via l d x e w) (getD d u 0) (rw way at b) in record { told = sym t; entries = rw t refl })
 
-  pub relaxes-not : getD d u 0 ≤ x → Relaxed l u e w d false d
+  pub relaxes-not : getD d u 0 ≤ y → Relaxed l x u e w d false d
   unfolding shortens relaxed
-  relaxes-not b = let t = le-ltb (over l d e w) (getD d u 0) (rw way at b) in record { told = sym t; entries = rw t refl }
+  relaxes-not b = let t = le-ltb (via l d x e w) (getD d u 0) (rw way at b) in record { told = sym t; entries = rw t refl }
 
-module _ (l d : List ℕ) (u e w : ℕ) where
+module _ (l d : List ℕ) (x u e w : ℕ) where
   -- What holds of the distances as they were, where the arc does not shorten, and of those with the nearer way, where it does.
   pub relaxed-cases :
-      (P : List ℕ → Type 0) → (getD d u 0 ≤ over l d e w → P d) → (over l d e w < getD d u 0 → P (set d u (over l d e w))) → P (relaxed l d u e w)
+      (P : List ℕ → Type 0) → (getD d u 0 ≤ via l d x e w → P d) → (via l d x e w < getD d u 0 → P (set d u (via l d x e w))) → P (relaxed l d x u e w)
   unfolding relaxed shortens
-  relaxed-cases P same shorter = by-test (shortens l d u e w) refl
+  relaxed-cases P same shorter = by-test (shortens l d x u e w) refl
     where
-      by-test : (b : Bool) → shortens l d u e w ≡ b → P (cond b (set d u (over l d e w)) d)
+      by-test : (b : Bool) → shortens l d x u e w ≡ b → P (cond b (set d u (via l d x e w)) d)
       by-test true h = shorter (ltb-true _ _ h)
       by-test false h = same (ltb-false _ _ h)
 
-  pub relaxed-size : length (relaxed l d u e w) ≡ length d
-  relaxed-size = relaxed-cases (λ x. length x ≡ length d) (λ h. refl) (λ h. length-set d u (over l d e w))
+  pub relaxed-size : length (relaxed l d x u e w) ≡ length d
+  relaxed-size = relaxed-cases (λ y. length y ≡ length d) (λ h. refl) (λ h. length-set d u (via l d x e w))
 
-  -- In the distances x afterwards, v is where the arc starts and has the nearer way.
-  pub record Shortened (x : List ℕ) (v : ℕ) : Type 0 where
+  -- In the distances y afterwards, v is where the arc starts and has the nearer way.
+  pub record Shortened (y : List ℕ) (v : ℕ) : Type 0 where
     pub at : v ≡ u
-    pub shorter : over l d e w < getD d v 0
-    pub now : getD x v 0 ≡ over l d e w
+    pub shorter : via l d x e w < getD d v 0
+    pub now : getD y v 0 ≡ via l d x e w
 
-  pub relaxed-entry : (v : ℕ) → (getD (relaxed l d u e w) v 0 ≡ getD d v 0) ⊎ Shortened (relaxed l d u e w) v
-  relaxed-entry v = relaxed-cases (λ x. (getD x v 0 ≡ getD d v 0) ⊎ Shortened x v) (λ h. inl refl) stored
+  pub relaxed-entry : (v : ℕ) → (getD (relaxed l d x u e w) v 0 ≡ getD d v 0) ⊎ Shortened (relaxed l d x u e w) v
+  relaxed-entry v = relaxed-cases (λ y. (getD y v 0 ≡ getD d v 0) ⊎ Shortened y v) (λ h. inl refl) stored
     where
-      stored : over l d e w < getD d u 0 → (getD (set d u (over l d e w)) v 0 ≡ getD d v 0) ⊎ Shortened (set d u (over l d e w)) v
+      stored : via l d x e w < getD d u 0 → (getD (set d u (via l d x e w)) v 0 ≡ getD d v 0) ⊎ Shortened (set d u (via l d x e w)) v
       stored h =
           ⊎-elim
           inl
-          (λ (q : (v ≡ u) × (getD (set d u (over l d e w)) v 0 ≡ over l d e w)).
+          (λ (q : (v ≡ u) × (getD (set d u (via l d x e w)) v 0 ≡ via l d x e w)).
           inr (record { at = q .0; shorter = rw (q .0) h; now = q .1 }))
-          (set-entry d u (over l d e w) v)
+          (set-entry d u (via l d x e w) v)
 
-  pub relaxed-le : (v : ℕ) → getD (relaxed l d u e w) v 0 ≤ getD d v 0
+  pub relaxed-le : (v : ℕ) → getD (relaxed l d x u e w) v 0 ≤ getD d v 0
   relaxed-le v =
       ⊎-elim
-      (λ (h : getD (relaxed l d u e w) v 0 ≡ getD d v 0). omega arith)
-      (λ (h : Shortened (relaxed l d u e w) v). omega arith)
+      (λ (h : getD (relaxed l d x u e w) v 0 ≡ getD d v 0). omega arith)
+      (λ (h : Shortened (relaxed l d x u e w) v). omega arith)
       (relaxed-entry v)
 
   -- Where the arc does not shorten, nothing changes.
-  pub relaxed-same : shortens l d u e w ≡ false → relaxed l d u e w ≡ d
+  pub relaxed-same : shortens l d x u e w ≡ false → relaxed l d x u e w ≡ d
   unfolding relaxed
   relaxed-same h = rw h
 
   -- Afterwards the arc does not shorten the distance that its start had.
-  pub relaxed-over : u < length d → getD (relaxed l d u e w) u 0 ≤ over l d e w
+  pub relaxed-over : u < length d → getD (relaxed l d x u e w) u 0 ≤ via l d x e w
   relaxed-over b =
       relaxed-cases
-      (λ x. getD x u 0 ≤ over l d e w)
+      (λ y. getD y u 0 ≤ via l d x e w)
       (λ h. h)
-      (λ h. omega (arith, getD-set-same d u (over l d e w) 0 b))
+      (λ h. omega (arith, getD-set-same d u (via l d x e w) 0 b))
 
   -- Where the arc shortens, its start is nearer, and the sum of all entries less.
   pub relaxed-falls :
-      (net : Network) → u ≤ net .nodes → u < length d → shortens l d u e w ≡ true → total net (relaxed l d u e w) < total net d
+      (net : Network) → u ≤ net .nodes → u < length d → shortens l d x u e w ≡ true → total net (relaxed l d x u e w) < total net d
   unfolding shortens total
   relaxed-falls net a b h =
       sum-lt
       (suc (net .nodes))
-      (λ v. getD (relaxed l d u e w) v 0)
+      (λ v. getD (relaxed l d x u e w) v 0)
       (λ v. getD d v 0)
       u
       (omega arith)
       (λ v c. relaxed-le v)
-      (omega (arith, relaxed-over b, ltb-true (over l d e w) (getD d u 0) h))
+      (omega (arith, relaxed-over b, ltb-true (via l d x e w) (getD d u 0) h))

@@ -11,20 +11,25 @@ use lib.ListN.{length, getD, List·getD-eq-default}
 use Rattle.arith.proofs.Order.{le-or-lt}
 use Rattle.network.specs.Network.{Network, commodities}
 use Rattle.network.specs.Path.{leads}
+use Rattle.network.specs.Resources.{resources, nodeLength}
 use Rattle.paths.specs.Far.{far}
 use Rattle.paths.specs.Graph.{Fit, Capped}
 use Rattle.paths.specs.Relax.{Relaxing}
 use Rattle.network.proofs.Leads.{leads-arc, leads-from, leads-into}
+use Rattle.network.proofs.Resources.{arcs-le}
+use Rattle.paths.proofs.NodeLengths.{node-small}
 
 pub relaxing :
-    {net : Network} {l d : List ℕ} (u e w : ℕ) → Fit net l (length d) → Capped net d far → leads net u e ≡ some w → Relaxing l d u e w
-relaxing {net} u e w f c h =
+    {net : Network} {l d : List ℕ} (u e w : ℕ) → Fit net l (length d) → Capped net d far → leads net u e ≡ some w → Relaxing l d (nodeLength net l w) u e w
+relaxing {net} {l} u e w f c h =
+    let into = leads-into net u e w h (f .ends) in
+    let arc : e < resources net = omega (arith, leads-arc net u e w h, arcs-le net) in
     record {
       crossing =
           record {
-            arc = omega (arith, leads-arc net u e w h, f .lengths);
-            end = omega (arith, leads-into net u e w h (f .ends), f .room);
-            fits = omega (arith, f .small e (leads-arc net u e w h), c w (leads-into net u e w h (f .ends) .1));
+            arc = omega (arith, f .lengths);
+            end = omega (arith, f .room);
+            fits = omega (arith, f .small e arc, node-small net l (f .small) w (into .1), c w (into .1));
           };
       start = omega (arith, leads-from net u e w h (f .ends), f .room);
     }

@@ -47,5 +47,5 @@ module _ {net : Network} {l : List ℕ} {t : ℕ} {d front listed : List ℕ} {s
         fit = S .fit;
         labels = S .labels;
         listing = S .listing;
-        feasible = λ u e w h any. S .feasible u e w h (λ q. let r = I .whole v e u b (rw q at h) in (r .0, omega (arith, r .1 .below), r .1));
+        feasible = λ u e w h any. S .feasible u e w h (λ q. let r = I .arcs .whole v e u b (rw q at h) in (r .0, omega (arith, r .1 .below), r .1));
       }

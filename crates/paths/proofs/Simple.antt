@@ -9,7 +9,7 @@ use Rattle.arith.specs.Distinct.{Distinct}
 use Rattle.network.specs.Ends.{Node, Ends}
 use Rattle.network.specs.Network.{Network}
 use Rattle.network.specs.Visited.{visited}
-use Rattle.network.proofs.Cuts.{cut-fewer, cut-no-longer}
+use Rattle.network.proofs.Cuts.{cut-path, cut-fewer, cut-onward}
 use Rattle.network.proofs.Loops.{Loop, distinct-or-loop}
 use Rattle.network.proofs.Nodes.{distinct-path-few}
 use Rattle.paths.specs.Distances.{Distances}
@@ -26,8 +26,8 @@ module _ {net : Network} {l d : List ℕ} {t far v : ℕ} {p : List ℕ} where
       (λ (k : Loop net v t p). absurd (omega (
         arith,
         cut-fewer net v t p k,
-        cut-no-longer net v t p k l,
-        distance-lower D v (k .front ++ k .back) (k .cut),
+        cut-onward net v t p k l,
+        distance-lower D v (k .front ++ k .back) (cut-path net v t p k),
         walk-key (D .sink) w,
       )))
       (distinct-or-loop net v t p (walk-path w))

@@ -13,6 +13,7 @@ use lib.ListN.{length, getD}
 use borrow.Author.Tests.{eqb-true, eqb-false}
 use Rattle.network.specs.Network.{Network}
 use Rattle.network.specs.Path.{leads}
+use Rattle.network.specs.Resources.{nodeLength}
 use Rattle.paths.specs.Distances.{over}
 use Rattle.index.specs.Index.{arcAt, endAt}
 use Rattle.paths.specs.Listing.{Enlisted}
@@ -22,36 +23,38 @@ use Rattle.paths.proofs.Labels.{labels-relaxed}
 use Rattle.network.proofs.Leads.{leads-from}
 use Rattle.paths.proofs.Relaxing.{Shortened, relaxed-size, relaxed-entry, relaxed-le, relaxed-same, relaxed-over, relaxed-falls}
 
-module _ {net : Network} {into l : List ℕ} {t v p u e : ℕ} {d front listed : List ℕ} {size : ℕ}
-    (S : Searching net l t (Passed into v p) d front listed size) (arc : arcAt into p ≡ e) (end : endAt into p ≡ u) (h : leads net u e ≡ some v) where
+module _ {net : Network} {into l : List ℕ} {t v a p u e : ℕ} {d front listed : List ℕ} {size : ℕ}
+    (S : Searching net l t (Passed into v p) d front listed size) (own : a ≡ nodeLength net l v) (arc : arcAt into p ≡ e) (end : endAt into p ≡ u) (h : leads net u e ≡ some v) where
   start : u < length d
   start = omega (arith, leads-from net u e v h (S .fit .ends), S .fit .room)
 
   -- An arc is relaxed: no arc can shorten that could not before, but one into a node whose entry has changed; and that node is on the list.
   feasible-relaxed :
       (flags : List ℕ) → ((x : ℕ) → getD flags x 0 ≡ 0 → getD listed x 0 ≡ 0) →
-      ((x : ℕ) → getD flags x 0 ≡ 0 → getD (relaxed l d u e v) x 0 ≡ getD d x 0) →
+      ((x : ℕ) → getD flags x 0 ≡ 0 → getD (relaxed l d a u e v) x 0 ≡ getD d x 0) →
       (x j y : ℕ) → leads net x j ≡ some y → Passed into v (p + 1) x j y → getD flags y 0 ≡ 0 →
-      getD (relaxed l d u e v) x 0 ≤ over l (relaxed l d u e v) j y
+      getD (relaxed l d a u e v) x 0 ≤ over net l (relaxed l d a u e v) j y
   feasible-relaxed flags still same x j y led passed off = by-test (eqb y v) refl
     where
-      before : Passed into v p x j y → getD (relaxed l d u e v) x 0 ≤ over l (relaxed l d u e v) j y
+      before : Passed into v p x j y → getD (relaxed l d a u e v) x 0 ≤ over net l (relaxed l d a u e v) j y
       before was =
-          omega (arith, relaxed-le l d u e v x, same y off, S .feasible x j y led was (still y off))
+          omega (arith, relaxed-le l d a u e v x, same y off, S .feasible x j y led was (still y off))
 
       -- at the arc itself
-      at-arc : y ≡ v → j ≡ e → x ≡ u → getD (relaxed l d u e v) x 0 ≤ over l (relaxed l d u e v) j y
-      at-arc a b c =
+      at-arc : y ≡ v → j ≡ e → x ≡ u → getD (relaxed l d a u e v) x 0 ≤ over net l (relaxed l d a u e v) j y
+      at-arc q b c =
           omega (
             arith,
-            relaxed-over l d u e v start,
+            own,
+            relaxed-over l d a u e v start,
             same y off,
-            ap (λ i. getD (relaxed l d u e v) i 0) c,
+            ap (λ i. getD (relaxed l d a u e v) i 0) c,
             ap (λ i. getD l i 0) b,
-            ap (λ i. getD d i 0) a,
+            ap (λ i. getD d i 0) q,
+            ap (nodeLength net l) q,
           )
 
-      by-test : (b : Bool) → eqb y v ≡ b → getD (relaxed l d u e v) x 0 ≤ over l (relaxed l d u e v) j y
+      by-test : (b : Bool) → eqb y v ≡ b → getD (relaxed l d a u e v) x 0 ≤ over net l (relaxed l d a u e v) j y
       by-test false q = before (λ r. absurd (eqb-false y v q r))
       by-test true q =
           let r = passed (eqb-true y v q) in
@@ -62,9 +65,9 @@ module _ {net : Network} {into l : List ℕ} {t v p u e : ℕ} {d front listed :
 
   -- It does not shorten: all is as before.
   pub searching-still :
-      {x : List ℕ} → shortens l d u e v ≡ false → x ≡ relaxed l d u e v → Spread net l t (Passed into v (p + 1)) d size x front listed size
+      {x : List ℕ} → shortens l d a u e v ≡ false → x ≡ relaxed l d a u e v → Spread net l t (Passed into v (p + 1)) d size x front listed size
   searching-still same q =
-      rw (q ∙ relaxed-same l d u e v same)
+      rw (q ∙ relaxed-same l d a u e v same)
       (record {
         searching =
             record {
@@ -72,32 +75,32 @@ module _ {net : Network} {into l : List ℕ} {t v p u e : ℕ} {d front listed :
               labels = S .labels;
               listing = S .listing;
               feasible =
-                  rw (relaxed-same l d u e v same) at
-                  (feasible-relaxed listed (λ x q. q) (λ x q. ap (λ y. getD y x 0) (relaxed-same l d u e v same)));
+                  rw (relaxed-same l d a u e v same) at
+                  (feasible-relaxed listed (λ x q. q) (λ x q. ap (λ y. getD y x 0) (relaxed-same l d a u e v same)));
             };
         weight = omega arith;
       })
 
   -- It does: its start is on the list.
   pub searching-spread :
-      {x front′ listed′ : List ℕ} {r : ℕ} → shortens l d u e v ≡ true → x ≡ relaxed l d u e v → Enlisted (net .nodes) listed size u front′ listed′ r →
+      {x front′ listed′ : List ℕ} {r : ℕ} → shortens l d a u e v ≡ true → x ≡ relaxed l d a u e v → Enlisted (net .nodes) listed size u front′ listed′ r →
       Spread net l t (Passed into v (p + 1)) d size x front′ listed′ r
   searching-spread {listed′ = listed′} shorter q E =
       rw q
       (record {
         searching =
             record {
-              fit = rw (relaxed-size l d u e v) (S .fit);
-              labels = labels-relaxed net l d u e v h (S .labels);
+              fit = rw (relaxed-size l d a u e v) (S .fit);
+              labels = labels-relaxed net l d a u e v own h (S .labels);
               listing = E .listing;
               feasible = feasible-relaxed listed′ (E .still) as-before;
             };
-        weight = omega (arith, E .grown, relaxed-falls l d u e v net (leads-from net u e v h (S .fit .ends) .1) start shorter);
+        weight = omega (arith, E .grown, relaxed-falls l d a u e v net (leads-from net u e v h (S .fit .ends) .1) start shorter);
       })
     where
-      as-before : (x : ℕ) → getD listed′ x 0 ≡ 0 → getD (relaxed l d u e v) x 0 ≡ getD d x 0
+      as-before : (x : ℕ) → getD listed′ x 0 ≡ 0 → getD (relaxed l d a u e v) x 0 ≡ getD d x 0
       as-before x off =
           ⊎-elim
-          (λ (w : getD (relaxed l d u e v) x 0 ≡ getD d x 0). w)
-          (λ (w : Shortened l d u e v (relaxed l d u e v) x). absurd (omega (arith, E .has, ap (λ k. getD listed′ k 0) (w .at))))
-          (relaxed-entry l d u e v x)
+          (λ (w : getD (relaxed l d a u e v) x 0 ≡ getD d x 0). w)
+          (λ (w : Shortened l d a u e v (relaxed l d a u e v) x). absurd (omega (arith, E .has, ap (λ k. getD listed′ k 0) (w .at))))
+          (relaxed-entry l d a u e v x)

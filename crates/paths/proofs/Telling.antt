@@ -8,7 +8,7 @@ use lib.ListN.{length, getD}
 use Rattle.bounds.specs.Bounds.{mostNodes}
 use Rattle.network.specs.Ends.{Node, Ends}
 use Rattle.network.specs.Network.{Network}
-use Rattle.network.specs.Path.{pathLength}
+use Rattle.network.specs.Onward.{onward}
 use Rattle.network.proofs.Shortcuts.{shortcut, shortcut-few}
 use Rattle.paths.specs.Distances.{Distances, Tells}
 use Rattle.paths.specs.Key.{lengthOf, arcsOf}
@@ -21,7 +21,7 @@ use Rattle.paths.proofs.Walks.{walk-path, walk-key}
 module _ {net : Network} {l d : List ℕ} {t far : ℕ} (ends : Ends net) (few : net .nodes ≤ mostNodes) (D : Distances net l d t far) where
   module _ {v : ℕ} {p : List ℕ} (node : Node net v) (w : Walk net l d t v p) where
     -- A walk has the length and the number of arcs that the distance of its start tells.
-    pub walk-length : pathLength l p ≡ lengthOf (getD d v 0)
+    pub walk-length : onward net l v p ≡ lengthOf (getD d v 0)
     walk-length = omega (arith, walk-key (D .sink) w, walk-few ends D node w)
 
     pub walk-arcs : length p ≡ arcsOf (getD d v 0)

@@ -12,7 +12,6 @@ use Rattle.network.specs.Network.{Network}
 use Rattle.paths.specs.Calls.{Leaving}
 use Rattle.paths.specs.Distances.{Way}
 use Rattle.paths.specs.Far.{far}
-use Rattle.paths.specs.Key.{arcsOf}
 use Rattle.index.specs.Index.{arcAt, endAt}
 use Rattle.paths.specs.Tight.{Tight}
 use Rattle.paths.specs.Walk.{Walk, stop, step}
@@ -53,7 +52,7 @@ module _ {net : Network} {out l d : List ℕ} {s t size : ℕ} (W : Walkable net
     pub walking-end : v ≡ t → Walked net l d s t path
     walking-end q =
         let w = subst (Walk net l d t s) (append-nil (take k path)) (S .completes [] (subst (λ (u : ℕ). Walk net l d t u []) (sym q) stop)) in
-        let arcs = walk-arcs (W .fit .ends) (W .index .nodes) (W .table .distances) (W .source) w in
+        let arcs = walk-arcs (W .fit .ends) (W .index .arcs .nodes) (W .table .distances) (W .source) w in
         subst (λ (r : ℕ). Walk net l d t s (take r path)) (sym (length-take-le k path (omega (arith, S .whole, S .within))) ∙ arcs) w
 
     module _ (apart : v ≡ t → ⊥) where

@@ -9,7 +9,9 @@ use native.Mathlib.Nat.{eq-or-lt-of-le}
 use native.Mathlib.Omega.{arith}
 use lib.ListN.{getD}
 use Rattle.network.specs.Network.{Network}
-use Rattle.network.specs.Path.{leads, follow, Path, pathLength}
+use Rattle.network.specs.Onward.{onward}
+use Rattle.network.specs.Path.{leads, follow, Path}
+use Rattle.network.proofs.Leads.{leads-beyond}
 use Rattle.network.proofs.Paths.{path-step, path-cons}
 use Rattle.method.specs.Order.{Before, ends, smaller, agrees}
 use Rattle.paths.specs.Distances.{over, Way, Distances}
@@ -25,35 +27,37 @@ module _ {net : Network} {l d : List ℕ} {t : ℕ} where
   walk-path (step {v = v} {e = e} {p = p} apart way low w) = path-cons net v (way .to) t e p (way .leads-to) (walk-path w)
 
   -- and its key is the distance of its start.
-  pub walk-key : {v : ℕ} {p : List ℕ} → getD d t 0 ≡ 0 → Walk net l d t v p → pathKey l p ≡ getD d v 0
-  unfolding pathLength
+  pub walk-key : {v : ℕ} {p : List ℕ} → getD d t 0 ≡ 0 → Walk net l d t v p → pathKey net l v p ≡ getD d v 0
+  unfolding onward
   walk-key z stop = sym z
-  walk-key z (step apart way low w) = omega (arith, way .long, walk-key z w)
+  walk-key z (step {v = v} {e = e} apart way low w) =
+      rw (leads-beyond net v e (way .to) (way .leads-to)) (omega (arith, way .long, walk-key z w))
 
   -- The way over an arc that is not tight is farther than the distance of where it starts,
   slack-farther :
-      {far : ℕ} → Distances net l d t far → (v j w : ℕ) → (Way net l d v (getD d v 0) j → ⊥) → leads net v j ≡ some w → getD d v 0 < over l d j w
+      {far : ℕ} → Distances net l d t far → (v j w : ℕ) → (Way net l d v (getD d v 0) j → ⊥) → leads net v j ≡ some w → getD d v 0 < over net l d j w
   slack-farther D v j w slack h =
       ⊎-elim
-      (λ (q : getD d v 0 ≡ over l d j w). absurd (slack (record { to = w; leads-to = h; long = sym q })))
-      (λ (b : getD d v 0 < over l d j w). b)
+      (λ (q : getD d v 0 ≡ over net l d j w). absurd (slack (record { to = w; leads-to = h; long = sym q })))
+      (λ (b : getD d v 0 < over net l d j w). b)
       (eq-or-lt-of-le (D .feasible v j w h))
 
   -- so paths that are before a walk in dictionary order have greater keys.
   pub walk-first :
       {v far : ℕ} {p : List ℕ} → Distances net l d t far → Walk net l d t v p → (q : List ℕ) → Path net v t q → Before q p →
-      getD d v 0 < pathKey l q
-  unfolding follow pathLength
+      getD d v 0 < pathKey net l v q
+  unfolding follow onward
   walk-first D (step {v = v} apart way low w) q h ends = absurd (apart (Option·some-injective v t h))
   walk-first D (step {v = v} apart way low w) q h (smaller {d = j} {p = r} b) =
       let s = path-step net v t j r h in
-      omega (arith, slack-farther D v j (s .0) (low j b) (s .1), distance-lower D (s .0) r (s .2))
+      rw (leads-beyond net v j (s .0) (s .1)) (omega (arith, slack-farther D v j (s .0) (low j b) (s .1), distance-lower D (s .0) r (s .2)))
   walk-first D (step {v = v} {e = e} apart way low w) q h (agrees {d = j} {p = r} same b) =
       let s = path-step net v t j r h in
       let to : s .0 ≡ way .to = Option·some-injective (s .0) (way .to) (sym (s .1) ∙ (ap (leads net v) same ∙ way .leads-to)) in
-      omega (
+      rw (leads-beyond net v j (s .0) (s .1), to)
+      (omega (
         arith,
         way .long,
         ap (λ i. getD l i 0) same,
         walk-first D w r (subst (λ (u : ℕ). Path net u t r) to (s .2)) b,
-      )
+      ))

@@ -1,9 +1,11 @@
 -- What the functions of a search and of a walk ask of the tables that they are lent.
+use mathlib.Core.Path.{_≡_}
 use mathlib.Core.List.{List}
 use Prim.Native.Nat.{ℕ, _+_, _≤_, _<_}
 use lib.ListN.{length, getD}
 use Rattle.network.specs.Ends.{Node}
 use Rattle.network.specs.Network.{Network}
+use Rattle.network.specs.Resources.{nodeLength}
 use Rattle.paths.specs.Distances.{Way}
 use Rattle.paths.specs.Far.{far}
 use Rattle.paths.specs.Graph.{Fit, Capped}
@@ -16,11 +18,12 @@ pub record Nearing (front : List ℕ) (size : ℕ) (d : List ℕ) : Type 0 where
   pub within : size ≤ length front
   pub nodes : (i : ℕ) → i < size → getD front i 0 < length d
 
--- The relaxation of the arc at place p, one of those into v, with those at the places before it relaxed.
-pub record Reaching (net : Network) (into l : List ℕ) (t v p : ℕ) (d front listed : List ℕ) (size : ℕ) : Type 0 where
+-- The relaxation of the arc at place p, one of those into v, which has the length x, with those at the places before it relaxed.
+pub record Reaching (net : Network) (into l : List ℕ) (t v x p : ℕ) (d front listed : List ℕ) (size : ℕ) : Type 0 where
   pub searching : Searching net l t (Passed into v p) d front listed size
   pub index : Into net into
   pub node : v ≤ net .nodes
+  pub own : x ≡ nodeLength net l v
   pub from : begins into v ≤ p
   pub below : p < begins into (v + 1)
 

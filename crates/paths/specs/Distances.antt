@@ -1,4 +1,5 @@
--- Distances to a node t, below a cap: what a search must leave in its table. A distance is the least key of a path.
+-- Distances to a node t, below a cap: what a search must leave in its table. A distance is the least key of a path; the node where the path begins does not
+-- count in it.
 use mathlib.Core.Path.{_≡_}
 use mathlib.Core.List.{List}
 use mathlib.Core.Option.{some}
@@ -6,28 +7,34 @@ use Prim.Native.Nat.{ℕ, _+_, _≤_, _<_}
 use lib.ListN.{length, getD}
 use Rattle.network.specs.Ends.{Node}
 use Rattle.network.specs.Network.{Network}
-use Rattle.network.specs.Path.{leads, Path, pathLength}
+use Rattle.network.specs.Onward.{onward}
+use Rattle.network.specs.Path.{leads, Path}
+use Rattle.network.specs.Resources.{nodeLength}
 use Rattle.paths.specs.Key.{arcKey, lengthOf, arcsOf}
 
--- How far the way over arc e to node w is: what the arc adds, and the distance of w.
-abbrev pub over : List ℕ → List ℕ → ℕ → ℕ → ℕ
-over l d e w = arcKey l e + getD d w 0
+-- How far the way over arc e to node w is, where x is the length of w: what the arc and w add, and the distance of w.
+abbrev pub via : List ℕ → List ℕ → ℕ → ℕ → ℕ → ℕ
+via l d x e w = arcKey l x e + getD d w 0
+
+-- The same of a network.
+abbrev pub over : Network → List ℕ → List ℕ → ℕ → ℕ → ℕ
+over net l d e w = via l d (nodeLength net l w) e w
 
 -- Arc e leads from v to some node, and the way over it is x far.
 pub record Way (net : Network) (l d : List ℕ) (v x e : ℕ) : Type 0 where
   pub to : ℕ
   pub leads-to : leads net v e ≡ some to
-  pub long : over l d e to ≡ x
+  pub long : over net l d e to ≡ x
 
 -- d has the distances to t by the lengths l: no arc could shorten one, and each below the cap is that of the way over some arc.
 pub record Distances (net : Network) (l d : List ℕ) (t far : ℕ) : Type 0 where
   pub sink : getD d t 0 ≡ 0
-  pub feasible : (u e w : ℕ) → leads net u e ≡ some w → getD d u 0 ≤ over l d e w
+  pub feasible : (u e w : ℕ) → leads net u e ≡ some w → getD d u 0 ≤ over net l d e w
   pub tight : (v : ℕ) → Node net v → (v ≡ t → ⊥) → getD d v 0 < far → (e : ℕ) × Way net l d v (getD d v 0) e
 
--- What the distance x from v to t tells: no path is shorter than the length in it, and none that is as short has fewer arcs than the number in it;
--- and below the cap some path has both.
+-- What the distance x from v to t tells: onward of v no path is shorter than the length in it, and none that is as short has fewer arcs than the number
+-- in it; and below the cap some path has both.
 pub record Tells (net : Network) (l : List ℕ) (v t far x : ℕ) : Type 0 where
-  pub some-path : x < far → (p : List ℕ) × Path net v t p × (pathLength l p ≡ lengthOf x) × (length p ≡ arcsOf x)
-  pub shortest : (p : List ℕ) → Path net v t p → lengthOf x ≤ pathLength l p
-  pub fewest : (p : List ℕ) → Path net v t p → pathLength l p ≡ lengthOf x → arcsOf x ≤ length p
+  pub some-path : x < far → (p : List ℕ) × Path net v t p × (onward net l v p ≡ lengthOf x) × (length p ≡ arcsOf x)
+  pub shortest : (p : List ℕ) → Path net v t p → lengthOf x ≤ onward net l v p
+  pub fewest : (p : List ℕ) → Path net v t p → onward net l v p ≡ lengthOf x → arcsOf x ≤ length p

@@ -1,16 +1,18 @@
 -- What a search asks of the tables that it is lent, and what it leaves in one.
+use mathlib.Core.Path.{_≡_}
 use mathlib.Core.List.{List}
 use Prim.Native.Nat.{ℕ, _≤_, _<_}
 use lib.ListN.{length, getD}
 use Rattle.network.specs.Ends.{Node, Ends}
-use Rattle.network.specs.Network.{Network, arcs}
+use Rattle.network.specs.Network.{Network}
+use Rattle.network.specs.Resources.{resources}
 use Rattle.paths.specs.Distances.{Distances, Tells}
 use Rattle.paths.specs.Far.{Bounded}
 
--- The ends are nodes, each arc has a length, a small one, and a table of the given size has room for each node.
+-- The ends are nodes, each resource has a length, a small one, and a table of the given size has room for each node.
 pub record Fit (net : Network) (l : List ℕ) (size : ℕ) : Type 0 where
   pub ends : Ends net
-  pub lengths : arcs net ≤ length l
+  pub lengths : length l ≡ resources net
   pub small : Bounded net l
   pub room : net .nodes < size
 

@@ -3,15 +3,17 @@ use mathlib.Core.List.{List}
 use Prim.Native.Nat.{ℕ, _+_, _*_, _/_, _%_}
 use lib.ListN.{length, getD}
 use Rattle.bounds.specs.Bounds.{mostNodes}
-use Rattle.network.specs.Path.{pathLength}
+use Rattle.network.specs.Network.{Network}
+use Rattle.network.specs.Onward.{onward}
 
--- The key of a path: a path that visits no node twice has fewer arcs than mostNodes, so that its arcs never outweigh a length of 1.
-abbrev pub pathKey : List ℕ → List ℕ → ℕ
-pathKey l p = mostNodes * pathLength l p + length p
+-- The key of a path from v, whose own length does not count: a path that visits no node twice has fewer arcs than mostNodes, so that its arcs never
+-- outweigh a length of 1.
+abbrev pub pathKey : Network → List ℕ → ℕ → List ℕ → ℕ
+pathKey net l v p = mostNodes * onward net l v p + length p
 
--- What an arc adds to it.
-abbrev pub arcKey : List ℕ → ℕ → ℕ
-arcKey l e = mostNodes * getD l e 0 + 1
+-- What an arc adds to it that leads to a node of the length x.
+abbrev pub arcKey : List ℕ → ℕ → ℕ → ℕ
+arcKey l x e = mostNodes * (getD l e 0 + x) + 1
 
 -- The length, and the number of arcs, that a key tells.
 abbrev pub lengthOf : ℕ → ℕ

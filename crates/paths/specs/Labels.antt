@@ -14,7 +14,7 @@ use Rattle.paths.specs.Graph.{Capped}
 pub record Over (net : Network) (l d : List ℕ) (v e : ℕ) : Type 0 where
   pub to : ℕ
   pub leads-to : leads net v e ≡ some to
-  pub long : over l d e to ≤ getD d v 0
+  pub long : over net l d e to ≤ getD d v 0
 
 -- The entry of t is 0, none is above the cap, and each other node's below the cap is no less than the way over some arc.
 pub record Labels (net : Network) (l d : List ℕ) (t far : ℕ) : Type 0 where

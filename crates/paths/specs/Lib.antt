@@ -8,6 +8,8 @@ pub mod Labels
 pub mod Listing
 pub mod Relax
 pub mod Searching
+pub mod Through
 pub mod Tight
+pub mod Visits
 pub mod Walk
 pub mod Walked

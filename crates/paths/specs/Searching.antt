@@ -19,7 +19,7 @@ pub record Searching (net : Network) (l : List ℕ) (t : ℕ) (P : ℕ → ℕ �
   pub fit : Fit net l (length d)
   pub labels : Labels net l d t far
   pub listing : Listing (net .nodes) front listed size
-  pub feasible : (u e w : ℕ) → leads net u e ≡ some w → P u e w → getD listed w 0 ≡ 0 → getD d u 0 ≤ over l d e w
+  pub feasible : (u e w : ℕ) → leads net u e ≡ some w → P u e w → getD listed w 0 ≡ 0 → getD d u 0 ≤ over net l d e w
 
 -- All arcs.
 abbrev pub Any : ℕ → ℕ → ℕ → Type 0

@@ -6,7 +6,7 @@ use Prim.Native.Nat.{ℕ, zero, suc, _+_, _≤_, _<_}
 use native.Mathlib.Nat.{le-of-suc-le-suc, eq-or-lt-of-le}
 use native.Mathlib.Numerals.{add-one}
 use native.Mathlib.Omega.{arith}
-use lib.ListN.{length, getD, set, replicate, length-set, length-map, length-replicate, List·getD-map}
+use lib.ListN.{length, getD, set, take, replicate, length-set, length-map, length-replicate, List·getD-map}
 use lib.Seq.{getD-set-same, getD-set-other, ext-getD}
 use Rattle.packed.specs.Packed.{part, tailsFrom, headsFrom, capacitiesFrom, marksFrom, netNumbers}
 use Rattle.packed.proofs.Columns.{part-length, part-at}
@@ -129,10 +129,10 @@ module _ (f : Arc → ℕ) (b : ℕ) (own : (xs : List ℕ) (k : ℕ) (x : Arc) 
 
 -- The four columns are those of the network that the records are.
 pub copied :
-    (arcs : List Arc) → length arcs ≤ 256 → (n : ℕ) (pairs : List ℕ) →
-    networkCopied n (length arcs) (filled arcs (length arcs)) pairs ≡ networkLent n arcs pairs
+    (arcs : List Arc) → length arcs ≤ 256 → (n : ℕ) (pairs limits : List ℕ) →
+    networkCopied n (length arcs) (filled arcs (length arcs)) pairs (take n limits) ≡ networkLent n arcs pairs limits
 unfolding networkLent
-copied arcs few n pairs =
+copied arcs few n pairs limits =
     rw (
       column-is (λ a. a .tail) tailsFrom put-tail (λ j k l h. omega arith) arcs few refl (omega arith),
       column-is (λ a. a .head) headsFrom put-head (λ j k l h. omega arith) arcs few refl (omega arith),

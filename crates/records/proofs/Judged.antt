@@ -1,10 +1,11 @@
--- The verdict of a call whose sizes have passed is that on its arcs and commodities, and what each verdict leaves. Assumes nothing.
+-- The verdict of a call whose sizes have passed is that on its arcs, limits and commodities, and what each verdict leaves. Assumes nothing.
 use mathlib.Core.Path.{_≡_, refl, sym, _∙_}
 use mathlib.Core.List.{List, _++_}
 use Prim.Native.Nat.{ℕ}
 use lib.IntN.{ℤ}
 use lib.ListN.{length, drop}
 use Rattle.network.specs.Network.{Network}
+use Rattle.network.specs.Resources.{resources}
 use Rattle.network.specs.Sound.{Counts}
 use Rattle.network.specs.Verdict.{verdict, itemConditions, afterwards}
 use Rattle.network.specs.declared.Refusal.{Refusal}
@@ -24,9 +25,12 @@ use Rattle.records.specs.declared.Reply.{Reply}
 use Rattle.records.specs.declared.Reply.the-variants.{TurnedDown, Answered}
 
 -- Accepted: the network is sound.
-pub lends : {s : Shape} {xs : List ℕ} (q : ℕ) → Packed s xs → Counts (s .nodes) (s .arcs) (s .commodities) q → verdict (itemConditions (netIn s xs)) ≡ Accepted → Lent s q xs
+pub lends :
+    {s : Shape} {xs : List ℕ} (q : ℕ) → Packed s xs → Counts (s .nodes) (s .arcs) (s .resources) (s .commodities) q →
+    s .resources ≡ resources (netIn s xs) → verdict (itemConditions (netIn s xs)) ≡ Accepted → Lent s q xs
 unfolding netIn
-lends {s} {xs} q p c h = record { sound = items-accepted (netIn s xs) q (rw (arcs-is p, commodities-is p) c) h; packed = p }
+lends {s} {xs} q p c r h =
+    record { sound = items-accepted (netIn s xs) q (rw (arcs-is p, commodities-is p, ← r) c) h; packed = p; counted = r }
 
 -- The first k places of a table took these numbers.
 pub placed : {A : Type 0} (xs ys table : List A) (k : ℕ) → xs ≡ ys → length xs ≡ k → xs ++ drop k table ≡ overlaid ys table

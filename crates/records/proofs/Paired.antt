@@ -4,7 +4,7 @@ use mathlib.Core.List.{List}
 use Prim.Native.Nat.{ℕ, _+_, _-_, _/_, _≤_}
 use native.Mathlib.Omega.{arith}
 use lib.ListN.{length}
-use Rattle.packed.specs.Packed.{part, netIn, tailsFrom, headsFrom, capacitiesFrom, sourcesFrom, sinksFrom, marksFrom, put, netNumbers}
+use Rattle.packed.specs.Packed.{part, netIn, tailsFrom, headsFrom, capacitiesFrom, sourcesFrom, sinksFrom, marksFrom, limitsFrom, put, netNumbers}
 use Rattle.packed.specs.declared.Shape.{Shape}
 use Rattle.packed.proofs.Columns.{part-length, put-length, part-put, part-before, part-behind}
 use Rattle.records.specs.Parts.{networkCopied, halfOf, Pairing}
@@ -48,10 +48,10 @@ module _ {s : Shape} {pairs xs : List ℕ} (p : Pairing s pairs xs) {ys : List �
         part-before sinksFrom k sourced b (s .arcs) zs (omega (arith, sinks-places)) (omega arith) ∙
         part-before sourcesFrom k xs b (s .arcs) ys (omega (arith, room)) l
 
-    marks-stay : part marksFrom (s .arcs) filled ≡ part marksFrom (s .arcs) xs
-    marks-stay =
-        part-behind sinksFrom k sourced zs sinks-places nz marksFrom (s .arcs) (omega (arith, p .packed .few-commodities)) ∙
-        part-behind sourcesFrom k xs ys (omega (arith, room, p .packed .few-commodities)) ny marksFrom (s .arcs) (omega (arith, p .packed .few-commodities))
+    stays-behind : (b n : ℕ) → marksFrom ≤ b → part b n filled ≡ part b n xs
+    stays-behind b n l =
+        part-behind sinksFrom k sourced zs sinks-places nz b n (omega (arith, p .packed .few-commodities)) ∙
+        part-behind sourcesFrom k xs ys (omega (arith, room, p .packed .few-commodities)) ny b n (omega (arith, p .packed .few-commodities))
 
     sources-in : part sourcesFrom k filled ≡ sourcesIn pairs
     unfolding halfOf
@@ -63,8 +63,17 @@ module _ {s : Shape} {pairs xs : List ℕ} (p : Pairing s pairs xs) {ys : List �
     unfolding halfOf
     sinks-in = part-put sinksFrom k sourced zs sinks-places nz ∙ et
 
-    pub paired : netIn s filled ≡ networkCopied (s .nodes) (s .arcs) xs pairs
+    pub paired : netIn s filled ≡ networkCopied (s .nodes) (s .arcs) xs pairs (part limitsFrom (s .limits) xs)
     unfolding netIn
     paired =
         let few = p .packed .few-arcs in
-        rw (stays tailsFrom (omega (arith, few)), stays headsFrom (omega (arith, few)), stays capacitiesFrom (omega (arith, few)), marks-stay, sources-in, sinks-in) refl
+        rw (
+          stays tailsFrom (omega (arith, few)),
+          stays headsFrom (omega (arith, few)),
+          stays capacitiesFrom (omega (arith, few)),
+          stays-behind marksFrom (s .arcs) (omega arith),
+          stays-behind limitsFrom (s .limits) (omega arith),
+          sources-in,
+          sinks-in,
+        )
+        refl

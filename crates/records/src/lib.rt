@@ -27,20 +27,22 @@ pub enum Reply {
     Answered(Answer),
 }
 
-// Solves the network of n nodes with these arcs, and with a commodity for every two numbers of `pairs`, source and sink: sizes and tables are
-// checked, the records copied into the columns of one array, and what they say is checked there before it is solved.
+// Solves the network of n nodes with these arcs, with a commodity for every two numbers of `pairs`, source and sink, and with `limits` for the
+// first nodes, 0 for none (request C-17): sizes and tables are checked, the records copied into the columns of one array, and what they say is
+// checked there before it is solved.
 pub fn solve(
     n: u64,
     q: u64,
     arcs: &[Arc],
     pairs: &[u64],
+    limits: &[u64],
     flow: &mut [i64],
     lengths: &mut [u64],
 ) -> Reply
-    ensures { λ r. ⌜ Recorded n q (now (arcs .entry)) (now (pairs .entry)) (now (flow .entry)) (now (lengths .entry)) (now (flow .exit)) (now (lengths .exit)) r ⌝ }
+    ensures { λ r. ⌜ Recorded n q (now (arcs .entry)) (now (pairs .entry)) (now (limits .entry)) (now (flow .entry)) (now (lengths .entry)) (now (flow .exit)) (now (lengths .exit)) r ⌝ }
 {
     let m = arcs.len();
-    let sizes = sizes::check_call(n, q, m, pairs.len(), flow.len(), lengths.len());
+    let sizes = sizes::check_call(n, q, m, pairs.len(), limits, flow.len(), lengths.len());
     if let Verdict::Refused(why) = sizes {
         return Reply::TurnedDown(why);
     }
@@ -54,9 +56,9 @@ pub fn solve(
         net[MARKS + e] = a.mark;
         e += 1;
     }
-    let items = judge::check_copy(n, m, net, pairs);
+    let items = judge::check_copy(n, m, net, pairs, limits);
     if let Verdict::Refused(why) = items {
         return Reply::TurnedDown(why);
     }
-    judge::deliver(n, q, m, net, pairs, flow, lengths)
+    judge::deliver(n, q, m, net, pairs, limits, flow, lengths)
 }

@@ -1,4 +1,4 @@
-// Document 01's worked floors, some that it turns down, and two with a reversible belt, solved through a slice of records. A line for each: what is
+// Document 01's worked floors, some that it turns down, and some with a reversible belt or a limited station, solved through a slice of records. A line for each: what is
 // lent, what the call returns, the flow table and the length table, in which every place held a 9. The file `stdout` has the page's figures.
 use checks::numbers::refusal_code;
 use libc::STDOUT_FILENO;
@@ -19,13 +19,14 @@ fn lent(
     arcs: [Arc; 2],
     m: usize,
     pairs: &[u64],
+    limits: &[u64],
     flow: &mut [i64],
     lengths: &mut [u64],
 ) -> Reply
     requires { ⌜ m ≤ 2 ⌝ }
-    ensures { λ r. ⌜ Recorded n q (take m arcs) (now (pairs .entry)) (now (flow .entry)) (now (lengths .entry)) (now (flow .exit)) (now (lengths .exit)) r ⌝ }
+    ensures { λ r. ⌜ Recorded n q (take m arcs) (now (pairs .entry)) (now (limits .entry)) (now (flow .entry)) (now (lengths .entry)) (now (flow .exit)) (now (lengths .exit)) r ⌝ }
 {
-    records::solve(n, q, &arcs[..m], pairs, flow, lengths)
+    records::solve(n, q, &arcs[..m], pairs, limits, flow, lengths)
 }
 
 fn print(x: u64) {
@@ -85,17 +86,24 @@ fn print_reply(r: Reply) {
     }
 }
 
-fn run(name: &[u8], n: u64, q: u64, arcs: [Arc; 2], m: usize, pairs: &[u64])
+fn run_within(name: &[u8], n: u64, q: u64, arcs: [Arc; 2], m: usize, pairs: &[u64], limits: &[u64])
     requires { ⌜ m ≤ 2 ⌝ }
 {
     let mut flow = [9i64; 4];
     let mut lengths = [9u64; 2];
-    let reply = lent(n, q, arcs, m, pairs, &mut flow, &mut lengths);
+    let reply = lent(n, q, arcs, m, pairs, limits, &mut flow, &mut lengths);
     io::write_all(STDOUT_FILENO, name);
     print_reply(reply);
     print_flow(&flow);
     print_all(&lengths);
     io::write_all(STDOUT_FILENO, b"\n");
+}
+
+// No station has a limit.
+fn run(name: &[u8], n: u64, q: u64, arcs: [Arc; 2], m: usize, pairs: &[u64])
+    requires { ⌜ m ≤ 2 ⌝ }
+{
+    run_within(name, n, q, arcs, m, pairs, &[0]);
 }
 
 fn arc(tail: u64, head: u64, capacity: u64) -> Arc {
@@ -164,8 +172,20 @@ fn reversible() {
     against(b"by the greatest mark:", 0xffff_ffff_ffff_ffff);
 }
 
+// Request C-17: a belt of 5 from station 1 to station 2, which has this limit.
+fn at_the_end(name: &[u8], limit: u64) {
+    let a = arc(1, 2, 5);
+    run_within(name, 2, 4, [a, a], 1, &[1, 2], &[0, limit]);
+}
+
+fn limited() {
+    at_the_end(b"a station of 3:", 3);
+    at_the_end(b"a station of 1001:", 1001);
+}
+
 fn main() {
     page();
     refusals();
     reversible();
+    limited();
 }

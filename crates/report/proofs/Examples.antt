@@ -13,7 +13,9 @@ use Rattle.length.specs.Levels.{levels}
 use Rattle.signed.specs.Signed.{ahead, back}
 use Rattle.network.specs.Flow.{loadOf}
 use Rattle.network.specs.Path.{leads, follow, pathLength}
-use Rattle.network.specs.Verdict.{outside, loose, verdict, sizeConditions, arcConditions, commodityConditions, itemConditions, verdictOn}
+use Rattle.network.specs.Resources.{limitsBelow, place, resources, rooms, station, uses}
+use Rattle.network.specs.Verdict.{outside, loose, verdict, sizeConditions, arcConditions, limitConditions, commodityConditions, itemConditions, verdictOn}
+use Rattle.network.specs.Visited.{visited}
 use Rattle.method.specs.Answer.{fullest, amounts, unjoined, outcomeOf, outcome}
 use Rattle.method.specs.Choice.{words, endsAt, paths, candidates, sooner, least, choice}
 use Rattle.method.specs.Iteration.{initial, weight, lowest, draw, update, pushed, grown, settled, advance, iteration}
@@ -69,7 +71,8 @@ unfolding
     right same listing fileRows verdictRows refusalRow outcomeRows beltRow answerRows header row delimited decimal digits
     parsed closing complete networkRead readLines next following once opening withArc withSink withSource begun meaning lettered arcLine
     terminalLine sourceOrSink problemLine given shaped numberOf fromDigits every digit wordsOf filled keep blank linesOf lineFeed pieces lead
-    verdictOn itemConditions commodityConditions arcConditions sizeConditions verdict loose outside loadOf amounts ceil upFrom upTo exists flat sum scale
+    verdictOn itemConditions commodityConditions limitConditions arcConditions sizeConditions verdict loose outside loadOf amounts ceil upFrom upTo exists flat sum scale
     mark start growth halving level threshold levels leads follow pathLength words endsAt paths candidates sooner least choice initial weight
     lowest draw update pushed grown settled advance iteration ended runs run fullest unjoined outcomeOf outcome bind ahead back
+    limitsBelow place resources rooms station uses visited
 listings = tt

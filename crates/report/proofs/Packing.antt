@@ -111,13 +111,14 @@ module _ (s : Shape) (few : s .arcs ≤ 256) (xs : List ℕ) (places : netNumber
       packed-length = put-length marksFrom m filled z fits nz ∙ filled-length
 
       pub packed :
-          s .commodities ≡ 1 →
+          s .commodities ≡ 1 → s .limits ≡ 0 →
           netIn s marked ≡
-          record { nodes = s .nodes; tails = t; heads = h; capacities = c; marks = replicate m 0; sources = source ∷ []; sinks = sink ∷ [] }
+          record { nodes = s .nodes; tails = t; heads = h; capacities = c; marks = replicate m 0; limits = []; sources = source ∷ []; sinks = sink ∷ [] }
       unfolding netIn
-      packed one =
+      packed one none =
           rw (
             one,
+            none,
             stays tailsFrom m (omega arith) ∙ tails-in,
             stays headsFrom m (omega arith) ∙ heads-in,
             stays capacitiesFrom m (omega arith) ∙ capacities-in,

@@ -41,7 +41,7 @@ pub record Belted (tails heads : List ℕ) (flow : List ℤ) (a at room : ℕ) :
 
 -- The shape of a file's network, and the network: the first entries of the tables read, and one commodity.
 abbrev pub shapeOf : Parsed → Shape
-shapeOf file = record { nodes = file .nodes; arcs = file .arcs; commodities = 1 }
+shapeOf file = record { nodes = file .nodes; arcs = file .arcs; commodities = 1; limits = 0; resources = file .arcs }
 
 abbrev pub networkOfFile : Parsed → Network
 networkOfFile file =
@@ -51,6 +51,7 @@ networkOfFile file =
       heads = take (file .arcs) (file .heads);
       capacities = take (file .arcs) (file .capacities);
       marks = replicate (file .arcs) 0;
+      limits = [];
       sources = file .source ∷ [];
       sinks = file .sink ∷ [];
     }
@@ -66,6 +67,7 @@ pub record Packing (file : Parsed) (net : List ℕ) : Type 0 where
 -- A file's network, and room for its rows: 159 bytes for the first three, and 90 for each of 256 arcs.
 pub record Judging (s : Shape) (net : List ℕ) (at room : ℕ) : Type 0 where
   pub packed : Packed s net
+  pub plain : s .resources ≡ s .arcs
   pub held : OneCommodity (netIn s net)
   pub enough : at + 23199 ≤ room
 

@@ -22,7 +22,7 @@ ghost use Rattle.report.specs.Listed.{Listed};
 ghost use Rattle.report.specs.Listing.{verdictHeld};
 ghost use Rattle.report.specs.Shown.{shapeOf, networkOfFile, Packing, Judging, Shown};
 
-// The network of a file that has been read, into one slice. A file marks no arc.
+// The network of a file that has been read, into one slice. A file marks no arc and limits no node.
 fn pack(file: Parsed, net: &mut [u64])
     requires { ⌜ Packing file (now net) ⌝ }
     ensures { λ _. ⌜ netIn (shapeOf file) (now (net .exit)) ≡ networkOfFile file ⌝ }
@@ -66,6 +66,8 @@ pub fn listing(text: &[u8], out: &mut [u8; 24576]) -> usize
         nodes: file.nodes,
         arcs: file.arcs,
         commodities: 1,
+        limits: 0,
+        resources: file.arcs,
     };
     let mut net = [0u64; NET_NUMBERS];
     pack(file, &mut net);

@@ -4,18 +4,19 @@ use mathlib.Core.List.{List}
 use Prim.Native.Nat.{ℕ}
 use lib.IntN.{ℤ}
 use Rattle.length.specs.Level.{threshold}
-use Rattle.network.specs.Network.{Network, arcs}
+use Rattle.network.specs.Network.{Network}
+use Rattle.network.specs.Resources.{resources}
+use Rattle.network.specs.Sound.{Sound}
 use Rattle.method.specs.Iteration.{initial, weight}
 use Rattle.step.specs.declared.Progress.{Progress}
 use Rattle.step.specs.Progress.{stateOf, begun, begunWith}
 use Rattle.run.specs.Noted.{Noted}
 use Rattle.run.specs.Runs.{Chooses}
 use Rattle.run.proofs.Running.{Running, running-start}
-use Rattle.run.proofs.Whole.{Whole}
 
 module _ {net : Network} {q : ℕ} {r : Progress} {d : ℕ} (h : r ≡ begunWith d) where
-  pub begin-noted : {L : List ℕ} {t : ℕ} → d ≡ weight net L → t ≡ threshold (arcs net) q → Noted net q t L r
+  pub begin-noted : {L : List ℕ} {t : ℕ} → d ≡ weight net L → t ≡ threshold (resources net) q → Noted net q t L r
   begin-noted w e = record { threshold = e; weight = ap (λ x. x .weight) h ∙ w }
 
-  pub begin-running : {L Y K : List ℕ} {F : List ℤ} → Whole net q → stateOf L F Y K begun ≡ initial net → Chooses net → Running net q (stateOf L F Y K r)
-  begin-running lent start chooses = rw (h, start) (running-start net q (lent .sound) chooses)
+  pub begin-running : {L Y K : List ℕ} {F : List ℤ} → Sound net q → stateOf L F Y K begun ≡ initial net → Chooses net → Running net q (stateOf L F Y K r)
+  begin-running sound start chooses = rw (h, start) (running-start net q sound chooses)

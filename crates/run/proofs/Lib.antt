@@ -7,4 +7,3 @@ pub mod Onward
 pub mod Ready
 pub mod Running
 pub mod Same
-pub mod Whole

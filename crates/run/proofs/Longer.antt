@@ -8,10 +8,11 @@ use native.Mathlib.Omega.{arith}
 use lib.ListN.{length, getD, set, replicate}
 use Rattle.length.proofs.Size.{growth-least}
 use Rattle.bounds.specs.Bounds.{mostCommodities}
-use Rattle.network.specs.Network.{Network, arcs, commodities}
+use Rattle.network.specs.Network.{Network, commodities}
+use Rattle.network.specs.Resources.{resources, rooms}
 use Rattle.packed.specs.Packed.{put}
 use Rattle.packed.specs.declared.Shape.{Shape}
-use Rattle.method.specs.Choice.{choiceOf}
+use Rattle.method.specs.Choice.{Choice, usedBy}
 use Rattle.method.specs.Iteration.{State, draw, update, grown, settled, advance}
 use Rattle.length.specs.Length.{growth}
 use Rattle.method.proofs.Times.{update-length}
@@ -36,12 +37,15 @@ update-least f h [] xs j = le-refl _
 update-least f h (e ∷ p) xs j =
     omega (arith, set-least xs e (f e (getD xs e 0)) j (h e (getD xs e 0)), update-least f h p (set xs e (f e (getD xs e 0))) j)
 
-module _ (net : Network) (q i : ℕ) (path : List ℕ) (s : State) (same : length (s .lengths) ≡ arcs net) where
+module _ (net : Network) (q : ℕ) (c : Choice) (s : State) (same : length (s .lengths) ≡ resources net) where
   abbrev caps : List ℕ
-  caps = net .capacities
+  caps = rooms net
+
+  abbrev path : List ℕ
+  path = usedBy net c
 
   -- Where no length is at the mark the lengths are those that have grown.
-  unhalved : halves caps q path (s .lengths) ≡ false → advance net q (choiceOf i path) s .lengths ≡ longer caps q (draw caps path) path (s .lengths)
+  unhalved : halves caps q path (s .lengths) ≡ false → advance net q c s .lengths ≡ longer caps q (draw caps path) path (s .lengths)
   unfolding advance grown settled
   unhalved h =
       rw (← (update-length (λ e x. growth q (draw caps path) (getD caps e 0) x) path (s .lengths) ∙ same), h) refl
@@ -49,7 +53,7 @@ module _ (net : Network) (q i : ℕ) (path : List ℕ) (s : State) (same : lengt
   -- The memory after the iteration: kept, or with bounds of 0 where it halved.
   pub memory-next :
       {z : Shape} {l old new : List ℕ} (halved : Bool) → z .commodities ≤ mostCommodities → z .commodities ≡ commodities net →
-      Memory z net (s .lengths) old → halved ≡ halves caps q path (s .lengths) → l ≡ advance net q (choiceOf i path) s .lengths →
+      Memory z net (s .lengths) old → halved ≡ halves caps q path (s .lengths) → l ≡ advance net q c s .lengths →
       new ≡ cond halved (put 0 (z .commodities) old (replicate (z .commodities) 0)) old → Memory z net l new
   memory-next {z} {l} {old} true few k M h e f = rw f (memory-zero old (replicate (z .commodities) 0) few k (M .places) refl l)
   memory-next {z} {l} {old} false few k M h e f =

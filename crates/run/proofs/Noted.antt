@@ -10,34 +10,37 @@ use lib.ListN.{getD}
 use Rattle.arith.proofs.Exists.{none-exists}
 use Rattle.length.specs.Level.{threshold}
 use Rattle.length.proofs.Bounds.{threshold-most}
-use Rattle.network.specs.Network.{Network, arcs, capacity}
+use Rattle.network.specs.Network.{Network}
+use Rattle.network.specs.Resources.{resources, room}
+use Rattle.network.specs.Sound.{Sound}
+use Rattle.network.proofs.Resources.{rooms-length}
+use Rattle.network.proofs.Sounds.{resources-within, room-within}
 use Rattle.method.specs.Iteration.{State}
 use Rattle.method.specs.Run.{ended}
 use Rattle.method.proofs.Instance.{seen}
 use Rattle.method.proofs.Reached.{Reached}
 use Rattle.step.specs.declared.Progress.{Progress}
 use Rattle.run.specs.Noted.{Noted}
-use Rattle.run.proofs.Whole.{Whole}
 use Rattle.step.specs.Steps.{Kept}
 use Rattle.run.proofs.Running.{ended-is}
 
-module _ (net : Network) (q : ℕ) (lent : Whole net q) (s : State) (r : Reached net q s) where
+module _ (net : Network) (q : ℕ) (sound : Sound net q) (s : State) (r : Reached net q s) where
   -- The run has not ended.
   not-full : ended net q s ≡ false
   unfolding ended threshold seen
-  not-full = none-exists (arcs net) (λ e. leb (threshold (arcs net) q * capacity net e) (getD (s .loads) e 0)) (λ e l. lt-leb _ _ (r .below e l))
+  not-full = none-exists (resources net) (λ e. leb (threshold (resources net) q * room net e) (getD (s .loads) e 0)) (λ e l. lt-leb _ _ (r .below e l))
 
   pub kept-ready : (t : ℕ) (p : Progress) → Noted net q t (s .lengths) p → Kept net t s p
   kept-ready t p n =
-      let m = lent .sound .counts .of-arcs in
-      let x = lent .sound .counts .precision in
+      let m = resources-within net q sound in
+      let x = sound .counts .precision in
       record {
         weight = n .weight;
         ending =
             record {
-              same = r .valid .table .places ∙ sym (lent .capacities);
-              small = omega (arith, n .threshold, threshold-most (arcs net) q (m .least) (m .most) (x .least) (x .most));
-              sizes = λ e l. lent .sound .arc-capacity e (omega (arith, lent .capacities)) .most;
+              same = r .valid .table .places ∙ sym (rooms-length net);
+              small = omega (arith, n .threshold, threshold-most (resources net) q (m .least) (m .most) (x .least) (x .most));
+              sizes = λ e l. room-within net q sound e (omega (arith, rooms-length net)) .most;
             };
         none = ended-is net q s t (r .valid .table .places) (n .threshold) ∙ not-full;
       }

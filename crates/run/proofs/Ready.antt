@@ -3,91 +3,102 @@
 use mathlib.Core.Path.{_≡_, refl, sym, _∙_}
 use mathlib.Core.Option.{some}
 use mathlib.Core.List.{List}
-use Prim.Native.Nat.{ℕ, _^_, _≤_, _<_}
+use Prim.Native.Nat.{ℕ, _*_, _^_, _≤_, _<_}
 use native.Mathlib.Nat.{mul-le-mul-right, mul-le-mul}
 use native.Mathlib.Omega.{arith}
 use lib.ListN.{length, getD}
 use Rattle.bounds.specs.Bounds.{mostNodes, mostArcs, mostCapacity}
 use Rattle.length.specs.Length.{growth}
-use Rattle.network.specs.Network.{Network, arcs, commodities}
+use Rattle.network.specs.Network.{Network, arcs, commodities, source, sink}
 use Rattle.network.specs.Path.{pathLength}
-use Rattle.network.proofs.Sounds.{sound-ends}
-use Rattle.method.specs.Choice.{choiceOf, choice}
+use Rattle.network.specs.Resources.{resources, rooms}
+use Rattle.network.specs.Sound.{Sound}
+use Rattle.network.proofs.Resources.{arcs-le, rooms-length}
+use Rattle.network.proofs.Sounds.{sound-ends, room-within}
+use Rattle.network.proofs.Uses.{uses-few}
+use Rattle.method.specs.Choice.{Choice, usedBy, choice}
 use Rattle.method.specs.Iteration.{State, draw, grown}
 use Rattle.method.specs.Sizes.{Sizes}
-use Rattle.method.proofs.Arcs.{chosen-some}
 use Rattle.method.proofs.Fitting.{flow-below}
 use Rattle.method.proofs.Reached.{Reached, Valid, chosen-at, fair}
 use Rattle.method.proofs.Sized.{reached-sizes, grown-sizes}
 use Rattle.method.proofs.Times.{update-length}
+use Rattle.method.proofs.Used.{members-below, chosen-arcs, chosen-some}
 use Rattle.lengths.specs.Calls.{Capacities, Settling}
 use Rattle.step.specs.Steps.{Stepping}
-use Rattle.run.proofs.Whole.{Whole}
 use Rattle.tables.specs.Calls.{Pushing}
 use Rattle.tables.specs.Tables.{Under, longer}
 use Rattle.tables.proofs.OnPath.{draw-at, draw-most, below-under}
 
-module _ (net : Network) (q : ℕ) (lent : Whole net q) (s : State) (r : Reached net q s) (i : ℕ) (p : List ℕ)
-    (h : choice net (s .lengths) ≡ some (choiceOf i p)) where
+module _ (net : Network) (q : ℕ) (sound : Sound net q) (s : State) (r : Reached net q s) (c : Choice)
+    (h : choice net (s .lengths) ≡ some c) where
   abbrev caps : List ℕ
-  caps = net .capacities
+  caps = rooms net
+
+  -- what the path uses
+  abbrev p : List ℕ
+  p = usedBy net c
 
   abbrev v : Valid net q s
   v = r .valid
 
   z : Sizes net s
-  z = reached-sizes net q (lent .sound) s r
+  z = reached-sizes net q sound s r
 
-  inside : (e : ℕ) → e < length caps → e < arcs net
-  inside e l = omega (arith, lent .capacities)
+  inside : (e : ℕ) → e < length caps → e < resources net
+  inside e l = omega (arith, rooms-length net)
 
   capacities : Capacities caps
   capacities =
       record {
-        least = λ e l. lent .sound .arc-capacity e (inside e l) .least;
-        most = λ e l. lent .sound .arc-capacity e (inside e l) .most;
+        least = λ e l. room-within net q sound e (inside e l) .least;
+        most = λ e l. room-within net q sound e (inside e l) .most;
       }
 
   same : length (s .lengths) ≡ length caps
-  same = v .lengths ∙ sym (lent .capacities)
+  same = v .lengths ∙ sym (rooms-length net)
 
   short : Under (2 ^ 40) (s .lengths)
   short e l = z .length-high e (omega (arith, v .lengths))
 
   places : Under (length caps) p
-  places j l = omega (arith, below-under (fair net q (lent .sound) s v (choiceOf i p) h .below) j l, lent .capacities)
+  places j l = omega (arith, below-under (fair net q sound s v c h .below) j l, rooms-length net)
 
   arc : 1 ≤ length p
-  arc = chosen-some net (s .lengths) (choiceOf i p) (chosen-at net q (lent .sound) s v (choiceOf i p) h) (sound-ends net q (lent .sound))
+  arc = chosen-some net (s .lengths) c (chosen-at net q sound s v c h) (sound-ends net q sound)
 
-  few : length p ≤ mostNodes
+  few-arcs : length (c .path) < mostNodes
+  few-arcs = omega (arith, chosen-at net q sound s v c h .few, sound .counts .of-nodes .most)
+
+  few : length p ≤ 2 * mostNodes
   few =
       omega
-      (arith, chosen-at net q (lent .sound) s v (choiceOf i p) h .few, lent .sound .counts .of-nodes .most)
+      (arith, few-arcs, uses-few net (source net (c .commodity)) (sink net (c .commodity)) (c .path) (chosen-at net q sound s v c h .path))
 
   small : draw caps p ≤ mostCapacity
   small = draw-most caps p arc places (capacities .most)
 
-  listed : i < commodities net
-  listed = chosen-at net q (lent .sound) s v (choiceOf i p) h .commodity
+  listed : c .commodity < commodities net
+  listed = chosen-at net q sound s v c h .commodity
 
   -- The amounts of the flow are below what bounds the loads.
-  pushing : Pushing net i p (draw caps p) (s .flow)
+  pushing : Pushing net (c .commodity) (c .path) (draw caps p) (s .flow)
   pushing =
-      let all = mul-le-mul (lent .sound .counts .of-commodities .most) (lent .sound .counts .of-arcs .most) in
-      let most = flow-below net (2 ^ 21) (s .flow) (s .loads) (s .total) (v .table) (lent .sound .counts .of-arcs .least) (z .load-high) in
+      let all = mul-le-mul (sound .counts .of-commodities .most) (sound .counts .of-arcs .most) in
+      let most = flow-below net (2 ^ 21) (s .flow) (s .loads) (s .total) (v .table) (sound .counts .of-arcs .least)
+      (λ e l. z .load-high e (omega (arith, arcs-le net))) in
       record {
         listed = listed;
         row = omega (arith, mul-le-mul-right (arcs net) listed, v .table .rows);
         long = omega (arith, v .table .rows, all);
-        places = λ j l. omega (arith, places j l, lent .capacities);
+        places = below-under (members-below (c .path) (chosen-arcs net (s .lengths) c (chosen-at net q sound s v c h)));
         amounts = λ j l. omega (arith, most j l);
         small = small;
-        few = few;
+        few = omega (arith, few-arcs);
       }
 
   arcs-few : length caps ≤ mostArcs
-  arcs-few = omega (arith, lent .capacities, lent .sound .counts .of-arcs .most)
+  arcs-few = omega (arith, rooms-length net, sound .counts .of-resources)
 
   grown-settling : Settling caps (longer caps q (draw caps p) p (s .lengths))
   unfolding grown
@@ -97,10 +108,10 @@ module _ (net : Network) (q : ℕ) (lent : Whole net q) (s : State) (r : Reached
         same = long ∙ same;
         arcs = arcs-few;
         sizes = capacities .most;
-        grown = λ e l. grown-sizes net q (lent .sound) s v (choiceOf i p) h e (omega (arith, long, v .lengths));
+        grown = λ e l. grown-sizes net q sound s v c h e (omega (arith, long, v .lengths));
       }
 
-  pub ready : Stepping net q i p (pathLength (s .lengths) p) s
+  pub ready : Stepping net q c (pathLength (s .lengths) p) s
   ready =
       record {
         some-arc = arc;
@@ -108,10 +119,10 @@ module _ (net : Network) (q : ℕ) (lent : Whole net q) (s : State) (r : Reached
         growing =
             record {
               same = same;
-              coarsest = lent .sound .counts .precision .least;
-              finest = lent .sound .counts .precision .most;
+              coarsest = sound .counts .precision .least;
+              finest = sound .counts .precision .most;
               places = places;
-              once = fair net q (lent .sound) s v (choiceOf i p) h .once;
+              once = fair net q sound s v c h .once;
               drawn = draw-at caps p;
               few = few;
               arcs = arcs-few;
@@ -122,7 +133,7 @@ module _ (net : Network) (q : ℕ) (lent : Whole net q) (s : State) (r : Reached
         flow = pushing;
         loads =
             record {
-              places = λ j l. omega (arith, places j l, v .table .places, lent .capacities);
+              places = λ j l. omega (arith, places j l, v .table .places, rooms-length net);
               amounts = λ e l. omega (arith, z .load-high e (omega (arith, v .table .places)));
               small = small;
               few = few;

@@ -9,7 +9,8 @@ use lib.Dec.{leb}
 use lib.ListN.{length, getD}
 use Rattle.arith.specs.Lists.{exists}
 use Rattle.length.specs.Level.{threshold}
-use Rattle.network.specs.Network.{Network, arcs}
+use Rattle.network.specs.Network.{Network}
+use Rattle.network.specs.Resources.{resources, rooms}
 use Rattle.network.specs.Sound.{Sound}
 use Rattle.method.specs.Iteration.{State, initial, iteration}
 use Rattle.method.specs.Run.{ended, runs, run}
@@ -20,7 +21,7 @@ use Rattle.run.specs.Runs.{Chooses}
 
 -- How many iterations there may still be: m * T less the count.
 abbrev pub left : Network → ℕ → State → ℕ
-left net q s = arcs net * threshold (arcs net) q - s .count
+left net q s = resources net * threshold (resources net) q - s .count
 
 -- The run goes on from here as the definition's does.
 pub record Running (net : Network) (q : ℕ) (s : State) : Type 0 where
@@ -31,7 +32,7 @@ module _ (net : Network) (q : ℕ) (sound : Sound net q) (chooses : Chooses net)
   pub running-start : Running net q (initial net)
   unfolding run initial
   running-start =
-      record { underway = underway-start net q sound chooses; rest = ap (λ n. runs net q n (initial net)) (sub-zero (arcs net * threshold (arcs net) q)) }
+      record { underway = underway-start net q sound chooses; rest = ap (λ n. runs net q n (initial net)) (sub-zero (resources net * threshold (resources net) q)) }
 
   module _ (s : State) (r : Running net q s) where
     abbrev t : State
@@ -60,7 +61,7 @@ module _ (net : Network) (q : ℕ) (sound : Sound net q) (chooses : Chooses net)
 
 -- The test of the loads that the program makes is the definition's.
 pub ended-is :
-    (net : Network) (q : ℕ) (s : State) (mark : ℕ) → length (s .loads) ≡ arcs net → mark ≡ threshold (arcs net) q →
-    exists (length (s .loads)) (λ e. leb (mark * getD (net .capacities) e 0) (getD (s .loads) e 0)) ≡ ended net q s
+    (net : Network) (q : ℕ) (s : State) (mark : ℕ) → length (s .loads) ≡ resources net → mark ≡ threshold (resources net) q →
+    exists (length (s .loads)) (λ e. leb (mark * getD (rooms net) e 0) (getD (s .loads) e 0)) ≡ ended net q s
 unfolding ended
 ended-is net q s mark h e = rw (h, e) refl

@@ -3,7 +3,8 @@ use mathlib.Core.Path.{_≡_}
 use mathlib.Core.List.{List}
 use Prim.Native.Nat.{ℕ}
 use Rattle.length.specs.Level.{threshold}
-use Rattle.network.specs.Network.{Network, arcs}
+use Rattle.network.specs.Network.{Network}
+use Rattle.network.specs.Resources.{resources}
 use Rattle.packed.specs.declared.Shape.{Shape}
 use Rattle.method.specs.Iteration.{State, weight, iteration}
 use Rattle.method.specs.Run.{ended}
@@ -14,7 +15,7 @@ use Rattle.run.specs.Runs.{Chooses}
 
 -- What is noted beside the state: T, and D of the lengths.
 pub record Noted (net : Network) (q t : ℕ) (lengths : List ℕ) (p : Progress) : Type 0 where
-  pub threshold : t ≡ threshold (arcs net) q
+  pub threshold : t ≡ threshold (resources net) q
   pub weight : p .weight ≡ weight net lengths
 
 -- What an iteration leaves: the method's next state, D of the new lengths, and whether the run ends with it.

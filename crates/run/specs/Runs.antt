@@ -2,7 +2,7 @@
 use mathlib.Core.Path.{_≡_}
 use mathlib.Core.List.{List}
 use mathlib.Core.Option.{some}
-use Prim.Native.Nat.{ℕ, _≤_}
+use Prim.Native.Nat.{ℕ, _*_, _≤_}
 use Rattle.bounds.specs.Bounds.{mostNodes}
 use Rattle.network.specs.Network.{Network}
 use Rattle.packed.specs.Packed.{netIn, Lent, tableNumbers}
@@ -12,13 +12,13 @@ use Rattle.method.specs.Iteration.{State, initial, weight}
 use Rattle.choice.specs.Calls.{Indexed}
 use Rattle.choice.specs.Memory.{Memory}
 
--- What each part of a run is lent: an accepted network and both indexes of its arcs, a slice of this many numbers for the tables of the arcs, and
--- one for the arcs of a path.
+-- What each part of a run is lent: an accepted network and both indexes of its arcs, with the capacities of its resources; a slice of this many numbers
+-- for the tables of the resources, and one for what a path uses.
 pub record Space (s : Shape) (q : ℕ) (net indexes : List ℕ) (numbers places : ℕ) : Type 0 where
   pub lent : Lent s q net
   pub indexed : Indexed (netIn s net) indexes
   pub tables : tableNumbers ≤ numbers
-  pub path : mostNodes ≤ places
+  pub path : 2 * mostNodes ≤ places
 
 -- Some commodity is joined: whatever the lengths, a path is chosen.
 abbrev pub Chooses : Network → Type 0

@@ -1,5 +1,6 @@
 // One iteration on the lent slices.
 use choice::BOUNDS;
+use choice::ROOMS;
 use packed::LENGTHS;
 use packed::Shape;
 use step::Progress;
@@ -42,17 +43,17 @@ pub fn iterate(
     requires iterating { ⌜ Iterating s (netIn s (now net)) q threshold (now memory) (stateIn s (now flow) (now tables) p) p ⌝ }
     ensures { λ r. ⌜ Onward s (netIn s (now (net .entry))) q (stateIn s (now (flow .entry)) (now (tables .entry)) p) (stateIn s (now (flow .exit)) (now (tables .exit)) r) (now (memory .exit)) r ⌝ }
 {
-    let m = s.arcs;
+    let m = s.resources;
     let c = choice::choose(s, net, indexes, &tables[LENGTHS..LENGTHS + m], memory, path);
-    let arcs = c.arcs;
+    let used = c.used;
     let r = step::step(
         s,
         q,
         threshold,
         net,
-        c.commodity,
-        &path[..arcs],
-        c.alpha,
+        &indexes[ROOMS..ROOMS + m],
+        c,
+        &path[..used],
         flow,
         tables,
         p,

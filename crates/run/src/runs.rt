@@ -42,7 +42,7 @@ pub fn run(
     requires starting { ⌜ Starting s (netIn s (now net)) (now memory) (stateIn s (now flow) (now tables) begun) weight ⌝ }
     ensures { λ r. ⌜ stateIn s (now (flow .exit)) (now (tables .exit)) r ≡ run (netIn s (now (net .entry))) q ⌝ }
 {
-    let m = s.arcs;
+    let m = s.resources;
     let threshold = length::threshold(m as u64, q);
     let mut p = begin(weight);
     loop {

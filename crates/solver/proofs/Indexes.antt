@@ -1,33 +1,66 @@
--- Both indexes made in one slice, one after the other. Assumes nothing.
-use mathlib.Core.Path.{_≡_, sym, subst, _∙_}
+-- Both indexes and the capacities of the resources made in one slice, one after the other. Assumes nothing.
+use mathlib.Core.Path.{_≡_, sym, ap, subst, _∙_}
 use mathlib.Core.List.{List}
-use Prim.Native.Nat.{ℕ, _≤_}
+use Prim.Native.Nat.{ℕ, _+_, _≤_}
 use native.Mathlib.Omega.{arith}
 use lib.ListN.{length}
+use Rattle.bounds.specs.Bounds.{mostArcs}
 use Rattle.network.specs.Network.{Network}
+use Rattle.network.specs.Resources.{resources, rooms}
 use Rattle.packed.specs.Packed.{part, put}
 use Rattle.packed.proofs.Columns.{part-length, part-put, part-before, put-length}
 use Rattle.index.specs.Index.{indexNumbers, Into, Out}
-use Rattle.choice.specs.Calls.{indexesNumbers, Indexed}
+use Rattle.choice.specs.Calls.{roomsFrom, indexesNumbers, Indexed}
 
-module _ (net : Network) (xs a b : List ℕ) (room : indexesNumbers ≤ length xs) (first : length a ≡ length (part 0 indexNumbers xs)) where
+module _ (xs a b : List ℕ) (r : ℕ) (few : r ≤ mostArcs) (room : indexesNumbers ≤ length xs) (first : length a ≡ length (part 0 indexNumbers xs)) where
+  -- the slice with the first index,
+  abbrev one : List ℕ
+  one = put 0 indexNumbers xs a
+
   first-size : length a ≡ indexNumbers
   first-size = first ∙ part-length 0 indexNumbers xs (omega arith)
 
-  first-length : length (put 0 indexNumbers xs a) ≡ length xs
-  first-length = put-length 0 indexNumbers xs a (omega arith) first-size
+  one-length : length one ≡ length xs
+  one-length = put-length 0 indexNumbers xs a (omega arith) first-size
 
-  module _ (second : length b ≡ length (part indexNumbers indexNumbers (put 0 indexNumbers xs a))) where
+  module _ (second : length b ≡ length (part indexNumbers indexNumbers one)) where
+    -- with both,
+    abbrev two : List ℕ
+    two = put indexNumbers indexNumbers one b
+
     second-size : length b ≡ indexNumbers
-    second-size = second ∙ part-length indexNumbers indexNumbers (put 0 indexNumbers xs a) (omega (arith, first-length))
+    second-size = second ∙ part-length indexNumbers indexNumbers one (omega (arith, one-length))
 
-    pub both : Into net a → Out net b → Indexed net (put indexNumbers indexNumbers (put 0 indexNumbers xs a) b)
-    both into out =
-        record {
-          numbers = omega (arith, put-length indexNumbers indexNumbers (put 0 indexNumbers xs a) b (omega (arith, first-length)) second-size, first-length);
-          into =
-              subst (Into net)
-              (sym (part-before indexNumbers indexNumbers (put 0 indexNumbers xs a) 0 indexNumbers b (omega (arith, first-length)) (omega arith) ∙
-              part-put 0 indexNumbers xs a (omega arith) first-size)) into;
-          out = subst (Out net) (sym (part-put indexNumbers indexNumbers (put 0 indexNumbers xs a) b (omega (arith, first-length)) second-size)) out;
-        }
+    two-length : length two ≡ length xs
+    two-length = put-length indexNumbers indexNumbers one b (omega (arith, one-length)) second-size ∙ one-length
+
+    pub space : roomsFrom + r ≤ length two
+    space = omega (arith, two-length)
+
+    module _ (net : Network) (counted : r ≡ resources net) (c : List ℕ) (third : length c ≡ length (part roomsFrom r two)) where
+      -- and with the capacities.
+      abbrev three : List ℕ
+      three = put roomsFrom r two c
+
+      third-size : length c ≡ r
+      third-size = third ∙ part-length roomsFrom r two space
+
+      into-is : part 0 indexNumbers three ≡ a
+      into-is =
+          part-before roomsFrom r two 0 indexNumbers c (omega (arith, two-length)) (omega arith) ∙
+          (part-before indexNumbers indexNumbers one 0 indexNumbers b (omega (arith, one-length)) (omega arith) ∙
+          part-put 0 indexNumbers xs a (omega arith) first-size)
+
+      out-is : part indexNumbers indexNumbers three ≡ b
+      out-is =
+          part-before roomsFrom r two indexNumbers indexNumbers c (omega (arith, two-length)) (omega arith) ∙
+          part-put indexNumbers indexNumbers one b (omega (arith, one-length)) second-size
+
+      pub indexed : Into net a → Out net b → c ≡ rooms net → Indexed net three
+      indexed into out caps =
+          record {
+            numbers = omega (arith, put-length roomsFrom r two c space third-size, two-length);
+            into = subst (Into net) (sym into-is) into;
+            out = subst (Out net) (sym out-is) out;
+            rooms = ap (λ n. part roomsFrom n three) (sym counted) ∙ (part-put roomsFrom r two c space third-size ∙ caps);
+          }

@@ -4,34 +4,35 @@ use mathlib.Core.List.{List}
 use Prim.Native.Nat.{ℕ, _*_, _-_, _≤_}
 use lib.IntN.{ℤ}
 use lib.ListN.{length, getD}
+use Rattle.bounds.specs.Bounds.{mostArcs}
 use Rattle.network.specs.Network.{Network, arcs, commodities}
 use Rattle.method.specs.Answer.{fullest, outcome}
 use Rattle.method.specs.Guarantee.{Guarantee}
 use Rattle.method.specs.declared.Answer.{Answer}
 use Rattle.tables.specs.Calls.{Ranking}
 use Rattle.step.specs.declared.Progress.{Progress}
-use Rattle.packed.specs.Packed.{netIn, Packed, Lent, loadsIn, tableNumbers}
+use Rattle.packed.specs.Packed.{netIn, Lent, loadsIn, tableNumbers}
 use Rattle.packed.specs.declared.Shape.{Shape}
 
--- An accepted network, a flow table of just the size that its outcome has, and room for the tables of the arcs.
+-- An accepted network, a flow table of just the size that its outcome has, and room for the tables of the resources.
 pub record Solving (s : Shape) (q : ℕ) (net : List ℕ) (flow : List ℤ) (tables : List ℕ) : Type 0 where
   pub lent : Lent s q net
   pub flows : length flow ≡ commodities (netIn s net) * arcs (netIn s net)
   pub places : tableNumbers ≤ length tables
 
 -- What the answer asks: loads and capacities that can be compared.
-pub record Answering (s : Shape) (net tables : List ℕ) : Type 0 where
-  pub packed : Packed s net
+pub record Answering (s : Shape) (caps tables : List ℕ) : Type 0 where
+  pub few : s .resources ≤ mostArcs
   pub places : tableNumbers ≤ length tables
-  pub ranking : Ranking (loadsIn s tables) (netIn s net .capacities)
+  pub ranking : Ranking (loadsIn s tables) caps
 
--- The answer of a run that left these loads of m arcs, and these numbers.
-abbrev pub answerOf : ℕ → List ℕ → List ℕ → Progress → Answer
-answerOf m capacities loads p =
+-- The answer of a run that left these loads, and these numbers.
+abbrev pub answerOf : List ℕ → List ℕ → Progress → Answer
+answerOf capacities loads p =
     record {
       total = p .total;
-      capacity = getD capacities (fullest capacities loads (m - 1)) 0;
-      load = getD loads (fullest capacities loads (m - 1)) 0;
+      capacity = getD capacities (fullest capacities loads (length loads - 1)) 0;
+      load = getD loads (fullest capacities loads (length loads - 1)) 0;
       bound = p .bound;
       alpha = p .alpha;
       count = p .count;

@@ -1,6 +1,6 @@
 // The outcome from the tables of the start: no answer where no commodity is joined, else that of the run.
+use choice::ROOMS;
 use method::Answer;
-use packed::CAPACITIES;
 use packed::LENGTHS;
 use packed::LOADS;
 use packed::Shape;
@@ -10,24 +10,22 @@ use step::Progress;
 use tables::loads;
 ghost use mathlib.Core.Path.{_≡_};
 ghost use lib.ListN.{length};
-ghost use Rattle.network.specs.Network.{arcs};
 ghost use Rattle.packed.specs.Packed.{netIn, loadsIn, keptIn};
 ghost use Rattle.run.specs.Runs.{Space};
 ghost use Rattle.solver.specs.Prepared.{Cleared};
 ghost use Rattle.solver.specs.Solved.{Answering, Solved, answerOf, noAnswer};
 
-// The answer: the fullest arc gives the scale.
-fn answer(s: Shape, net: &[u64], tables: &[u64], p: Progress) -> Answer
-    requires { ⌜ Answering s (now net) (now tables) ⌝ }
-    ensures { λ r. ⌜ r ≡ answerOf (arcs (netIn s (now (net .entry)))) (netIn s (now (net .entry)) .capacities) (loadsIn s (now (tables .entry))) p ⌝ }
+// The answer: the fullest resource gives the scale.
+fn answer(s: Shape, rooms: &[u64], tables: &[u64], p: Progress) -> Answer
+    requires { ⌜ Answering s (now rooms) (now tables) ⌝ }
+    ensures { λ r. ⌜ r ≡ answerOf (now (rooms .entry)) (loadsIn s (now (tables .entry))) p ⌝ }
 {
-    let m = s.arcs;
-    let capacities = &net[CAPACITIES..CAPACITIES + m];
+    let m = s.resources;
     let loads = &tables[LOADS..LOADS + m];
-    let b = loads::fullest(loads, capacities);
+    let b = loads::fullest(loads, rooms);
     Answer {
         total: p.total,
-        capacity: capacities[b],
+        capacity: rooms[b],
         load: loads[b],
         bound: p.bound,
         alpha: p.alpha,
@@ -67,11 +65,11 @@ pub fn outcome(
     requires cleared { ⌜ Cleared s (netIn s (now net)) (now flow) (now tables) (now memory) weight ⌝ }
     ensures { λ r. ⌜ Solved (netIn s (now (net .entry))) q r (now (flow .exit)) (keptIn s (now (tables .exit))) ⌝ }
 {
-    let m = s.arcs;
+    let m = s.resources;
     let first = choice::choose(s, net, indexes, &tables[LENGTHS..LENGTHS + m], memory, path);
     if first.alpha >= FAR_LENGTH {
         return unjoined();
     }
     let p = runs::run(s, q, net, indexes, flow, tables, memory, path, weight);
-    answer(s, net, tables, p)
+    answer(s, &indexes[ROOMS..ROOMS + m], tables, p)
 }

@@ -1,52 +1,49 @@
-// The indexes of the arcs made, the tables cleared, and the outcome.
+// What is made of the network once, the tables cleared, and the outcome.
 use crate::outcomes::outcome;
 use choice::BOUNDS;
 use choice::INTO;
 use choice::OUT;
+use choice::ROOMS;
 use index::INDEX_NUMBERS;
 use method::Answer;
-use packed::CAPACITIES;
 use packed::KEPT;
 use packed::LENGTHS;
 use packed::LOADS;
 use packed::Shape;
 use tables::loads;
-ghost use Prim.Native.Nat.{_≤_};
 ghost use lib.ListN.{length};
 ghost use Rattle.packed.specs.Packed.{netIn, keptIn};
-ghost use Rattle.index.specs.Index.{indexNumbers};
-ghost use Rattle.index.specs.Indexing.{Indexable};
-ghost use Rattle.choice.specs.Calls.{indexesNumbers, Indexed};
-ghost use Rattle.solver.specs.Prepared.{Preparing, Cleared, Working};
+ghost use Rattle.choice.specs.Calls.{Indexed};
+ghost use Rattle.solver.specs.Prepared.{Laying, Preparing, Cleared, Working};
 ghost use Rattle.solver.specs.Solved.{Solved};
 
-// Both indexes.
-fn index_both(s: Shape, net: &[u64], indexes: &mut [u64])
-    requires { ⌜ Indexable s (now net) indexNumbers × (indexesNumbers ≤ length (now indexes)) ⌝ }
+// Both indexes, and the capacities of the resources.
+fn index_all(s: Shape, net: &[u64], indexes: &mut [u64])
+    requires { ⌜ Laying s (now net) (length (now indexes)) ⌝ }
     ensures { λ _. ⌜ Indexed (netIn s (now (net .entry))) (now (indexes .exit)) ⌝ }
 {
     index::index_into(s, net, &mut indexes[INTO..INTO + INDEX_NUMBERS]);
     index::index_out(s, net, &mut indexes[OUT..OUT + INDEX_NUMBERS]);
+    let m = s.resources;
+    index::rooms(s, net, &mut indexes[ROOMS..ROOMS + m]);
 }
 
-// The tables before the first choice: lengths at their start, zeros in the others; D of the lengths. q is taken for the contract.
+// The tables before the first choice: lengths at their start, zeros in the others; D of the lengths. q and the network are taken for the contract.
 fn prepare(
     s: Shape,
     q: u64,
     net: &[u64],
+    rooms: &[u64],
     flow: &mut [i64],
     tables: &mut [u64],
     memory: &mut [u64],
 ) -> u64
-    requires { ⌜ Preparing s q (now net) (now flow) (now tables) (now memory) ⌝ }
+    requires { ⌜ Preparing s q (now net) (now rooms) (now flow) (now tables) (now memory) ⌝ }
     ensures { λ r. ⌜ Cleared s (netIn s (now (net .entry))) (now (flow .exit)) (now (tables .exit)) (now (memory .exit)) r ⌝ }
 {
-    let m = s.arcs;
+    let m = s.resources;
     let k = s.commodities;
-    let weight = lengths::start(
-        &net[CAPACITIES..CAPACITIES + m],
-        &mut tables[LENGTHS..LENGTHS + m],
-    );
+    let weight = lengths::start(rooms, &mut tables[LENGTHS..LENGTHS + m]);
     loads::clear(&mut tables[LOADS..LOADS + m]);
     loads::clear(&mut tables[KEPT..KEPT + m]);
     loads::clear_flow(flow);
@@ -54,7 +51,7 @@ fn prepare(
     weight
 }
 
-// The outcome, with work space lent: the indexes are made once.
+// The outcome, with work space lent.
 pub fn solve_in(
     s: Shape,
     q: u64,
@@ -68,7 +65,8 @@ pub fn solve_in(
     requires { ⌜ Working s q (now net) (now indexes) (now flow) (now tables) (now memory) (now path) ⌝ }
     ensures { λ r. ⌜ Solved (netIn s (now (net .entry))) q r (now (flow .exit)) (keptIn s (now (tables .exit))) ⌝ }
 {
-    index_both(s, net, indexes);
-    let weight = prepare(s, q, net, flow, tables, memory);
+    index_all(s, net, indexes);
+    let m = s.resources;
+    let weight = prepare(s, q, net, &indexes[ROOMS..ROOMS + m], flow, tables, memory);
     outcome(s, q, net, indexes, flow, tables, memory, path, weight)
 }

@@ -2,23 +2,24 @@
 use mathlib.Core.Path.{_≡_}
 use mathlib.Core.List.{List}
 use Prim.Native.Nat.{ℕ}
-use lib.ListN.{length}
-use Rattle.network.specs.Network.{Network, arcs}
+use Rattle.network.specs.Network.{Network}
+use Rattle.network.specs.Resources.{rooms}
+use Rattle.network.proofs.Resources.{rooms-length}
+use Rattle.method.specs.Choice.{Choice, usedBy}
 use Rattle.method.specs.Iteration.{State, weight, draw}
 use Rattle.tables.specs.Calls.{Pushing, Loading}
 use Rattle.lengths.specs.Calls.{Lengthening}
 use Rattle.step.specs.Steps.{Stepping, Kept}
 use Rattle.step.specs.declared.Progress.{Progress}
 
-module _ {net : Network} {q t i : ℕ} {path : List ℕ} {a : ℕ} {s : State} {p : Progress} (S : Stepping net q i path a s) (K : Kept net t s p) where
-  module _ {g : ℕ} (drawn : g ≡ draw (net .capacities) path) where
-    pub pushing : Pushing net i path g (s .flow)
+module _ {net : Network} {q t : ℕ} {c : Choice} {a : ℕ} {s : State} {p : Progress} (S : Stepping net q c a s) (K : Kept net t s p) where
+  module _ {g : ℕ} (drawn : g ≡ draw (rooms net) (usedBy net c)) where
+    pub pushing : Pushing net (c .commodity) (c .path) g (s .flow)
     pushing = rw drawn (S .flow)
 
-    pub loading : {Y : List ℕ} → Y ≡ s .loads → Loading Y (net .capacities) t path g
+    pub loading : {Y : List ℕ} → Y ≡ s .loads → Loading Y (rooms net) t (usedBy net c) g
     loading e = rw (e, drawn) (record { adding = S .loads; ending = K .ending; none = K .none })
 
-    pub lengthening :
-        length (net .capacities) ≡ arcs net → {L : List ℕ} → L ≡ s .lengths → Lengthening L (net .capacities) q g path (p .weight)
+    pub lengthening : {L : List ℕ} → L ≡ s .lengths → Lengthening L (rooms net) q g (usedBy net c) (p .weight)
     unfolding weight
-    lengthening whole e = rw (e, drawn) (record { growing = S .growing; grown = S .grown; weight = rw whole (K .weight) })
+    lengthening e = rw (e, drawn) (record { growing = S .growing; grown = S .grown; weight = rw (rooms-length net) (K .weight) })

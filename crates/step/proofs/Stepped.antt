@@ -10,7 +10,9 @@ use lib.ListN.{length, getD}
 use Rattle.length.specs.Length.{growth, halving}
 use Rattle.network.specs.Network.{Network, arcs, source}
 use Rattle.network.specs.Path.{pathLength}
-use Rattle.method.specs.Choice.{choiceOf}
+use Rattle.network.specs.Resources.{rooms}
+use Rattle.network.proofs.Resources.{rooms-length}
+use Rattle.method.specs.Choice.{Choice, usedBy}
 use Rattle.method.specs.Iteration.{weight, draw, update, pushed, grown, settled, advance}
 use Rattle.method.proofs.Times.{update-length}
 use Rattle.lengths.specs.declared.Grown.{Grown}
@@ -21,10 +23,12 @@ use Rattle.step.specs.declared.Progress.{Progress}
 use Rattle.step.specs.Progress.{stateOf, counted, halves}
 use Rattle.step.specs.Steps.{Stepped}
 
-module _ (net : Network) (q t i : ℕ) (path L : List ℕ) (F : List ℤ) (Y K : List ℕ) (p : Progress) (whole : length (net .capacities) ≡ arcs net)
-    (same : length L ≡ length (net .capacities)) where
+module _ (net : Network) (q t : ℕ) (c : Choice) (L : List ℕ) (F : List ℤ) (Y K : List ℕ) (p : Progress) (same : length L ≡ length (rooms net)) where
   abbrev caps : List ℕ
-  caps = net .capacities
+  caps = rooms net
+
+  abbrev path : List ℕ
+  path = usedBy net c
 
   abbrev g : ℕ
   g = draw caps path
@@ -43,26 +47,26 @@ module _ (net : Network) (q t i : ℕ) (path L : List ℕ) (F : List ℤ) (Y K :
   lengths = cond (halves caps q path L) (map halving G) G
 
   abbrev flow : List ℤ
-  flow = pushed net (i * arcs net) g (source net i) path F
+  flow = pushed net (c .commodity * arcs net) g (source net (c .commodity)) (c .path) F
 
   abbrev loads : List ℕ
   loads = update (λ e x. x + g) path Y
 
   module _ (h : p .weight ≡ weight net L) where
     advanced :
-        (d : ℕ) (b c : Bool) →
-        stateOf lengths flow loads (cond better L K) (counted p g better a d b c) ≡ advance net q (choiceOf i path) (stateOf L F Y K p)
+        (d : ℕ) (b e : Bool) →
+        stateOf lengths flow loads (cond better L K) (counted p g better a d b e) ≡ advance net q c (stateOf L F Y K p)
     unfolding advance grown settled
-    advanced d b c = rw (h, update-length (λ e x. growth q g (getD caps e 0) x) path L ∙ (same ∙ whole), add-one (p .count)) refl
+    advanced d b e = rw (h, update-length (λ e x. growth q g (getD caps e 0) x) path L ∙ (same ∙ rooms-length net), add-one (p .count)) refl
 
     pub stepped :
         let r = counted p g better a (weightOf caps lengths) (halves caps q path L) (atThreshold t caps loads) in
-        Stepped net q t i path (stateOf L F Y K p) (stateOf lengths flow loads (cond better L K) r) r
+        Stepped net q t c (stateOf L F Y K p) (stateOf lengths flow loads (cond better L K) r) r
     unfolding weight
     stepped =
         record {
           state = advanced (weightOf caps lengths) (halves caps q path L) (atThreshold t caps loads);
-          weight = rw whole refl;
+          weight = rw (rooms-length net) refl;
           halved = refl;
           ended = refl;
         }
@@ -71,9 +75,9 @@ module _ (net : Network) (q t i : ℕ) (path L : List ℕ) (F : List ℤ) (Y K :
   pub put-together :
       {a g : ℕ} {better : Bool} {F′ : List ℤ} {K′ Y₀ Y′ L₀ L′ : List ℕ} {ended : Bool} {grown : Grown} {r : Progress} →
       p .weight ≡ weight net L → a ≡ pathLength L path → g ≡ draw caps path → better ≡ ltb (p .weight * p .alpha) (p .bound * a) →
-      K′ ≡ cond better L K → F′ ≡ pushed net (i * arcs net) g (source net i) path F → Y₀ ≡ Y → Loaded Y₀ caps t path g Y′ ended →
+      K′ ≡ cond better L K → F′ ≡ pushed net (c .commodity * arcs net) g (source net (c .commodity)) (c .path) F → Y₀ ≡ Y → Loaded Y₀ caps t path g Y′ ended →
       L₀ ≡ L → Lengthened L₀ caps q g path L′ grown → r ≡ counted p g better a (grown .weight) (grown .marked) ended →
-      Stepped net q t i path (stateOf L F Y K p) (stateOf L′ F′ Y′ K′ r) r
+      Stepped net q t c (stateOf L F Y K p) (stateOf L′ F′ Y′ K′ r) r
   put-together h ea eg eb ek ef ey loaded el long er =
       rw (
         er,

@@ -1,4 +1,4 @@
--- The three tables of the arcs in one slice: what each step leaves of them. Assumes nothing.
+-- The three tables of the resources in one slice: what each step leaves of them. Assumes nothing.
 use mathlib.Core.Path.{_≡_, refl, sym, _∙_}
 use mathlib.Core.Bool.{Bool, true, false, cond}
 use mathlib.Core.List.{List}
@@ -10,7 +10,7 @@ use Rattle.packed.specs.Packed.{part, put, lengthsFrom, loadsFrom, keptFrom, ta
 use Rattle.packed.proofs.Columns.{part-length, put-length, part-put, part-behind, part-before}
 use Rattle.step.specs.Progress.{keeping}
 
--- The slice T has the lengths L, the loads Y and the kept lengths K of m arcs.
+-- The slice T has the lengths L, the loads Y and the kept lengths K of m resources.
 pub record Tabled (m : ℕ) (T L Y K : List ℕ) : Type 0 where
   pub few : m ≤ mostArcs
   pub places : tableNumbers ≤ length T

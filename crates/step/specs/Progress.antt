@@ -24,11 +24,11 @@ stateOf lengths flow loads kept p =
       bestLengths = kept;
     }
 
--- The same where the tables of the arcs stand in one slice.
+-- The same where the tables of the resources stand in one slice.
 abbrev pub stateIn : Shape → List ℤ → List ℕ → Progress → State
 stateIn s flow tables p = stateOf (lengthsIn s tables) flow (loadsIn s tables) (keptIn s tables) p
 
--- Those tables, with the lengths of m arcs kept where they gave a better bound.
+-- Those tables, with the lengths of m resources kept where they gave a better bound.
 abbrev pub keeping : Bool → ℕ → List ℕ → List ℕ
 keeping better m tables = cond better (put keptFrom m tables (part lengthsFrom m tables)) tables
 
@@ -54,6 +54,6 @@ counted p g better a d halved ended =
       ended = ended;
     }
 
--- Some length of l grown along a path is at the mark, so that all are halved.
+-- Some length of l, grown where a path uses it, is at the mark, so that all are halved.
 abbrev pub halves : List ℕ → ℕ → List ℕ → List ℕ → Bool
 halves capacities q path l = atMark (longer capacities q (draw capacities path) path l)

@@ -4,46 +4,58 @@ use mathlib.Core.Bool.{false}
 use mathlib.Core.List.{List}
 use Prim.Native.Nat.{ℕ, _^_, _≤_, _<_}
 use lib.IntN.{ℤ}
-use lib.ListN.{length}
+use lib.ListN.{length, take}
+use Rattle.bounds.specs.Bounds.{mostArcs}
 use Rattle.network.specs.Network.{Network}
 use Rattle.network.specs.Path.{pathLength}
+use Rattle.network.specs.Resources.{resources, rooms}
 use Rattle.packed.specs.Packed.{netIn, Packed, tableNumbers}
 use Rattle.packed.specs.declared.Shape.{Shape}
-use Rattle.method.specs.Choice.{choiceOf}
+use Rattle.method.specs.Choice.{Choice, usedBy, choiceOf}
 use Rattle.method.specs.Iteration.{State, weight, draw, advance}
+use Rattle.method.specs.declared.Selected.{Selected}
 use Rattle.tables.specs.Calls.{Pushing, Adding, Ending}
 use Rattle.lengths.specs.Calls.{Growing, Settling}
 use Rattle.tables.specs.Tables.{longer, atThreshold}
 use Rattle.step.specs.declared.Progress.{Progress}
 use Rattle.step.specs.Progress.{stateIn, halves}
 
--- What a step asks of the method's state.
-pub record Stepping (net : Network) (q commodity : ℕ) (path : List ℕ) (a : ℕ) (s : State) : Type 0 where
-  pub some-arc : 1 ≤ length path
-  pub alpha : a ≡ pathLength (s .lengths) path
-  pub growing : Growing (s .lengths) (net .capacities) q (draw (net .capacities) path) path
-  pub grown : Settling (net .capacities) (longer (net .capacities) q (draw (net .capacities) path) path (s .lengths))
-  pub flow : Pushing net commodity path (draw (net .capacities) path) (s .flow)
-  pub loads : Adding (s .loads) path (draw (net .capacities) path)
+-- What a step with the choice c asks of the method's state.
+pub record Stepping (net : Network) (q : ℕ) (c : Choice) (a : ℕ) (s : State) : Type 0 where
+  pub some-arc : 1 ≤ length (usedBy net c)
+  pub alpha : a ≡ pathLength (s .lengths) (usedBy net c)
+  pub growing : Growing (s .lengths) (rooms net) q (draw (rooms net) (usedBy net c)) (usedBy net c)
+  pub grown : Settling (rooms net) (longer (rooms net) q (draw (rooms net) (usedBy net c)) (usedBy net c) (s .lengths))
+  pub flow : Pushing net (c .commodity) (c .path) (draw (rooms net) (usedBy net c)) (s .flow)
+  pub loads : Adding (s .loads) (usedBy net c) (draw (rooms net) (usedBy net c))
   pub total : s .total < 2 ^ 32
   pub count : s .count < 2 ^ 32
 
 -- What it asks of the numbers beside the state: D of the lengths is at hand, and no load is at the threshold yet.
 pub record Kept (net : Network) (threshold : ℕ) (s : State) (p : Progress) : Type 0 where
   pub weight : p .weight ≡ weight net (s .lengths)
-  pub ending : Ending (s .loads) (net .capacities) threshold
-  pub none : atThreshold threshold (net .capacities) (s .loads) ≡ false
+  pub ending : Ending (s .loads) (rooms net) threshold
+  pub none : atThreshold threshold (rooms net) (s .loads) ≡ false
 
--- All of it, of the slices that it is lent.
-pub record Steppable (s : Shape) (q threshold commodity : ℕ) (net path : List ℕ) (a : ℕ) (flow : List ℤ) (tables : List ℕ) (p : Progress) : Type 0 where
+-- The choice that was selected: the arcs of its path come first.
+abbrev pub chosenIn : Selected → List ℕ → Choice
+chosenIn c path = choiceOf (c .commodity) (take (c .arcs) path)
+
+-- All of it, of the slices that it is lent: the capacities of the resources, and what the path uses.
+pub record Steppable (s : Shape) (q threshold : ℕ) (c : Selected) (net caps path : List ℕ) (flow : List ℤ) (tables : List ℕ) (p : Progress) : Type 0 where
   pub packed : Packed s net
+  pub counted : s .resources ≡ resources (netIn s net)
+  pub few : s .resources ≤ mostArcs
   pub places : tableNumbers ≤ length tables
-  pub stepping : Stepping (netIn s net) q commodity path a (stateIn s flow tables p)
+  pub caps-are : caps ≡ rooms (netIn s net)
+  pub arcs-first : c .arcs ≤ length path
+  pub path-is : path ≡ usedBy (netIn s net) (chosenIn c path)
+  pub stepping : Stepping (netIn s net) q (chosenIn c path) (c .alpha) (stateIn s flow tables p)
   pub kept : Kept (netIn s net) threshold (stateIn s flow tables p) p
 
 -- What it leaves: the method's next state; D of the new lengths, whether they were halved, and whether some new load is at the threshold.
-pub record Stepped (net : Network) (q threshold commodity : ℕ) (path : List ℕ) (old new : State) (r : Progress) : Type 0 where
-  pub state : new ≡ advance net q (choiceOf commodity path) old
+pub record Stepped (net : Network) (q threshold : ℕ) (c : Choice) (old new : State) (r : Progress) : Type 0 where
+  pub state : new ≡ advance net q c old
   pub weight : r .weight ≡ weight net (new .lengths)
-  pub halved : r .halved ≡ halves (net .capacities) q path (old .lengths)
-  pub ended : r .ended ≡ atThreshold threshold (net .capacities) (new .loads)
+  pub halved : r .halved ≡ halves (rooms net) q (usedBy net c) (old .lengths)
+  pub ended : r .ended ≡ atThreshold threshold (rooms net) (new .loads)

@@ -1,6 +1,6 @@
 // One step of the run on the lent tables: what an iteration does once its path is chosen.
 use lengths::Grown;
-use packed::CAPACITIES;
+use method::Selected;
 use packed::KEPT;
 use packed::LENGTHS;
 use packed::LOADS;
@@ -13,7 +13,7 @@ ghost use lib.ListN.{length};
 ghost use Rattle.bounds.specs.Bounds.{mostArcs};
 ghost use Rattle.packed.specs.Packed.{netIn, tableNumbers};
 ghost use Rattle.step.specs.Progress.{stateIn, keeping, counted};
-ghost use Rattle.step.specs.Steps.{Steppable, Stepped};
+ghost use Rattle.step.specs.Steps.{chosenIn, Steppable, Stepped};
 
 // The drawn total, the count of iterations, and D, alpha and number of the iteration of the least D / alpha so far. Beside these numbers of the
 // method's state, what would else be read off whole tables: D of the present lengths, whether the last iteration halved them, and whether some
@@ -70,43 +70,37 @@ fn count(p: Progress, g: u64, better: bool, alpha: u64, grown: Grown, ended: boo
     }
 }
 
-// The iteration that draws along the path of a commodity, alpha long by the lengths. Only the path's arcs are looked at, unless the lengths are
-// kept or halved.
+// The iteration that draws along the path that was selected. What it uses stands in path, its arcs first, and rooms has the capacities of the resources.
+// Only these resources are looked at, unless the lengths are kept or halved.
 pub fn step(
     s: Shape,
     q: u64,
     threshold: u64,
     net: &[u64],
-    commodity: usize,
+    rooms: &[u64],
+    c: Selected,
     path: &[u64],
-    alpha: u64,
     flow: &mut [i64],
     tables: &mut [u64],
     p: Progress,
 ) -> Progress
-    requires { ⌜ Steppable s q threshold commodity (now net) (now path) alpha (now flow) (now tables) p ⌝ }
-    ensures { λ r. ⌜ Stepped (netIn s (now (net .entry))) q threshold commodity (now (path .entry)) (stateIn s (now (flow .entry)) (now (tables .entry)) p) (stateIn s (now (flow .exit)) (now (tables .exit)) r) r ⌝ }
+    requires { ⌜ Steppable s q threshold c (now net) (now rooms) (now path) (now flow) (now tables) p ⌝ }
+    ensures { λ r. ⌜ Stepped (netIn s (now (net .entry))) q threshold (chosenIn c (now (path .entry))) (stateIn s (now (flow .entry)) (now (tables .entry)) p) (stateIn s (now (flow .exit)) (now (tables .exit)) r) r ⌝ }
 {
-    let m = s.arcs;
-    let capacities = &net[CAPACITIES..CAPACITIES + m];
-    let g = draws::draw(capacities, path);
-    let better = arith::less_product(p.weight, p.alpha, p.bound, alpha);
+    let m = s.resources;
+    let g = draws::draw(rooms, path);
+    let better = arith::less_product(p.weight, p.alpha, p.bound, c.alpha);
     keep(better, m, tables);
-    draws::push(flow, s, net, commodity, path, g);
-    let ended = loads::load(
-        &mut tables[LOADS..LOADS + m],
-        capacities,
-        threshold,
-        path,
-        g,
-    );
+    let arcs = c.arcs;
+    draws::push(flow, s, net, c.commodity, &path[..arcs], g);
+    let ended = loads::load(&mut tables[LOADS..LOADS + m], rooms, threshold, path, g);
     let grown = lengths::lengthen(
         &mut tables[LENGTHS..LENGTHS + m],
-        capacities,
+        rooms,
         q,
         g,
         path,
         p.weight,
     );
-    count(p, g, better, alpha, grown, ended)
+    count(p, g, better, c.alpha, grown, ended)
 }

@@ -1,6 +1,5 @@
 pub mod Amounts
 pub mod Copied
-pub mod Counted
 pub mod Crossings
 pub mod Filled
 pub mod Followed

@@ -33,9 +33,9 @@ module _ {xs caps : List ℕ} {t : ℕ} {p : List ℕ} {g : ℕ} (w : Loading xs
     pub next-place : arc < length xs
     next-place = omega (arith, w .adding .places j l)
 
-    pub next-load : getD ys arc 0 < 2 ^ 32 + 64 * 1000
+    pub next-load : getD ys arc 0 < 2 ^ 32 + 128 * 1000
     next-load =
-        omega (arith, follow-most 64 1000 (r .follow) (w .adding .few) (w .adding .small) arc, w .adding .amounts arc next-place)
+        omega (arith, follow-most 128 1000 (r .follow) (w .adding .few) (w .adding .small) arc, w .adding .amounts arc next-place)
 
     pub next-limit : t * getD caps arc 0 ≤ 2 ^ 20 * 1000
     next-limit =

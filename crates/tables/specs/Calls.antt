@@ -30,12 +30,12 @@ pub record Pushing (net : Network) (commodity : ℕ) (path : List ℕ) (g : ℕ)
   pub small : g ≤ mostCapacity
   pub few : length path ≤ mostNodes
 
--- A draw g added at each arc of a path.
+-- A draw g added at each resource that a path uses: no more arcs and no more nodes than there are nodes.
 pub record Adding (table path : List ℕ) (g : ℕ) : Type 0 where
   pub places : Under (length table) path
   pub amounts : Under (2 ^ 32) table
   pub small : g ≤ mostCapacity
-  pub few : length path ≤ mostNodes
+  pub few : length path ≤ 2 * mostNodes
 
 -- Loads compared with the threshold times the capacities.
 pub record Ending (loads capacities : List ℕ) (threshold : ℕ) : Type 0 where

@@ -12,11 +12,14 @@ use Rattle.packed.specs.Packed.{netIn, sourcesFrom, sinksFrom}
 use Rattle.packed.proofs.Columns.{part-at, part-length, commodities-is}
 use Rattle.paths.specs.Key.{arcsOf}
 use Rattle.choice.specs.Memory.{distancesFrom, distanceNumbers, memoryNumbers, boundsIn, distancesIn}
-use Rattle.choice.proofs.Selects.{selects-nothing, selects-walkable, selects-walk}
+use Rattle.choice.proofs.Selects.{selects-nothing, selects-walkable, selects-path, selects-walk}
 use Rattle.choice.proofs.choose.Statement.{statement}
 use Rattle.choice.proofs.choose.Tie as tie
 
--- behind the walk: the test, the search for the nearest commodity, and the function's entry
+-- behind the visits: the walk, the test, the search for the nearest commodity, and the function's entry
+abbrev walk-at : tie.After-visit → tie.After-walk
+walk-at c = c .before .before .before .before .before .before
+
 abbrev test-at : tie.After-walk → tie.Else1
 test-at c = c .before .before .before .before .before .before .before
 
@@ -70,7 +73,7 @@ returns : tie.Need-returns
 returns c =
     let s = c .before .before .before .before in
     record {
-      chose = selects-nothing (entry s .pre .survey) (s .nearest .ensures) (own s) _ _ (c .if1 .taken);
+      chose = selects-nothing (entry s .pre .survey) (s .nearest .ensures) (own s) _ _ _ (c .if1 .taken);
       memory-of = record { places = places s; below = s .nearest .ensures .below };
     }
 
@@ -124,13 +127,35 @@ mul-arcs c = omega (arith, node (search-at (test-at (c .before .before))))
 slice-read-arcs : tie.Need-slice-read-arcs
 slice-read-arcs c = let s = search-at (test-at (c .before .before .before)) in omega (arith, node s, places s)
 
+visit-requires : tie.Need-visit-requires
+visit-requires c κs =
+    let w = c .before .before .before .before .before in
+    let t = test-at w in
+    let s = search-at t in
+    let p = entry s .pre in
+    let ends = p .survey .fit .ends in
+    record {
+      packed = p .packed;
+      counted = p .counted;
+      ends = ends;
+      index = p .indexed .out;
+      node = rw (from s) (ends .sources (s .nearest .result) (s .nearest .ensures .least .among));
+      to = sink (net (entry s)) (s .nearest .result);
+      leads-to = selects-path (p .survey) (s .nearest .ensures) (own s) (t .if1 .left) (from s) (to s) _ _ (count s) (w .walk .ensures);
+      few = omega arith;
+      room = omega (arith, p .room, w .walk .kept .1 .1 .1 .1 .1 .1 .1 .0);
+    }
+
 returns-2 : tie.Need-returns-2
 returns-2 c =
-    let w = c .before .before .before in
+    let v = c .before .before in
+    let w = walk-at v in
     let t = test-at w in
     let s = search-at t in
     record {
-      chose = selects-walk (entry s .pre .survey) (s .nearest .ensures) (own s) (t .if1 .left) (from s) (to s) _ _ (count s) (w .walk .ensures);
+      chose =
+          selects-walk (entry s .pre .survey) (s .nearest .ensures) (own s) (t .if1 .left) (from s) (to s) _ _ (count s) (w .walk .ensures) _ _
+          (v .visit .ensures);
       memory-of = record { places = places s; below = s .nearest .ensures .below };
     }
 
@@ -140,4 +165,5 @@ choose-spec =
     nearest-requires add-alpha mul-alpha slice-read-alpha (λ c. search needs) returns add-source mul-source
     shared-slice-read-source add-sink mul-sink shared-slice-read-sink (λ c. search needs) (λ c. search needs)
     (λ c. search needs) (λ c. search needs) (λ c. search needs) (λ c. search needs) (λ c. search needs)
-    part-walk-end-2 walk-requires add-arcs mul-arcs slice-read-arcs (λ c. search needs) (λ c. search needs) returns-2)
+    part-walk-end-2 walk-requires add-arcs mul-arcs slice-read-arcs (λ c. search needs) (λ c. search needs)
+    (λ c. search needs) (λ c. search needs) visit-requires (λ c. search needs) (λ c. search needs) returns-2)

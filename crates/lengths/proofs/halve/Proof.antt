@@ -9,7 +9,7 @@ use lib.ListN.{length, getD, length-map}
 use Rattle.bounds.specs.Bounds.{mostCapacity}
 use Rattle.length.specs.Length.{halving}
 use Rattle.length.proofs.Size.{halving-falls}
-use Rattle.tables.proofs.Counted.{map-at}
+use Rattle.arith.proofs.Lists.{map-at}
 use Rattle.tables.proofs.Filled.{fill-next}
 use Rattle.lengths.proofs.Weighable.{halved-weighable}
 use Rattle.lengths.proofs.Weighed.{Weighing, weigh-none, weigh-more, weigh-all, weighing-most}

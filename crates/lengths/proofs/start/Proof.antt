@@ -4,12 +4,12 @@ use mathlib.Core.Path.{sym, _∙_}
 use Prim.Native.Nat.{_*_, _-_, _^_, _≤_}
 use native.Mathlib.Nat.{mul-le-mul}
 use native.Mathlib.Omega.{arith}
-use lib.ListN.{length, getD}
+use lib.ListN.{length, getD, length-map}
+use Rattle.arith.proofs.Lists.{map-at}
 use Rattle.bounds.specs.Bounds.{mostCapacity}
-use Rattle.length.specs.Length.{mark}
+use Rattle.length.specs.Length.{mark, start}
 use Rattle.length.proofs.Size.{start-fits}
 use Rattle.lengths.specs.Results.{firstLengths}
-use Rattle.tables.proofs.Counted.{row-length, row-at}
 use Rattle.lengths.proofs.Weighable.{first-weighable}
 use Rattle.lengths.proofs.Weighed.{Weighing, weigh-none, weigh-more, weigh-all, weighing-most}
 use Rattle.lengths.proofs.start.Statement.{statement}
@@ -49,12 +49,12 @@ add-d c = omega (arith, part c, weighing-most (first-weighable (entry (turn c) .
 loop-again : tie.Need-loop-again Inv-loop μ-loop
 loop-again c =
     let t = turn c in
-    weigh-more _ (t .before .loop .inv) (omega (arith, entry t .pre .same)) (c .start .ensures .0 ∙ sym (row-at _ _ (t .before .loop .e) (t .loop-test .taken)))
+    weigh-more _ (t .before .loop .inv) (omega (arith, entry t .pre .same)) (c .start .ensures .0 ∙ sym (map-at start (entry t .args .capacities .now) (t .before .loop .e) (t .loop-test .taken)))
 
 returns : tie.Need-returns Inv-loop μ-loop
 returns c =
     let s = c .before .before .before .before in
-    weigh-all (c .before .loop .inv) (omega (arith, s .pre .same)) (row-length _ _ ∙ sym (s .pre .same)) (s .pre .same)
+    weigh-all (c .before .loop .inv) (omega (arith, s .pre .same)) (length-map (s .args .capacities .now) start ∙ sym (s .pre .same)) (s .pre .same)
 
 pub start-spec : {M : Type 1} → statement M
 start-spec =

@@ -9,7 +9,7 @@ use Rattle.search.proofs.distances.Tie as tie
 distances-in-requires : tie.Need-distances-in-requires
 distances-in-requires c κs =
     let s = c .before .before .before .before .before .before .before in
-    let n = s .pre .index .nodes in
+    let n = s .pre .index .arcs .nodes in
     (s .pre, listing-zeros _ 64 65 n (omega (arith, n)))
 
 pub distances-spec : {M : Type 1} → statement M

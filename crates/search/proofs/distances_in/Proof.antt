@@ -139,7 +139,7 @@ same-length-3 c = c .before .loop .inv .flags ∙ enlist-at (c .before) .enlist 
 returns : tie.Need-returns Inv-loop μ-loop
 returns c =
     let s = entry (reset-at (enlist-at (c .before))) in
-    searching-end (s .pre .0 .index .nodes) (c .before .loop .inv .searching) (c .loop-test .left)
+    searching-end (s .pre .0 .index .arcs .nodes) (c .before .loop .inv .searching) (c .loop-test .left)
 
 pub distances-in-spec : {M : Type 1} → statement M
 distances-in-spec =

@@ -8,7 +8,10 @@ solve-in-requires : tie.Need-solve-in-requires
 solve-in-requires c κs =
     let p = c .before .before .before .before .before .before .before .pre in
     record {
-      preparing = record { lent = p .lent; flows = p .flows; tabled = p .places; memorised = lit≤ tt };
+      lent = p .lent;
+      flows = p .flows;
+      tabled = p .places;
+      memorised = lit≤ tt;
       indexes-of = lit≤ tt;
       path-of = lit≤ tt;
     }

@@ -22,7 +22,7 @@ entry c = c .before .before .before .before .before .before .before
 below : (c : tie.At-loop Inv-loop μ-loop) → c .loop .p < mostPlaces
 below c =
     let s = entry c in
-    omega (arith, passing-below (s .pre) (c .loop .inv), s .pre .index .within (s .args .v) (s .pre .node))
+    omega (arith, passing-below (s .pre) (c .loop .inv), s .pre .index .arcs .within (s .args .v) (s .pre .node))
 
 mul-d : tie.Need-mul-d Inv-loop μ-loop
 mul-d c =
@@ -37,12 +37,12 @@ shared-slice-read-d c =
 mul-p : tie.Need-mul-p Inv-loop μ-loop
 mul-p c =
     let s = c .before .before .before .before .before in
-    omega (arith, s .good, s .pre .index .numbers, s .pre .index .nodes, s .pre .node)
+    omega (arith, s .good, s .pre .index .arcs .numbers, s .pre .index .arcs .nodes, s .pre .node)
 
 shared-slice-read-p : tie.Need-shared-slice-read-p Inv-loop μ-loop
 shared-slice-read-p c =
     let s = c .before .before .before .before .before .before in
-    omega (arith, s .pre .index .numbers, s .pre .index .nodes, s .pre .node)
+    omega (arith, s .pre .index .arcs .numbers, s .pre .index .arcs .nodes, s .pre .node)
 
 loop-holds : tie.Need-loop-holds Inv-loop μ-loop
 loop-holds c = passing-first

@@ -3,18 +3,22 @@
 use borrow.Author.Needs.{needs}
 use denote.Ref.{now}
 use mathlib.Core.Path.{_≡_, refl, sym, subst, _∙_}
-use Prim.Native.Nat.{_<_, _≤_}
+use Prim.Native.Nat.{ℕ, _<_, _≤_}
 use native.Mathlib.Omega.{arith}
 use lib.ListN.{length}
-use Rattle.network.specs.Network.{Network, commodities, sink}
+use Rattle.network.specs.Network.{Network, commodities, source, sink}
+use Rattle.network.specs.Resources.{nodeLength}
 use Rattle.packed.specs.Packed.{netIn}
 use Rattle.packed.proofs.Columns.{commodities-is, sinks-length, part-length, put-length}
 use Rattle.paths.specs.Far.{far}
 use Rattle.paths.specs.Graph.{Table}
+use Rattle.paths.specs.Through.{through}
+use Rattle.paths.proofs.NodeLengths.{through-is, node-small}
 use Rattle.choice.specs.Closest.{Closest}
 use Rattle.choice.specs.Memory.{distancesFrom, distanceNumbers, memoryNumbers, boundsIn}
 use Rattle.choice.specs.Raised.{Raised}
 use Rattle.choice.proofs.Memories.{looked-raised, looked-distances, looked-numbers}
+use Rattle.choice.proofs.Raises.{raised-same}
 use Rattle.choice.proofs.Slack.{slack}
 use Rattle.choice.proofs.Turns.{Turn, turned, turn-next, turn-last, turn-falls}
 use Rattle.choice.proofs.lazy.nearest.Statement.{statement}
@@ -46,6 +50,11 @@ begun c = turn (distances-at c)
 
 abbrev net : tie.Start Inv-loop μ-loop → Network
 net s = netIn (s .args .s) (now (s .args .net))
+
+-- a node's length is read by the index
+own : (s : tie.Start Inv-loop μ-loop) (v : ℕ) → v ≤ net s .nodes →
+    through (now (s .args .into)) (now (s .args .lengths)) v ≡ nodeLength (net s) (now (s .args .lengths)) v
+own s = through-is (net s) (now (s .args .lengths)) (now (s .args .into)) (s .pre .index .places) (s .pre .survey .fit .lengths)
 
 -- there is a sink for each commodity, and room in the memory
 places : (c : tie.At-loop Inv-loop μ-loop) → memoryNumbers ≤ length (c .loop .memory)
@@ -92,19 +101,26 @@ raise-requires c κs =
       few = omega (arith, commodities-is (p .packed), p .packed .few-commodities);
       places = omega (arith, put-length distancesFrom distanceNumbers (t .loop .memory) (f .distances .last .1 .1 .1 .1 .1 .0) (places t) (searched-size f), places t);
       nodes = λ i b. omega (arith, p .survey .fit .ends .sources i b, p .survey .few);
+      numbers = p .index .arcs .numbers;
+      small = λ i b.
+          let v = source (net (entry t)) i in
+          let node = p .survey .fit .ends .sources i b .1 in
+          omega (arith, own (entry t) v node, node-small (net (entry t)) (now (entry t .args .lengths)) (p .survey .fit .small) v node);
     }
 
 -- what the search and the raising have made of the bounds and the distances
 looked : (c : tie.After-raise Inv-loop μ-loop) → let s = entry (begun c) in let t = begun c .loop in
-    Raised (net s .sources) (net s .sinks) (sink (net s) (t .i)) (distances-at c .distances .last .1 .1 .1 .1 .1 .0) (boundsIn (s .args .s) (t .memory))
-    (boundsIn (s .args .s) (c .raise .last .1 .1 .1 .0)) (commodities (net s))
+    Raised (nodeLength (net s) (now (s .args .lengths))) (net s .sources) (net s .sinks) (sink (net s) (t .i)) (distances-at c .distances .last .1 .1 .1 .1 .1 .0) (boundsIn (s .args .s) (t .memory))
+    (boundsIn (s .args .s) (c .raise .last .1 .1 .1 .1 .1 .0)) (commodities (net s))
 unfolding netIn
 looked c =
     let p = entry (begun c) .pre in
-    looked-raised (begun c .loop .memory) (distances-at c .distances .last .1 .1 .1 .1 .1 .0) (p .packed .few-commodities) (places (begun c))
-    (commodities-is (p .packed)) (searched-size (distances-at c)) (c .raise .ensures)
+    raised-same
+    (looked-raised (begun c .loop .memory) (distances-at c .distances .last .1 .1 .1 .1 .1 .0) (p .packed .few-commodities) (places (begun c))
+    (commodities-is (p .packed)) (searched-size (distances-at c)) (c .raise .ensures))
+    (λ i b. own (entry (begun c)) (source (net (entry (begun c))) i) (p .survey .fit .ends .sources i b .1))
 
-numbers : (c : tie.After-raise Inv-loop μ-loop) → length (c .raise .last .1 .1 .1 .0) ≡ length (begun c .loop .memory)
+numbers : (c : tie.After-raise Inv-loop μ-loop) → length (c .raise .last .1 .1 .1 .1 .1 .0) ≡ length (begun c .loop .memory)
 unfolding netIn
 numbers c =
     let p = entry (begun c) .pre in
@@ -120,11 +136,11 @@ least-requires-2 : tie.Need-least-requires-2 Inv-loop μ-loop
 least-requires-2 c κs =
     let r = c .before .before .before .before in
     let p = entry (begun r) .pre in
-    omega (arith, p .survey .some, commodities-is (p .packed), part-length 0 (entry (begun r) .args .s .commodities) (r .raise .last .1 .1 .1 .0) (omega (arith, p .packed .few-commodities, numbers r, places (begun r))))
+    omega (arith, p .survey .some, commodities-is (p .packed), part-length 0 (entry (begun r) .args .s .commodities) (r .raise .last .1 .1 .1 .1 .1 .0) (omega (arith, p .packed .few-commodities, numbers r, places (begun r))))
 
 -- the turn that comes next, if it does
 next : (c : tie.After-least2 Inv-loop μ-loop) → let r = raise-at c in let s = entry (begun r) in
-    Turn (net s) (now (s .args .lengths)) (boundsIn (s .args .s) (r .raise .last .1 .1 .1 .0)) (c .least2 .result)
+    Turn (net s) (now (s .args .lengths)) (boundsIn (s .args .s) (r .raise .last .1 .1 .1 .1 .1 .0)) (c .least2 .result)
 next c =
     let r = raise-at c in
     turn-next (entry (begun r) .pre .survey) (begun r .loop .inv .0) (table r) (looked r) (c .least2 .ensures)
@@ -157,7 +173,7 @@ returns c =
     let kept =
     looked-distances (begun r .loop .memory) (distances-at r .distances .last .1 .1 .1 .1 .1 .0) (p .packed .few-commodities) (places (begun r))
     (commodities-is (p .packed)) (searched-size (distances-at r)) (r .raise .ensures) in
-    subst (λ d. Closest (net s) (now (s .args .lengths)) (boundsIn (s .args .s) (r .raise .last .1 .1 .1 .0)) d (f .least2 .result)) (sym kept)
+    subst (λ d. Closest (net s) (now (s .args .lengths)) (boundsIn (s .args .s) (r .raise .last .1 .1 .1 .1 .1 .0)) d (f .least2 .result)) (sym kept)
     (turn-last (p .survey) (begun r .loop .inv .0) (table r) (looked r) (f .least2 .ensures) (c .if1 .taken))
 
 pub nearest-spec : {M : Type 1} → statement M

@@ -3,12 +3,13 @@ use borrow.Author.Needs.{needs}
 use denote.Ref.{now}
 use mathlib.Core.Path.{_≡_, ap, ap₂, _∙_}
 use mathlib.Core.List.{List, map}
-use Prim.Native.Nat.{_*_}
+use Prim.Native.Nat.{_*_, _≤_}
 use native.Mathlib.Nat.{le-refl, le-of-eq}
 use native.Mathlib.Omega.{arith}
 use lib.IntN.{ℤ}
 use lib.ListN.{length}
 use lib.Seq.{take-length, take-all}
+use Rattle.bounds.specs.Bounds.{mostArcs}
 use Rattle.signed.specs.Signed.{twos}
 use Rattle.numbers.specs.Numbers.{written}
 use Rattle.packed.specs.Packed.{keptFrom, keptIn}
@@ -32,10 +33,14 @@ flow-size c =
     let p = entry c .pre .0 in
     c .solve .kept .1 .1 .1 .0 ∙ (p .flows ∙ ap₂ _*_ (commodities-is (p .lent .packed)) (arcs-is (p .lent .packed)))
 
-kept-size : (c : tie.After-solve) → length (keptIn (entry c .args .s) (c .solve .last .1 .1 .1 .1 .0)) ≡ entry c .args .s .arcs
+-- and no more resources than arcs may be
+few : (s : tie.Start) → s .args .s .resources ≤ mostArcs
+few s = let p = s .pre .0 .lent in omega (arith, p .counted, p .sound .counts .of-resources)
+
+kept-size : (c : tie.After-solve) → length (keptIn (entry c .args .s) (c .solve .last .1 .1 .1 .1 .0)) ≡ entry c .args .s .resources
 kept-size c =
     let p = entry c .pre .0 in
-    part-length keptFrom (entry c .args .s .arcs) (c .solve .last .1 .1 .1 .1 .0) (omega (arith, c .solve .kept .1 .1 .1 .1 .0, p .places, p .lent .packed .few-arcs))
+    part-length keptFrom (entry c .args .s .resources) (c .solve .last .1 .1 .1 .1 .0) (omega (arith, c .solve .kept .1 .1 .1 .1 .0, p .places, few (entry c)))
 
 write-signed-requires : tie.Need-write-signed-requires
 write-signed-requires c κs =
@@ -52,7 +57,7 @@ returns c =
       bests =
           l .write-all .ensures ∙
           ap (written (now (s .args .lengths)))
-          (take-all (s .args .s .arcs) (keptIn (s .args .s) (v .solve .last .1 .1 .1 .1 .0)) (le-of-eq (kept-size v)) ∙ r .lengths);
+          (take-all (s .args .s .resources) (keptIn (s .args .s) (v .solve .last .1 .1 .1 .1 .0)) (le-of-eq (kept-size v)) ∙ r .lengths);
       guarantee = r .guarantee;
     }
 

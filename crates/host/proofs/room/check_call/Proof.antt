@@ -1,4 +1,4 @@
--- `host::room::check_call` meets its contract: 1 to 4 before 5 and 11. Assumes nothing.
+-- `host::room::check_call` meets its contract: the sizes before 5 and 11. Assumes nothing.
 use borrow.Author.Needs.{needs}
 use mathlib.Core.Path.{sym, _∙_}
 use Rattle.network.proofs.Decided.{accepted-quiet}
@@ -12,7 +12,7 @@ returns c = refused-first _ _ (c .before .before .check-sizes .ensures) (c .enum
 
 check-tables-requires : tie.Need-check-tables-requires
 check-tables-requires c κs =
-    let k = sizes-kept _ _ _ _ (accepted-quiet _ (sym (c .before .before .check-sizes .ensures) ∙ c .enum-told2 .given .1)) in
+    let k = sizes-kept _ _ _ _ _ (accepted-quiet _ (sym (c .before .before .check-sizes .ensures) ∙ c .enum-told2 .given .1)) in
     (k .of-commodities .most, k .of-arcs .most)
 
 returns-2 : tie.Need-returns-2

@@ -22,7 +22,7 @@ abbrev lent : tie.Start → Slices
 lent s = slices (now (s .args .flow)) (now (s .args .lengths)) (now (s .args .answer)) (now (s .args .running))
 
 some : (c : tie.Else1) → 0 < count (now (entry (c .before) .args .running))
-some c = some-running _ _ (lent (entry (c .before))) (sym (c .before .short .ensures) ∙ c .if1 .left)
+some c = some-running _ _ _ (lent (entry (c .before))) (sym (c .before .short .ensures) ∙ c .if1 .left)
 
 -- the running count, as it is read
 read-is : (c : tie.After-read) → c .read .result ≡ runningIn (lent (entry (c .before .before)))

@@ -22,7 +22,7 @@ entry c = c .before .before .before .before .before
 flows : (c : tie.Else1) → entry (c .before) .args .k * entry (c .before) .args .m ≤ count (now (entry (c .before) .args .flow))
 flows c = omega (arith, c .before .count .ensures, c .if1 .left)
 
-lengths : (c : tie.Else2) → entry (c .before .before .before) .args .m ≤ count (now (entry (c .before .before .before) .args .lengths))
+lengths : (c : tie.Else2) → entry (c .before .before .before) .args .r ≤ count (now (entry (c .before .before .before) .args .lengths))
 lengths c = omega (arith, c .before .count2 .ensures, c .if2 .left)
 
 returns : tie.Need-returns
@@ -35,7 +35,7 @@ returns-2 : tie.Need-returns-2
 unfolding short
 returns-2 c =
     let s = entry (c .before .before .before) in
-    let h : count (now (s .args .lengths)) < s .args .m = omega (arith, c .before .count2 .ensures, c .if2 .taken) in
+    let h : count (now (s .args .lengths)) < s .args .r = omega (arith, c .before .count2 .ensures, c .if2 .taken) in
     rw (le-ltb _ _ (flows (c .before .before)), lt-ltb _ _ h) refl
 
 returns-3 : tie.Need-returns-3

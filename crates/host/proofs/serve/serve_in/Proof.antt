@@ -5,6 +5,7 @@ use mathlib.Core.Path.{_≡_, refl, sym, ap, _∙_}
 use native.Mathlib.Omega.{arith}
 use Rattle.network.specs.Network.{Network}
 use Rattle.network.specs.Refusal.{hostNumber}
+use Rattle.network.specs.Resources.{resources}
 use Rattle.network.specs.Verdict.{verdict, itemConditions}
 use Rattle.network.specs.declared.Verdict.the-variants.{Accepted}
 use Rattle.packed.specs.Packed.{netIn, Packed}
@@ -16,7 +17,7 @@ use Rattle.host.proofs.serve.serve_in.Tie as tie
 
 -- from each call back to the one before it, and from the first to the function's entry
 abbrev entry : tie.After-decode → tie.Start
-entry c = c .before .before .before .before .before .before .before .before .before
+entry c = c .before .before .before .before .before .before .before .before .before .before
 
 abbrev decode-at : tie.After-check-items → tie.After-decode
 decode-at c = c .before .before .before .before
@@ -33,12 +34,16 @@ lent s = slices (now (s .args .flow)) (now (s .args .lengths)) (now (s .args .an
 
 -- the network as it was read
 abbrev net : tie.After-decode → Network
-net c = netIn (entry c .args .s) (c .decode .last .1 .1 .1 .0)
+net c = netIn (entry c .args .s) (c .decode .last .1 .1 .1 .1 .0)
 
-packs : (c : tie.After-decode) → Packed (entry c .args .s) (c .decode .last .1 .1 .1 .0)
+packs : (c : tie.After-decode) → Packed (entry c .args .s) (c .decode .last .1 .1 .1 .1 .0)
 packs c =
     let p = entry c .pre .1 in
-    record { few-arcs = p .few-arcs; few-commodities = p .few-commodities; places = omega (arith, p .places, c .decode .kept .1 .1 .1 .0) }
+    record { few-nodes = p .few-nodes; few-limits = p .few-limits; few-arcs = p .few-arcs; few-commodities = p .few-commodities; places = omega (arith, p .places, c .decode .kept .1 .1 .1 .1 .0) }
+
+-- its resources are those that the shape counts
+counted : (c : tie.After-decode) → entry c .args .s .resources ≡ resources (net c)
+counted c = entry c .pre .0 .shaped .counted ∙ ap resources (sym (c .decode .ensures))
 
 check-items-requires : tie.Need-check-items-requires
 check-items-requires c κs = packs (c .before .before .before)
@@ -47,7 +52,7 @@ host-number-requires : tie.Need-host-number-requires
 host-number-requires c κs =
     let i = c .before .before in
     let d = decode-at i in
-    rw (i .check-items .ensures) (fits (packs d) (entry d .args .q) (entry d .pre .0 .counts))
+    rw (i .check-items .ensures) (fits (packs d) (entry d .args .q) (entry d .pre .0 .counts) (counted d))
 
 returns : tie.Need-returns
 returns c =
@@ -66,7 +71,7 @@ deliver-requires : tie.Need-deliver-requires
 deliver-requires c κs =
     let t = c .before .before .before .before .before in
     let d = decode-at (t .before .before) in
-    (lends (packs d) (entry d .args .q) (entry d .pre .0 .counts) (accepted t), entry d .pre .0 .open-for)
+    (lends (packs d) (entry d .args .q) (entry d .pre .0 .counts) (counted d) (accepted t), entry d .pre .0 .open-for)
 
 returns-2 : tie.Need-returns-2
 returns-2 c =

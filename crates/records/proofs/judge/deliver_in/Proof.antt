@@ -14,16 +14,19 @@ use Rattle.records.proofs.judge.deliver_in.Tie as tie
 
 -- what is lent of each table
 module _ (s : tie.Start) where
-  abbrev m : ℕ
-  m = s .args .s .arcs
+  abbrev r : ℕ
+  r = s .args .s .resources
 
   abbrev size : ℕ
-  size = s .args .s .commodities * m
+  size = s .args .s .commodities * s .args .s .arcs
+
+  few : r ≤ 256
+  few = let p = s .pre .lent in omega (arith, p .counted, p .sound .counts .of-resources)
 
   flows : length (take size (now (s .args .flow))) ≡ size
   flows = length-take-le _ (now (s .args .flow)) (s .pre .room .for-flow)
 
-  bests : length (take m (now (s .args .lengths))) ≡ m
+  bests : length (take r (now (s .args .lengths))) ≡ r
   bests = length-take-le _ (now (s .args .lengths)) (s .pre .room .for-lengths)
 
 -- from the copy back to the solver, and from there to the function's entry
@@ -42,9 +45,9 @@ solve-requires c κs =
     let p = s .pre .lent .packed in
     record { lent = s .pre .lent; flows = rw (commodities-is p, arcs-is p) (flows s); places = omega (arith, length-replicate {A = ℕ} 768 0) }
 
--- the kept lengths are as many as the arcs
-kept-many : (c : tie.After-solve) → 512 + m (entry c) ≤ length (c .solve .last .1 .1 .1 .1 .0)
-kept-many c = omega (arith, entry c .pre .lent .packed .few-arcs, c .solve .kept .1 .1 .1 .1 .0, length-replicate {A = ℕ} 768 0)
+-- the kept lengths are as many as the resources
+kept-many : (c : tie.After-solve) → 512 + r (entry c) ≤ length (c .solve .last .1 .1 .1 .1 .0)
+kept-many c = omega (arith, few (entry c), c .solve .kept .1 .1 .1 .1 .0, length-replicate {A = ℕ} 768 0)
 
 slice-aggregate-copy : tie.Need-slice-aggregate-copy
 slice-aggregate-copy c = sym (bests (entry (c .before .before .before .before .before)))
@@ -53,18 +56,18 @@ copy-requires : tie.Need-copy-requires
 copy-requires c κs =
     let f = c .before .before .before .before .before in
     let s = entry f in
-    bests s ∙ sym (part-length _ (m s) (f .solve .last .1 .1 .1 .1 .0) (omega (arith, kept-many f)))
+    bests s ∙ sym (part-length _ (r s) (f .solve .last .1 .1 .1 .1 .0) (omega (arith, kept-many f)))
 
 returns : tie.Need-returns
 returns c =
     let g = c .before .before in
     let f = solve-at g in
     let s = entry f in
-    let r = f .solve in
-    replied-accepted _ (s .args .q) (now (s .args .flow)) (now (s .args .lengths)) _ _ (r .result) (r .ensures .answers)
-    (placed _ _ (now (s .args .flow)) _ (r .ensures .flows) (r .kept .1 .1 .1 .0 ∙ flows s))
-    (placed _ _ (now (s .args .lengths)) _ (g .copy .ensures ∙ r .ensures .lengths) (g .copy .kept .1 .0 ∙ bests s))
-    (r .ensures .guarantee)
+    let v = f .solve in
+    replied-accepted _ (s .args .q) (now (s .args .flow)) (now (s .args .lengths)) _ _ (v .result) (v .ensures .answers)
+    (placed _ _ (now (s .args .flow)) _ (v .ensures .flows) (v .kept .1 .1 .1 .0 ∙ flows s))
+    (placed _ _ (now (s .args .lengths)) _ (g .copy .ensures ∙ v .ensures .lengths) (g .copy .kept .1 .0 ∙ bests s))
+    (v .ensures .guarantee)
 
 pub deliver-in-spec : {M : Type 1} → statement M
 deliver-in-spec =

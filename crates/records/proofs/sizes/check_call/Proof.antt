@@ -1,24 +1,19 @@
--- `records::sizes::check_call` meets its contract: the sizes come before the tables. Assumes nothing.
-use mathlib.Core.Path.{sym, _∙_}
-use Prim.Native.Nat.{_/_}
+-- `records::sizes::check_call` meets its contract: its shape is checked. Assumes nothing.
+use mathlib.Core.Path.{ap, _∙_}
+use mathlib.Core.List.{_++_}
 use borrow.Author.Needs.{needs}
-use Rattle.network.proofs.Decided.{accepted-quiet}
-use Rattle.network.proofs.First.{refused-first, accepted-first}
-use Rattle.network.proofs.Sizes.{sizes-kept}
+use Rattle.network.specs.Verdict.{verdict, sizeConditions}
+use Rattle.packed.specs.declared.Shape.{Shape}
+use Rattle.records.specs.Records.{recordConditions}
 use Rattle.records.proofs.sizes.check_call.Statement.{statement}
 use Rattle.records.proofs.sizes.check_call.Tie as tie
 
 returns : tie.Need-returns
-returns c = refused-first _ _ (c .before .before .check-sizes .ensures) (c .enum-told .given .1)
-
-check-tables-requires : tie.Need-check-tables-requires
-check-tables-requires c κs =
-    let s = c .before .before .before .args in
-    let k = sizes-kept (s .n) (s .m) (s .pairs / 2) (s .q) (accepted-quiet _ (sym (c .before .before .check-sizes .ensures) ∙ c .enum-told2 .given .1)) in
-    (k .of-commodities .most, k .of-arcs .most)
-
-returns-2 : tie.Need-returns-2
-returns-2 c = accepted-first _ _ (c .before .before .before .check-sizes .ensures) (c .before .enum-told2 .given .1) (c .check-tables .ensures)
+returns c =
+    let a = c .before .before .before .args in
+    c .check-shape .ensures ∙
+    ap (λ (s : Shape). verdict (sizeConditions (s .nodes) (s .arcs) (s .resources) (s .commodities) (a .q) ++ recordConditions (s .commodities) (s .arcs) (s .resources) (a .flow) (a .lengths)))
+    (c .before .shape .ensures)
 
 pub check-call-spec : {M : Type 1} → statement M
-check-call-spec = tie.close (tie.spec (λ c κs. search needs) (λ c. search needs) returns (λ c. search needs) check-tables-requires returns-2)
+check-call-spec = tie.close (tie.spec (λ c κs. search needs) (λ c κs. search needs) returns)

@@ -4,7 +4,7 @@ use mathlib.Core.Path.{_≡_, sym, _∙_}
 use Rattle.network.specs.Network.{Network}
 use Rattle.packed.specs.Packed.{netIn}
 use Rattle.report.specs.Listing.{verdictHeld}
-use Rattle.report.proofs.Judged.{judged, sound}
+use Rattle.report.proofs.Judged.{judged, sound, counted}
 use Rattle.report.proofs.Written.{shown-refused, shown-accepted}
 use borrow.Author.Needs.{needs}
 use Rattle.report.proofs.file.judge.Statement.{statement}
@@ -30,7 +30,7 @@ show-requires c κs =
     let i = c .before .before .before in
     let s = entry i in
     record {
-      lent = record { sound = sound (net s) (s .pre .held) (sym (i .check-items .ensures) ∙ c .before .enum-told .given .1); packed = s .pre .packed };
+      lent = record { sound = sound (net s) (s .pre .held) (sym (i .check-items .ensures) ∙ c .before .enum-told .given .1); packed = s .pre .packed; counted = counted (s .pre .packed) (s .pre .held) (s .pre .plain) };
       one = s .pre .held .of-sources;
       enough = s .pre .enough;
     }

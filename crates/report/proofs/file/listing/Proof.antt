@@ -1,6 +1,6 @@
 -- `report::file::listing` meets its contract: the header, and the rows that follow from the file. Assumes nothing.
 use denote.Ref.{now}
-use mathlib.Core.Path.{_≡_}
+use mathlib.Core.Path.{_≡_, refl}
 use native.Mathlib.Omega.{arith}
 use lib.ListN.{length-replicate}
 use Prim.Native.Nat.{ℕ}
@@ -42,9 +42,11 @@ judge-requires : tie.Need-judge-requires
 judge-requires c κs =
     let f = c .before .before .before in
     let w = whole _ (read-at (put-at f) .read .ensures .result) in
+    let o = network-sizes _ (held f) in
     record {
-      packed = record { few-arcs = w .few; few-commodities = omega arith; places = omega (arith, f .pack .kept .1 .0, length-replicate {A = ℕ} netNumbers 0) };
-      held = rw (f .pack .ensures) (network-sizes _ (held f));
+      packed = record { few-nodes = o .of-nodes .most; few-limits = omega arith; few-arcs = w .few; few-commodities = omega arith; places = omega (arith, f .pack .kept .1 .0, length-replicate {A = ℕ} netNumbers 0) };
+      plain = refl;
+      held = rw (f .pack .ensures) o;
       enough = omega (arith, put-at f .put .ensures .next);
     }
 

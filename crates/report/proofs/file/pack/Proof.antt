@@ -116,7 +116,7 @@ returns c =
     let z = c .before .before in let f = copied-at z in let h = heads-at f in let t = tails-at h in
     let s = entry t in
     packed (shapeOf (s .args .file)) (s .pre .few) (now (s .args .net)) (s .pre .places) (t .copy .ensures) (h .copy2 .ensures) (f .copy3 .ensures)
-    (s .args .file .source) (s .args .file .sink) (tails-many s) (heads-many s) (capacities-many s) (z .clear .ensures) refl
+    (s .args .file .source) (s .args .file .sink) (tails-many s) (heads-many s) (capacities-many s) (z .clear .ensures) refl refl
 
 pub pack-spec : {M : Type 1} → statement M
 pack-spec =

@@ -1,26 +1,30 @@
 -- `run::iterations::iterate` meets its contract: the search gives the method's choice, and the step follows it. Assumes nothing.
 use borrow.Author.Needs.{needs}
 use denote.Ref.{now}
-use mathlib.Core.Path.{refl, sym, ap}
+use mathlib.Core.Path.{_≡_, refl, sym, ap, subst, _∙_}
+use mathlib.Core.Option.{some}
 use mathlib.Core.List.{List}
 use Prim.Native.Nat.{ℕ, _≤_}
 use native.Mathlib.Omega.{arith}
 use lib.ListN.{length, take}
 use lib.Seq.{length-take-le}
 use Rattle.network.specs.Network.{Network}
-use Rattle.packed.specs.Packed.{netIn}
+use Rattle.network.specs.Path.{pathLength}
+use Rattle.packed.specs.Packed.{part, netIn}
 use Rattle.packed.proofs.Columns.{commodities-is}
+use Rattle.method.specs.Choice.{Choice, choice}
 use Rattle.method.specs.Iteration.{State}
 use Rattle.method.proofs.Ends.{underway-reached}
 use Rattle.method.proofs.Reached.{Reached}
+use Rattle.choice.specs.Calls.{roomsFrom}
 use Rattle.choice.specs.Chose.{Picked}
 use Rattle.step.specs.Progress.{stateIn}
-use Rattle.run.proofs.Chosen.{choosing, picks}
+use Rattle.step.specs.Steps.{chosenIn, Stepping}
+use Rattle.run.proofs.Chosen.{choosing, picks, selected-uses, selected-chosen}
 use Rattle.run.proofs.Iterated.{iterated}
 use Rattle.run.proofs.Longer.{memory-next}
 use Rattle.run.proofs.Noted.{kept-ready}
 use Rattle.run.proofs.Ready.{ready}
-use Rattle.run.proofs.Whole.{whole}
 use Rattle.run.proofs.iterations.iterate.Statement.{statement}
 use Rattle.run.proofs.iterations.iterate.Tie as tie
 
@@ -40,45 +44,60 @@ choose-requires c κs =
     let s = c .before .before .before .before .before .before .before .before .before in
     choosing (s .pre .0) (state s) (reached s) refl (s .pre .1 .memory-of)
 
--- the function's entry, seen from behind the search; what was found, and the table of arcs then
+-- the function's entry, seen from behind the search; what was found, and what its path uses
 abbrev entry : tie.After-choose → tie.Start
 entry c = c .before .before .before .before .before .before .before .before .before .before
 
-abbrev arcs : tie.After-choose → List ℕ
-arcs c = c .choose .last .1 .1 .1 .1 .1 .0
-
 abbrev path : tie.After-choose → List ℕ
-path c = take (c .choose .result .arcs) (arcs c)
+path c = c .choose .last .1 .1 .1 .1 .1 .0
 
-picked : (c : tie.After-choose) → Picked (net (entry c)) (state (entry c) .lengths) (c .choose .result) (arcs c)
+abbrev used : tie.After-choose → List ℕ
+used c = take (c .choose .result .used) (path c)
+
+abbrev chosen : tie.After-choose → Choice
+chosen c = chosenIn (c .choose .result) (used c)
+
+picked : (c : tie.After-choose) → Picked (net (entry c)) (state (entry c) .lengths) (c .choose .result) (path c)
 picked c =
     let s = entry c in
-    picks (net s) (s .pre .1 .chooses) (state s .lengths) (c .choose .result) (arcs c) (c .choose .ensures .chose)
+    picks (net s) (s .pre .1 .chooses) (state s .lengths) (c .choose .result) (path c) (c .choose .ensures .chose)
 
-room : (c : tie.After-choose) → c .choose .result .arcs ≤ length (arcs c)
-room c = omega (arith, picked c .few-arcs, c .choose .kept .1 .1 .1 .1 .1 .0, entry c .pre .0 .path)
+room : (c : tie.After-choose) → c .choose .result .used ≤ length (path c)
+room c = omega (arith, picked c .few-used, c .choose .kept .1 .1 .1 .1 .1 .0, entry c .pre .0 .path)
+
+is-chosen : (c : tie.After-choose) → choice (net (entry c)) (state (entry c) .lengths) ≡ some (chosen c)
+is-chosen c = selected-chosen (net (entry c)) (state (entry c) .lengths) (c .choose .result) (path c) (picked c) (room c)
 
 slice-reshare-prefix-step : tie.Need-slice-reshare-prefix-step
-slice-reshare-prefix-step c = room (c .before .before .before .before)
+slice-reshare-prefix-step c = room (c .before .before .before .before .before)
 
 slice-aggregate-step : tie.Need-slice-aggregate-step
 slice-aggregate-step c =
-    let f = c .before .before .before .before .before in
-    sym (length-take-le (f .choose .result .arcs) (arcs f) (room f))
+    let f = c .before .before .before .before .before .before in
+    sym (length-take-le (f .choose .result .used) (path f) (room f))
 
 step-requires : tie.Need-step-requires
 step-requires c κs =
-    let f = c .before .before .before .before .before .before .before in let s = entry f in
+    let f = c .before .before .before .before .before .before .before .before in let s = entry f in
+    let a = s .pre .0 .lent in
+    let uses = selected-uses (net s) (state s .lengths) (f .choose .result) (path f) (picked f) (room f) in
     record {
-      packed = s .pre .0 .lent .packed;
+      packed = a .packed;
+      counted = a .counted;
+      few = omega (arith, a .counted, a .sound .counts .of-resources);
       places = s .pre .0 .tables;
-      stepping = rw (← (picked f .alpha)) (ready (net s) (s .args .q) (whole (s .pre .0 .lent)) (state s) (reached s) (f .choose .result .commodity) (path f) (picked f .chosen));
-      kept = kept-ready (net s) (s .args .q) (whole (s .pre .0 .lent)) (state s) (reached s) (s .args .threshold) (s .args .p) (s .pre .1 .noted);
+      caps-are = ap (λ n. part roomsFrom n (now (s .args .indexes))) (a .counted) ∙ s .pre .0 .indexed .rooms;
+      arcs-first = omega (arith, picked f .some-more, length-take-le (f .choose .result .used) (path f) (room f));
+      path-is = uses;
+      stepping =
+          rw (← (picked f .alpha)) (subst (λ p. Stepping (net s) (s .args .q) (chosen f) (pathLength (state s .lengths) p) (state s)) (sym uses)
+          (ready (net s) (s .args .q) (a .sound) (state s) (reached s) (chosen f) (is-chosen f)));
+      kept = kept-ready (net s) (s .args .q) (a .sound) (state s) (reached s) (s .args .threshold) (s .args .p) (s .pre .1 .noted);
     }
 
 -- behind the step: the search, and from the end of the function the step
 abbrev choose-at : tie.After-step → tie.After-choose
-choose-at c = c .before .before .before .before .before .before .before .before
+choose-at c = c .before .before .before .before .before .before .before .before .before
 
 abbrev step-at : tie.After-forget → tie.After-step
 step-at c = c .before .before .before .before .before
@@ -91,18 +110,18 @@ forget-requires c κs =
 returns : tie.Need-returns
 returns c =
     let g = c .before .before in let t = step-at g in let f = choose-at t in
-    let s = entry f in let z = s .args in let i = f .choose .result .commodity in
+    let s = entry f in let z = s .args in
     let packed = s .pre .0 .lent .packed in
     record {
       iterated =
-          iterated (net s) (z .q) (z .threshold) (s .pre .1 .noted .threshold) (state s) (reached s .valid .table .places) i (path f) (picked f .chosen) _ _ (t .step .ensures);
+          iterated (net s) (z .q) (z .threshold) (s .pre .1 .noted .threshold) (state s) (reached s .valid .table .places) (chosen f) (is-chosen f) _ _ (t .step .ensures);
       memory-of =
-          memory-next (net s) (z .q) i (path f) (state s) (reached s .valid .lengths) (t .step .result .halved) (packed .few-commodities)
+          memory-next (net s) (z .q) (chosen f) (state s) (reached s .valid .lengths) (t .step .result .halved) (packed .few-commodities)
           (sym (commodities-is packed)) (f .choose .ensures .memory-of) (t .step .ensures .halved) (ap (λ x. x .lengths) (t .step .ensures .state)) (g .forget .ensures);
     }
 
 pub iterate-spec : {M : Type 1} → statement M
 iterate-spec =
     tie.close (tie.spec (λ c. search needs) (λ c. search needs) (λ c. search needs) (λ c. search needs)
-    choose-requires slice-reshare-prefix-step slice-aggregate-step step-requires forget-requires (λ c. search needs)
+    choose-requires (λ c. search needs) (λ c. search needs) (λ c. search needs) (λ c. search needs) slice-reshare-prefix-step slice-aggregate-step step-requires forget-requires (λ c. search needs)
     (λ c. search needs) (λ c. search needs) (λ c. search needs) returns)

@@ -5,8 +5,8 @@ use denote.Ref.{now}
 use mathlib.Core.Path.{refl, _∙_}
 use native.Mathlib.Omega.{arith}
 use Rattle.network.specs.Network.{Network}
+use Rattle.network.proofs.Sounds.{resources-within}
 use Rattle.packed.specs.Packed.{netIn}
-use Rattle.packed.proofs.Columns.{arcs-is}
 use Rattle.method.specs.Iteration.{State}
 use Rattle.choice.specs.Memory.{Memory}
 use Rattle.step.specs.Progress.{stateIn}
@@ -15,7 +15,6 @@ use Rattle.run.proofs.Begun.{begin-noted, begin-running}
 use Rattle.run.proofs.Onward.{onward-less, onward-last, onward-running, onward-noted}
 use Rattle.run.proofs.Running.{left, Running}
 use Rattle.run.proofs.Same.{Same}
-use Rattle.run.proofs.Whole.{whole}
 use Rattle.run.proofs.runs.run.Statement.{statement}
 use Rattle.run.proofs.runs.run.Tie as tie
 
@@ -35,17 +34,17 @@ net s = netIn (s .args .s) (now (s .args .net))
 threshold-requires : tie.Need-threshold-requires Inv-loop μ-loop
 threshold-requires c κs =
     let a = c .before .before .before .before .before .pre .0 .lent in
-    let k = a .sound .counts in
-    let m = arcs-is (a .packed) in
-    (omega (arith, k .of-arcs .least, m), omega (arith, k .of-arcs .most, m), k .precision .least, k .precision .most)
+    let k = resources-within _ _ (a .sound) in
+    let p = a .sound .counts .precision in
+    (omega (arith, k .least, a .counted), omega (arith, k .most, a .counted), p .least, p .most)
 
 loop-holds : tie.Need-loop-holds Inv-loop μ-loop
 loop-holds c =
     let s = c .before .before .before .before .before .before .before in
     let a = s .pre .0 .lent in (
-      begin-running (c .begin .ensures) (whole a) (s .pre .1 .start) (s .pre .1 .chooses),
+      begin-running (c .begin .ensures) (a .sound) (s .pre .1 .start) (s .pre .1 .chooses),
       (
-        begin-noted (c .begin .ensures) (s .pre .1 .weight) (rw (arcs-is (a .packed)) (c .before .threshold .ensures)),
+        begin-noted (c .begin .ensures) (s .pre .1 .weight) (rw (a .counted) at (c .before .threshold .ensures)),
         (s .pre .1 .memory-of, record { flows = refl; tabled = refl; memorised = refl; paths = refl }),
       ),
     )

@@ -21,7 +21,7 @@ entry c = c .before .before .before .before .before .before .before .before .bef
 
 -- the place is in the index, and its arc leads to v
 place : (s : tie.Start) → endsFrom + s .args .p < length (s .args .into .now)
-place s = let P = s .pre in omega (arith, P .below, P .index .within (s .args .v) (P .node), P .index .numbers)
+place s = let P = s .pre in omega (arith, P .below, P .index .arcs .within (s .args .v) (P .node), P .index .arcs .numbers)
 
 arc :
     (s : tie.Start) →
@@ -29,7 +29,7 @@ arc :
     some (s .args .v)
 arc s =
     let P = s .pre in
-    P .index .sound (s .args .v) (s .args .p) _ _ (P .node) (record { from = P .from; below = P .below; arc = refl; end = refl })
+    P .index .arcs .sound (s .args .v) (s .args .p) _ _ (P .node) (record { from = P .from; below = P .below; arc = refl; end = refl })
 
 add-e : tie.Need-add-e
 add-e c = let s = c .before .before .before .before .before .before in omega (arith, s .good, place s)
@@ -52,7 +52,7 @@ shared-slice-read-u c = place (c .before .before .before .before .before .before
 relax-requires : tie.Need-relax-requires
 relax-requires c κs =
     let s = c .before .before .before .before .before .before .before .before .before in
-    relaxing _ _ _ (s .pre .searching .fit) (s .pre .searching .labels .capped) (arc s)
+    rw (s .pre .own) (relaxing _ _ _ (s .pre .searching .fit) (s .pre .searching .labels .capped) (arc s))
 
 enlist-requires : tie.Need-enlist-requires
 unfolding netIn
@@ -67,13 +67,13 @@ returns c =
     let t = c .before .before .before .before .before .before .before in
     let R = t .before .before .before in
     let s = entry R in
-    searching-spread (s .pre .searching) refl refl (arc s) (sym (R .relax .ensures .told) ∙ t .if1 .taken) (R .relax .ensures .entries) (E .ensures)
+    searching-spread (s .pre .searching) (s .pre .own) refl refl (arc s) (sym (R .relax .ensures .told) ∙ t .if1 .taken) (R .relax .ensures .entries) (E .ensures)
 
 returns-2 : tie.Need-returns-2
 returns-2 c =
     let R = c .before .before .before in
     let s = entry R in
-    searching-still (s .pre .searching) refl refl (arc s) (sym (R .relax .ensures .told) ∙ c .if1 .left) (R .relax .ensures .entries)
+    searching-still (s .pre .searching) (s .pre .own) refl refl (arc s) (sym (R .relax .ensures .told) ∙ c .if1 .left) (R .relax .ensures .entries)
 
 pub reach-spec : {M : Type 1} → statement M
 reach-spec =

@@ -10,6 +10,7 @@ use Rattle.network.specs.Network.{Network}
 use Rattle.packed.specs.Packed.{netIn}
 use Rattle.index.specs.Index.{begins}
 use Rattle.paths.specs.Searching.{Passed, Spread}
+use Rattle.paths.proofs.NodeLengths.{through-is}
 use Rattle.paths.proofs.Turning.{spread-none, spread-more, spread-all}
 use Rattle.search.proofs.relax.relax_into.Statement.{statement}
 use Rattle.search.proofs.relax.relax_into.Tie as tie
@@ -24,41 +25,52 @@ record Relaxing (net : Network) (into l : List ℕ) (t v : ℕ) (dist₀ front�
   flags : length listed ≡ length listed₀
 
 abbrev Inv-loop : tie.InvT-loop
-Inv-loop s net into lengths sink v dist₀ front₀ listed₀ size count₀ p₀ end dist front listed count p =
+Inv-loop s net into lengths sink v dist₀ front₀ listed₀ size x count₀ p₀ end dist front listed count p =
     Relaxing (netIn s net) into lengths sink v dist₀ front₀ listed₀ size dist front listed count p
 
 abbrev μ-loop : tie.MeasureT-loop
-μ-loop s net into lengths sink v dist₀ front₀ listed₀ size count₀ p₀ end dist front listed count p = end - p
+μ-loop s net into lengths sink v dist₀ front₀ listed₀ size x count₀ p₀ end dist front listed count p = end - p
 
--- the function's entry, seen from a turn, and the turn, seen from behind the call of `reach`
+-- the function's entry, seen from behind the call of `through`; that, seen from a turn; and the turn, seen from behind the call of `reach`
+abbrev first : tie.After-through Inv-loop μ-loop → tie.Start Inv-loop μ-loop
+first c = c .before .before .before .before .before .before .before
+
+abbrev through-at : tie.At-loop Inv-loop μ-loop → tie.After-through Inv-loop μ-loop
+through-at c = c .before .before .before
+
 abbrev entry : tie.At-loop Inv-loop μ-loop → tie.Start Inv-loop μ-loop
-entry c = c .before .before .before .before .before .before .before .before .before
+entry c = first (through-at c)
 
 abbrev turn : tie.After-reach Inv-loop μ-loop → tie.In-loop Inv-loop μ-loop
 turn c = c .before .before .before .before
 
 -- the index has an entry for the next node
 next : (s : tie.Start Inv-loop μ-loop) → s .args .v + 1 < length (s .args .into .now)
-next s = omega (arith, s .pre .index .numbers, s .pre .index .nodes, s .pre .node)
+next s = omega (arith, s .pre .index .arcs .numbers, s .pre .index .arcs .nodes, s .pre .node)
+
+through-requires : tie.Need-through-requires Inv-loop μ-loop
+through-requires c κs =
+    let s = c .before .before .before .before .before .before in
+    omega (arith, s .pre .index .arcs .numbers, s .pre .index .arcs .nodes, s .pre .node)
 
 mul-p : tie.Need-mul-p Inv-loop μ-loop
-mul-p c = let s = c .before .before .before .before .before .before in omega (arith, s .good, next s)
+mul-p c = let s = first c in omega (arith, s .good, next s)
 
 shared-slice-read-p : tie.Need-shared-slice-read-p Inv-loop μ-loop
-shared-slice-read-p c = omega (arith, next (c .before .before .before .before .before .before .before))
+shared-slice-read-p c = omega (arith, next (first (c .before)))
 
 add-end : tie.Need-add-end Inv-loop μ-loop
-add-end c = let s = c .before .before .before .before .before .before .before in omega (arith, s .good, next s)
+add-end c = let s = first (c .before) in omega (arith, s .good, next s)
 
 mul-end : tie.Need-mul-end Inv-loop μ-loop
-mul-end c = let s = c .before .before .before .before .before .before .before in omega (arith, s .good, next s)
+mul-end c = let s = first (c .before) in omega (arith, s .good, next s)
 
 shared-slice-read-end : tie.Need-shared-slice-read-end Inv-loop μ-loop
-shared-slice-read-end c = next (c .before .before .before .before .before .before .before .before)
+shared-slice-read-end c = next (first (c .before .before))
 
 loop-holds : tie.Need-loop-holds Inv-loop μ-loop
 loop-holds c =
-    let s = c .before .before .before .before .before .before .before .before in
+    let s = first (c .before .before) in
     record { spread = spread-none (s .pre .searching); from = le-refl _; dists = refl; fronts = refl; flags = refl }
 
 reach-requires : tie.Need-reach-requires Inv-loop μ-loop
@@ -70,6 +82,9 @@ reach-requires c κs =
       searching = I .spread .searching;
       index = s .pre .index;
       node = s .pre .node;
+      own =
+          through-at (t .before) .through .ensures ∙
+          through-is (netIn (s .args .s) (s .args .net .now)) (s .args .lengths .now) (s .args .into .now) (s .pre .index .places) (s .pre .searching .fit .lengths) (s .args .v) (s .pre .node);
       from = I .from;
       below = t .loop-test .taken;
     }
@@ -78,7 +93,7 @@ add-p : tie.Need-add-p Inv-loop μ-loop
 add-p c =
     let t = turn (c .before .before .before .before .before .before) in
     let s = entry (t .before) in
-    omega (arith, t .loop-test .taken, s .pre .index .within (s .args .v) (s .pre .node))
+    omega (arith, t .loop-test .taken, s .pre .index .arcs .within (s .args .v) (s .pre .node))
 
 loop-less : tie.Need-loop-less Inv-loop μ-loop
 loop-less c = omega (arith, turn (c .before .before .before .before .before .before) .loop-test .taken)
@@ -87,7 +102,7 @@ loop-again : tie.Need-loop-again Inv-loop μ-loop
 loop-again c =
     let R = c .before .before .before .before .before .before in
     let I = turn R .before .loop .inv in
-    let k = R .reach .kept .1 .1 .1 .1 .1 .1 .1 in
+    let k = R .reach .kept .1 .1 .1 .1 .1 .1 .1 .1 in
     record {
       spread = spread-more (I .spread) (R .reach .ensures);
       from = omega (arith, I .from);
@@ -112,5 +127,5 @@ returns c =
 
 pub relax-into-spec : {M : Type 1} → statement M
 relax-into-spec =
-    tie.close (tie.spec Inv-loop μ-loop mul-p shared-slice-read-p add-end mul-end shared-slice-read-end loop-holds
+    tie.close (tie.spec Inv-loop μ-loop through-requires mul-p shared-slice-read-p add-end mul-end shared-slice-read-end loop-holds
     reach-requires add-p loop-less loop-again same-length same-length-2 same-length-3 returns)

@@ -2,22 +2,25 @@
 -- Assumes nothing.
 use borrow.Author.Needs.{needs}
 use denote.Ref.{now}
-use mathlib.Core.Path.{_≡_, sym, ap, _∙_}
+use mathlib.Core.Path.{_≡_, sym, ap, subst, _∙_}
 use mathlib.Core.List.{List}
 use Prim.Native.Nat.{ℕ, _≤_}
-use native.Mathlib.Nat.{le-antisymm}
 use native.Mathlib.Omega.{arith}
 use lib.ListN.{length}
-use Rattle.network.specs.Network.{Network, arcs}
-use Rattle.packed.specs.Packed.{netIn, lengthsIn, loadsIn, keptIn, loadsFrom, tableNumbers}
-use Rattle.packed.proofs.Columns.{part-length, arcs-is}
+use Rattle.bounds.specs.Bounds.{mostArcs}
+use Rattle.network.specs.Network.{Network}
+use Rattle.network.specs.Resources.{resources, rooms}
+use Rattle.packed.specs.Packed.{part, netIn, lengthsIn, loadsIn, keptIn, loadsFrom, tableNumbers}
+use Rattle.packed.proofs.Columns.{part-length}
 use Rattle.method.specs.Iteration.{initial}
 use Rattle.method.proofs.Guaranteed.{always}
 use Rattle.method.proofs.Reached.{reached-start}
+use Rattle.choice.specs.Calls.{roomsFrom}
 use Rattle.choice.specs.Chose.{Picked, Chose}
 use Rattle.run.specs.Runs.{Chooses}
 use Rattle.run.proofs.Chosen.{choosing}
-use Rattle.run.proofs.Whole.{whole}
+use Rattle.tables.specs.Calls.{Ranking}
+use Rattle.solver.specs.Solved.{answerOf}
 use Rattle.solver.proofs.Solving.{solved-none, solved-some, ranking}
 use Rattle.solver.proofs.outcomes.outcome.Statement.{statement}
 use Rattle.solver.proofs.outcomes.outcome.Tie as tie
@@ -48,8 +51,8 @@ returns c =
     let k = chose f in
     let start = s .pre .1 .state in
     rw (c .unjoined .ensures)
-    (solved-none (net s) (s .args .q) (whole (s .pre .0 .lent)) (now (s .args .flow)) (keptIn (s .args .s) (now (s .args .tables)))
-    (k .nothing (le-antisymm (k .capped) (c .before .if1 .taken)))
+    (solved-none (net s) (s .args .q) (s .pre .0 .lent .sound) (now (s .args .flow)) (keptIn (s .args .s) (now (s .args .tables)))
+    (k .nothing (c .before .if1 .taken))
     (ap (λ t. t .flow) start)
     (ap (λ t. t .bestLengths) start))
 
@@ -85,31 +88,46 @@ tables c = c .run .last .1 .1 .1 .1 .1 .0
 room : (c : tie.After-run) → tableNumbers ≤ length (tables c)
 room c = omega (arith, c .run .kept .1 .1 .1 .1 .1 .0, start-of c .pre .0 .tables)
 
-loaded : (c : tie.After-run) → length (loadsIn (start-of c .args .s) (tables c)) ≡ arcs (net (start-of c))
+few : (c : tie.After-run) → start-of c .args .s .resources ≤ mostArcs
+few c = let a = start-of c .pre .0 .lent in omega (arith, a .counted, a .sound .counts .of-resources)
+
+loaded : (c : tie.After-run) → length (loadsIn (start-of c .args .s) (tables c)) ≡ resources (net (start-of c))
 loaded c =
-    let a = start-of c .pre .0 .lent .packed in
-    part-length loadsFrom (start-of c .args .s .arcs) (tables c) (omega (arith, a .few-arcs, room c)) ∙ sym (arcs-is a)
+    part-length loadsFrom (start-of c .args .s .resources) (tables c) (omega (arith, few c, room c)) ∙ start-of c .pre .0 .lent .counted
+
+-- The part of the slice of indexes that is lent has the capacities of the resources.
+caps-are : (c : tie.After-run) → let s = start-of c in part roomsFrom (s .args .s .resources) (now (s .args .indexes)) ≡ rooms (net s)
+caps-are c = let s = start-of c in ap (λ n. part roomsFrom n (now (s .args .indexes))) (s .pre .0 .lent .counted) ∙ s .pre .0 .indexed .rooms
+
+-- The end of that part is within the slice.
+add-answer : tie.Need-add-answer
+add-answer c = omega (arith, few (c .before .before .before .before .before .before .before))
+
+part-answer-end : tie.Need-part-answer-end
+part-answer-end c = let f = c .before .before .before .before .before .before .before in omega (arith, few f, start-of f .pre .0 .indexed .numbers)
 
 answer-requires : tie.Need-answer-requires
 answer-requires c κs =
-    let f = c .before .before .before .before .before .before .before .before in
+    let f = c .before .before .before .before .before .before .before .before .before in
     let s = start-of f in
     record {
-      packed = s .pre .0 .lent .packed;
+      few = few f;
       places = room f;
-      ranking = ranking (net s) (s .args .q) (whole (s .pre .0 .lent)) (chooses (choice-at f)) (loadsIn (s .args .s) (tables f)) (ap (λ t. t .loads) (f .run .ensures)) (loaded f);
+      ranking =
+          subst (Ranking (loadsIn (s .args .s) (tables f))) (sym (caps-are f))
+          (ranking (net s) (s .args .q) (s .pre .0 .lent .sound) (chooses (choice-at f)) (loadsIn (s .args .s) (tables f)) (ap (λ t. t .loads) (f .run .ensures)) (loaded f));
     }
 
 abbrev run-at : tie.After-answer → tie.After-run
-run-at c = c .before .before .before .before .before .before .before .before .before
+run-at c = c .before .before .before .before .before .before .before .before .before .before
 
 returns-2 : tie.Need-returns-2
 returns-2 c =
     let f = run-at c in
     let s = start-of f in
-    rw (c .answer .ensures)
-    (solved-some (net s) (s .args .q) (whole (s .pre .0 .lent)) _ (picked (choice-at f) .chosen) (f .run .last .1 .1 .1 .1 .0) (keptIn (s .args .s) (tables f))
-    (loadsIn (s .args .s) (tables f)) (lengthsIn (s .args .s) (tables f)) (f .run .result) (f .run .ensures))
+    rw (c .answer .ensures ∙ ap (λ caps. answerOf caps (loadsIn (s .args .s) (tables f)) (f .run .result)) (caps-are f))
+    (solved-some (net s) (s .args .q) (s .pre .0 .lent .sound) _ (picked (choice-at f) .chosen) (f .run .last .1 .1 .1 .1 .0) (keptIn (s .args .s) (tables f))
+    (loadsIn (s .args .s) (tables f)) (lengthsIn (s .args .s) (tables f)) (f .run .result) (f .run .ensures) (loaded f))
 
 -- memory and path keep their size in the search and in the run
 same-length-6 : tie.Need-same-length-6
@@ -122,4 +140,4 @@ pub outcome-spec : {M : Type 1} → statement M
 outcome-spec =
     tie.close (tie.spec (λ c. search needs) (λ c. search needs) (λ c. search needs) (λ c. search needs)
     choose-requires (λ c κs. search needs) (λ c. search needs) (λ c. search needs) (λ c. search needs) returns
-    run-requires answer-requires (λ c. search needs) (λ c. search needs) same-length-6 same-length-7 returns-2)
+    run-requires add-answer (λ c. search needs) (λ c. search needs) part-answer-end answer-requires (λ c. search needs) (λ c. search needs) same-length-6 same-length-7 returns-2)

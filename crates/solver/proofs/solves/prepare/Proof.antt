@@ -1,17 +1,20 @@
 -- `solver::solves::prepare` meets its contract: the cleared tables are the definition's start. Assumes nothing.
 use borrow.Author.Needs.{needs}
 use denote.Ref.{now}
-use mathlib.Core.Path.{_≡_, sym, ap, _∙_}
-use Prim.Native.Nat.{ℕ}
+use mathlib.Core.Path.{_≡_, sym, ap, subst, _∙_}
+use Prim.Native.Nat.{ℕ, _≤_}
 use native.Mathlib.Omega.{arith}
-use lib.ListN.{length, replicate}
+use lib.ListN.{replicate}
+use Rattle.bounds.specs.Bounds.{mostArcs}
+use Rattle.network.proofs.Resources.{rooms-length}
+use Rattle.network.proofs.Sounds.{room-within}
 use Rattle.method.specs.Iteration.{initial, weight}
-use Rattle.packed.specs.Packed.{part, put, netIn, capacitiesFrom, lengthsFrom, loadsFrom, keptFrom}
-use Rattle.packed.proofs.Columns.{part-length, arcs-is, capacities-length, commodities-is}
+use Rattle.packed.specs.Packed.{part, put, netIn, lengthsFrom, loadsFrom, keptFrom}
+use Rattle.packed.proofs.Columns.{part-length, commodities-is}
 use Rattle.choice.proofs.Memories.{memory-zero}
+use Rattle.lengths.specs.Calls.{Startable}
 use Rattle.step.specs.Progress.{stateOf, begun}
 use Rattle.step.proofs.Tabled.{Tabled, tabled, part-size, with-lengths, with-loads, with-kept, in-slice}
-use Rattle.run.proofs.Whole.{whole}
 use Rattle.solver.proofs.Solving.{initial-is, weight-is}
 use Rattle.solver.proofs.solves.prepare.Statement.{statement}
 use Rattle.solver.proofs.solves.prepare.Tie as tie
@@ -33,29 +36,33 @@ abbrev flow-at : tie.After-clear3 → tie.After-clear-flow
 flow-at c = c .before .before .before
 
 abbrev m : tie.Start → ℕ
-m s = s .args .s .arcs
+m s = s .args .s .resources
+
+few : (s : tie.Start) → m s ≤ mostArcs
+few s = let a = s .pre .lent in omega (arith, a .counted, a .sound .counts .of-resources)
 
 start-requires : tie.Need-start-requires
-unfolding netIn
 start-requires c κs =
     let s = c .before .before .before .before .before in let a = s .pre .lent in
-    let full : length (part capacitiesFrom (m s) (now (s .args .net))) ≡ m s = capacities-length (a .packed) ∙ arcs-is (a .packed) in
-    record {
-      same = part-length lengthsFrom (m s) (now (s .args .tables)) (omega (arith, a .packed .few-arcs, s .pre .tabled)) ∙ sym full;
-      arcs = omega (arith, a .packed .few-arcs, full);
+    let net = netIn (s .args .s) (now (s .args .net)) in
+    let T = now (s .args .tables) in
+    subst (λ caps. Startable caps (part lengthsFrom (m s) T)) (sym (s .pre .caps-are))
+    (record {
+      same = part-length lengthsFrom (m s) T (omega (arith, few s, s .pre .tabled)) ∙ (a .counted ∙ sym (rooms-length net));
+      arcs = omega (arith, rooms-length net, a .sound .counts .of-resources);
       sizes =
           record {
-            least = λ e l. a .sound .arc-capacity e (omega (arith, capacities-length (a .packed))) .least;
-            most = λ e l. a .sound .arc-capacity e (omega (arith, capacities-length (a .packed))) .most;
+            least = λ e l. room-within net (s .args .q) (a .sound) e (omega (arith, rooms-length net)) .least;
+            most = λ e l. room-within net (s .args .q) (a .sound) e (omega (arith, rooms-length net)) .most;
           };
-    }
+    })
 
--- the tables of the arcs after each call that changes them
+-- the tables of the resources after each call that changes them
 started : (c : tie.After-start) → let s = entry c in let T = now (s .args .tables) in
     Tabled (m s) (put lengthsFrom (m s) T (c .start .last .1 .0)) (c .start .last .1 .0) (part loadsFrom (m s) T) (part keptFrom (m s) T)
 started c =
     let s = entry c in
-    with-lengths (tabled (m s) (now (s .args .tables)) (s .pre .lent .packed .few-arcs) (s .pre .tabled)) (c .start .last .1 .0) (c .start .kept .1 .0)
+    with-lengths (tabled (m s) (now (s .args .tables)) (few s) (s .pre .tabled)) (c .start .last .1 .0) (c .start .kept .1 .0)
 
 unloaded : (c : tie.After-clear) → let f = start-at c in let s = entry f in let T = now (s .args .tables) in
     Tabled (m s) (put loadsFrom (m s) (put lengthsFrom (m s) T (f .start .last .1 .0)) (c .clear .last .0)) (f .start .last .1 .0) (c .clear .last .0) (part keptFrom (m s) T)
@@ -75,20 +82,19 @@ returns c =
     record {
       state =
           in-slice (cleared kept) (λ L Y K. stateOf L (flow .clear-flow .last .0) Y K begun ≡ initial net)
-          (initial-is (whole (p .lent)) (start .start .ensures .lengths) (loads .clear .ensures) (kept .clear2 .ensures) (flow .clear-flow .ensures)
-          (sym (arcs-is (p .lent .packed))) (part-size (started start) loadsFrom (omega arith)) (part-size (unloaded loads) keptFrom (omega arith)) (p .flows));
+          (initial-is net (p .caps-are) (start .start .ensures .lengths) (loads .clear .ensures) (kept .clear2 .ensures) (flow .clear-flow .ensures)
+          (p .lent .counted) (part-size (started start) loadsFrom (omega arith)) (part-size (unloaded loads) keptFrom (omega arith)) (p .flows));
       memory-of =
           memory-zero (now (z .memory)) (last .clear3 .last .0) (p .lent .packed .few-commodities) (sym (commodities-is (p .lent .packed))) (p .memorised)
           (last .clear3 .ensures ∙
           ap (λ (i : ℕ). replicate {A = ℕ} i 0) (part-length 0 (z .s .commodities) (now (z .memory)) (omega (arith, p .lent .packed .few-commodities, p .memorised)))) _;
       weight =
-          in-slice (cleared kept) (λ L Y K. start .start .result ≡ weight net L) (weight-is (whole (p .lent)) (start .start .last .1 .0) (start .start .ensures .weight));
+          in-slice (cleared kept) (λ L Y K. start .start .result ≡ weight net L) (weight-is net (p .caps-are) (start .start .last .1 .0) (start .start .ensures .weight));
     }
 
 pub prepare-spec : {M : Type 1} → statement M
 prepare-spec =
-    tie.close (tie.spec (λ c. search needs) (λ c. search needs) (λ c. search needs) (λ c. search needs)
-    (λ c. search needs) (λ c. search needs) (λ c. search needs) (λ c. search needs) start-requires (λ c. search needs)
+    tie.close (tie.spec (λ c. search needs) (λ c. search needs) (λ c. search needs) (λ c. search needs) start-requires (λ c. search needs)
     (λ c. search needs) (λ c. search needs) (λ c. search needs) (λ c κs. search needs) (λ c. search needs)
     (λ c. search needs) (λ c. search needs) (λ c. search needs) (λ c κs. search needs) (λ c κs. search needs)
     (λ c. search needs) (λ c. search needs) (λ c. search needs) (λ c. search needs) (λ c κs. search needs)

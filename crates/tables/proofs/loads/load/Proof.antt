@@ -28,7 +28,7 @@ arc c = getD (entry c .args .path .now) (c .before .loop .j) 0
 place : (c : tie.In-loop Inv-loop μ-loop) → arc c < length (entry c .args .loads .now)
 place c = next-place (entry c .pre) (c .before .loop .inv) (c .loop-test .taken)
 
-amount : (c : tie.In-loop Inv-loop μ-loop) → getD (c .before .loop .loads) (arc c) 0 < 2 ^ 32 + 64 * 1000
+amount : (c : tie.In-loop Inv-loop μ-loop) → getD (c .before .loop .loads) (arc c) 0 < 2 ^ 32 + 128 * 1000
 amount c = next-load (entry c .pre) (c .before .loop .inv) (c .loop-test .taken)
 
 limit : (c : tie.In-loop Inv-loop μ-loop) → entry c .args .threshold * getD (entry c .args .capacities .now) (arc c) 0 ≤ 2 ^ 20 * 1000
