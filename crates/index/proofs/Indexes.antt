@@ -100,3 +100,7 @@ module _ {s : Shape} {xs : List ℕ} {size : ℕ} (I : Indexable s xs size) wher
       index-same
       (λ v e w b J. taken-leads net (J .arc) (out-taken (J .way)))
       (λ v e w b h. record { arc = leads-arc net v e w h; way = taken-out (leads-taken net v e w h) })
+
+-- A slice of the same size has the same room.
+pub still-indexable : {s : Shape} {xs : List ℕ} {size same : ℕ} → Indexable s xs size → same ≡ size → Indexable s xs same
+still-indexable I e = rw e I

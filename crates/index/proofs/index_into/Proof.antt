@@ -1,9 +1,8 @@
 -- `index::index_into` meets its contract: it has the arcs by the ends at which they are, and the resources of the nodes behind them.
 -- Assumes nothing.
 use borrow.Author.Needs.{needs}
-use native.Mathlib.Omega.{arith}
 use Rattle.packed.specs.Packed.{netIn}
-use Rattle.index.proofs.Indexes.{into-indexing, into-index}
+use Rattle.index.proofs.Indexes.{into-indexing, into-index, still-indexable}
 use Rattle.index.proofs.Locating.{index-located}
 use Rattle.index.proofs.index_into.Statement.{statement}
 use Rattle.index.proofs.index_into.Tie as tie
@@ -17,16 +16,7 @@ unfolding netIn
 index-by-requires c κs = into-indexing (c .before .before .before .before .before .before .pre)
 
 place-nodes-requires : tie.Need-place-nodes-requires
-place-nodes-requires c κs =
-    let B = c .before .before .before in
-    let p = entry B .pre in
-    record {
-      packed = p .packed;
-      ends = p .ends;
-      nodes = p .nodes;
-      counted = p .counted;
-      numbers = omega (arith, p .numbers, B .index-by .kept .1 .1 .1 .1 .0);
-    }
+place-nodes-requires c κs = let B = c .before .before .before in still-indexable (entry B .pre) (B .index-by .kept .1 .1 .1 .1 .0)
 
 returns : tie.Need-returns
 unfolding netIn
