@@ -8,7 +8,7 @@ leastNodes = 2
 abbrev pub mostNodes : ℕ
 mostNodes = 64
 
--- "m from 1 to 256"
+-- "m from 1 to 256"; belts plus limits no more either (request C-17)
 abbrev pub mostArcs : ℕ
 mostArcs = 256
 
@@ -16,7 +16,7 @@ mostArcs = 256
 abbrev pub mostCommodities : ℕ
 mostCommodities = 32
 
--- "capacity 1 to 1,000"
+-- "capacity 1 to 1,000", and a limit (request C-17)
 abbrev pub mostCapacity : ℕ
 mostCapacity = 1000
 

@@ -6,12 +6,12 @@ pub const LEAST_NODES: u64 = 2;
 
 pub const MOST_NODES: u64 = 64;
 
-// Arcs and commodities, at least 1 of each.
+// Arcs, and arcs with limited nodes together (request C-17); and commodities. At least 1 of each.
 pub const MOST_ARCS: usize = 256;
 
 pub const MOST_COMMODITIES: usize = 32;
 
-// An arc's capacity, at least 1.
+// An arc's capacity and a node's limit, at least 1.
 pub const MOST_CAPACITY: u64 = 1000;
 
 // The precision q: the method's epsilon is 1 / q.

@@ -13,13 +13,13 @@ pub record Capacities (capacities : List ℕ) : Type 0 where
   pub least : (e : ℕ) → e < length capacities → 1 ≤ getD capacities e 0
   pub most : NoneAbove mostCapacity capacities
 
--- A length for each arc, to be set to its start.
+-- A length for each resource, to be set to its start.
 pub record Startable (capacities lengths : List ℕ) : Type 0 where
   pub same : length lengths ≡ length capacities
   pub arcs : length capacities ≤ mostArcs
   pub sizes : Capacities capacities
 
--- Growth along a path at precision q by the draw g, no more than the capacities on it. The path has no arc twice, so that each length is below
+-- Growth of what a path uses, at precision q by the draw g, no more than the capacities of it. Nothing is used twice, so that each length is below
 -- the mark, document 01's 2^40, when it grows.
 pub record Growing (lengths capacities : List ℕ) (q g : ℕ) (path : List ℕ) : Type 0 where
   pub same : length lengths ≡ length capacities

@@ -16,7 +16,7 @@ pub record Weighed (wanted capacities new : List ℕ) (d : ℕ) : Type 0 where
   pub lengths : new ≡ wanted
   pub weight : d ≡ weightOf capacities new
 
--- The lengths of the path's arcs are grown by the draw g; their D, and whether some length is at the mark.
+-- The lengths of what the path uses are grown by the draw g; their D, and whether some length is at the mark.
 pub record Grew (old capacities : List ℕ) (q g : ℕ) (path new : List ℕ) (r : Grown) : Type 0 where
   pub lengths : new ≡ longer capacities q g path old
   pub weight : r .weight ≡ weightOf capacities new

@@ -1,4 +1,4 @@
-// The lengths of all arcs: their start, their growth along a path and their halving. Each hands back the bound's D of what it leaves, so that
+// The lengths of all resources: their start, their growth where a path uses them and their halving. Each hands back the bound's D of what it leaves, so that
 // none is summed apart.
 use length::Length;
 ghost use mathlib.Core.Path.{_≡_};
@@ -9,7 +9,7 @@ ghost use Rattle.tables.specs.Tables.{weightOf};
 ghost use Rattle.lengths.specs.Calls.{Startable, Growing, Settling, Lengthening};
 ghost use Rattle.lengths.specs.Results.{firstLengths, Weighed, Grew, Lengthened};
 
-// Every length at its arc's start; D of these.
+// Every length at its resource's start; D of these.
 pub fn start(capacities: &[u64], lengths: &mut [u64]) -> u64
     requires { ⌜ Startable (now capacities) (now lengths) ⌝ }
     ensures { λ r. ⌜ Weighed (firstLengths (now (capacities .entry))) (now (capacities .entry)) (now (lengths .exit)) r ⌝ }
@@ -32,7 +32,7 @@ pub struct Grown {
     pub marked: bool,
 }
 
-// The lengths of the path's arcs grown by the draw g. Only they change: their growth carries D over from the weight before, and only they can
+// The lengths of what the path uses grown by the draw g. Only they change: their growth carries D over from the weight before, and only they can
 // have reached the mark.
 fn grow(lengths: &mut [u64], capacities: &[u64], q: u64, g: u64, path: &[u64], weight: u64) -> Grown
     requires growing { ⌜ Growing (now lengths) (now capacities) q g (now path) ⌝ }
@@ -90,7 +90,7 @@ fn settle(lengths: &mut [u64], capacities: &[u64], grown: Grown) -> u64
     }
 }
 
-// The lengths of the path's arcs grown by the draw g, and all halved if one has grown to the mark: D of what they are then, and whether they
+// The lengths of what the path uses grown by the draw g, and all halved if one has grown to the mark: D of what they are then, and whether they
 // were halved.
 pub fn lengthen(
     lengths: &mut [u64],

@@ -1,4 +1,4 @@
--- The draw is at most the capacity of each arc of the path, and is the whole capacity of one of them.
+-- The draw is at most the capacity of each resource that the path uses, and is the whole capacity of one of them.
 -- Assumes nothing.
 use mathlib.Core.Path.{_≡_, refl, ap, _∙_}
 use mathlib.Core.Bool.{Bool, true, false, cond}
@@ -15,7 +15,7 @@ use Rattle.method.specs.Iteration.{lowest, draw}
 use Rattle.arith.specs.Times.{times}
 use Rattle.method.proofs.Times.{once-same}
 
--- The capacity of arc e.
+-- The capacity of resource e.
 abbrev capAt : List ℕ → ℕ → ℕ
 capAt caps e = getD caps e 0
 
@@ -65,7 +65,7 @@ lowest-full caps g (e ∷ p) =
         At caps (e ∷ p) (lowest caps (min g (capAt caps e)) p)
     here q r = rw (q ∙ r) (first-at caps e p)
 
--- The draw is within the capacity of every arc of the path.
+-- The draw is within the capacity of all that the path uses.
 pub draw-within : (caps : List ℕ) (p : List ℕ) (j : ℕ) → 0 < times j p → draw caps p ≤ capAt caps j
 unfolding draw times
 draw-within caps [] j h = absurd (omega arith)
@@ -73,7 +73,7 @@ draw-within caps (e ∷ p) j h =
     ⊎-elim (λ (q : e ≡ j). omega (arith, lowest-start caps (capAt caps e) p, ap (capAt caps) q))
     (λ l. lowest-member caps (capAt caps e) p j l) (member j e p h)
 
--- The draw is the whole capacity of an arc of the path.
+-- The draw is the whole capacity of something that the path uses.
 pub draw-whole : (caps : List ℕ) (e : ℕ) (p : List ℕ) → At caps (e ∷ p) (draw caps (e ∷ p))
 unfolding draw
 draw-whole caps e p =

@@ -1,4 +1,4 @@
--- The fullest arc b: no arc's load over capacity is greater, and those of lower number are less.
+-- The fullest resource b: no load over capacity is greater, and those of lower number are less.
 -- Assumes nothing.
 use mathlib.Core.Path.{_≡_, refl}
 use mathlib.Core.Bool.{Bool, true, false, cond}

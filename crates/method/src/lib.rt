@@ -1,6 +1,6 @@
 // The method of Garg and Könemann in document 01's whole numbers: definitions and theorems in specs/ and proofs/. Its code is in the crates above.
 
-// The answer. Document 01, "One choice of route": drawn total F, capacity c(b) and load Y(b) of the fullest arc, the bound's D and alpha, the
+// The answer. Document 01, "One choice of route": drawn total F, capacity c(b) and load Y(b) of the fullest resource, the bound's D and alpha, the
 // count of iterations, and which of them, from 1, gave the bound.
 pub struct Answer {
     pub total: u64,

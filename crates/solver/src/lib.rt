@@ -11,7 +11,7 @@ use packed::Shape;
 ghost use Rattle.packed.specs.Packed.{netIn, keptIn};
 ghost use Rattle.solver.specs.Solved.{Solving, Solved};
 
-// The outcome of an accepted network: its flow table, and among the tables of the arcs the kept lengths.
+// The outcome of an accepted network: its flow table, and among the tables of the resources the kept lengths.
 pub fn solve(s: Shape, q: u64, net: &[u64], flow: &mut [i64], tables: &mut [u64]) -> Answer
     requires { ⌜ Solving s q (now net) (now flow) (now tables) ⌝ }
     ensures { λ r. ⌜ Solved (netIn s (now (net .entry))) q r (now (flow .exit)) (keptIn s (now (tables .exit))) ⌝ }

@@ -10,7 +10,7 @@ use Rattle.arith.specs.Sum.{sum}
 use Rattle.length.specs.Length.{mark, growth}
 use Rattle.method.specs.Iteration.{update}
 
--- Every number of the table is less than b. Of a path: its arcs are among b arcs.
+-- Every number of the table is less than b. Of a path, or of what it uses: all are among b.
 abbrev pub Under : ℕ → List ℕ → Type 0
 Under b xs = (e : ℕ) → e < length xs → getD xs e 0 < b
 
@@ -18,7 +18,7 @@ Under b xs = (e : ℕ) → e < length xs → getD xs e 0 < b
 abbrev pub NoneAbove : ℕ → List ℕ → Type 0
 NoneAbove b xs = (e : ℕ) → e < length xs → getD xs e 0 ≤ b
 
--- D: the sum over all arcs of capacity times length.
+-- D: the sum over all resources of capacity times length.
 abbrev pub weightOf : List ℕ → List ℕ → ℕ
 weightOf capacities lengths = sum (length capacities) (λ e. getD capacities e 0 * getD lengths e 0)
 
@@ -30,6 +30,6 @@ longer capacities q g path lengths = update (λ e x. growth q g (getD capacities
 abbrev pub atMark : List ℕ → Bool
 atMark lengths = exists (length lengths) (λ e. leb mark (getD lengths e 0))
 
--- Some load is at least the threshold times the arc's capacity.
+-- Some load is at least the threshold times the resource's capacity.
 abbrev pub atThreshold : ℕ → List ℕ → List ℕ → Bool
 atThreshold threshold capacities loads = exists (length loads) (λ e. leb (threshold * getD capacities e 0) (getD loads e 0))

@@ -13,7 +13,7 @@ ghost use Rattle.method.specs.Iteration.{draw, crossed, pushed};
 ghost use Rattle.tables.specs.Tables.{Under};
 ghost use Rattle.tables.specs.Calls.{Crossing, Pushing};
 
-// The least capacity on the path.
+// The least capacity of what the path uses.
 pub fn draw(capacities: &[u64], path: &[u64]) -> u64
     requires { ⌜ (1 ≤ length (now path)) × Under (length (now capacities)) (now path) ⌝ }
     ensures { λ r. ⌜ r ≡ draw (now (capacities .entry)) (now (path .entry)) ⌝ }

@@ -1,4 +1,4 @@
-// The loads of all arcs: when they end the run, which arc is fullest, and tables of numbers cleared and copied.
+// The loads of all resources: when they end the run, which resource is fullest, and tables of numbers cleared and copied.
 ghost use mathlib.Core.Path.{_≡_};
 ghost use Prim.Native.Nat.{_+_, _-_, _≤_, _<_};
 ghost use lib.IntN.{pos};
@@ -8,8 +8,8 @@ ghost use Rattle.packed.specs.Packed.{part, put};
 ghost use Rattle.tables.specs.Calls.{Loading, Ranking};
 ghost use Rattle.tables.specs.Results.{Loaded};
 
-// The draw g added to the loads of the path's arcs: whether some load is now at least the threshold times the arc's capacity. None was before,
-// so that only these arcs are looked at.
+// The draw g added to the loads of what the path uses: whether some load is now at least the threshold times the resource's capacity. None was
+// before, so that only these are looked at.
 pub fn load(loads: &mut [u64], capacities: &[u64], threshold: u64, path: &[u64], g: u64) -> bool
     requires { ⌜ Loading (now loads) (now capacities) threshold (now path) g ⌝ }
     ensures { λ r. ⌜ Loaded (now (loads .entry)) (now (capacities .entry)) threshold (now (path .entry)) g (now (loads .exit)) r ⌝ }
@@ -28,7 +28,7 @@ pub fn load(loads: &mut [u64], capacities: &[u64], threshold: u64, path: &[u64],
     full
 }
 
-// The lowest-numbered arc of the greatest load over capacity.
+// The lowest-numbered resource of the greatest load over capacity: arcs come before stations as full.
 pub fn fullest(loads: &[u64], capacities: &[u64]) -> usize
     requires { ⌜ Ranking (now loads) (now capacities) ⌝ }
     ensures { λ r. ⌜ (r ≡ fullest (now (capacities .entry)) (now (loads .entry)) (length (now (loads .entry)) - 1)) × (r < length (now (loads .entry))) ⌝ }
