@@ -25,8 +25,8 @@ pub verdicts :
 unfolding verdictOn sizeConditions itemConditions arcConditions limitConditions commodityConditions resources place limitsBelow verdict outside loose flat upTo upFrom
 verdicts = (refl, refl, refl)
 
--- Limits: 0 is none, and 1,000 the most; they are looked at after the arcs and before the commodities, and so
--- is how many resources there are.
+-- Limits: 0 is none, and 1,000 the most; they are looked at after the arcs and before the commodities. How many resources there are is looked at before
+-- how many commodities.
 pub limited-verdicts :
     (verdictOn (two-arcs (1 ∷ 1 ∷ []) (1 ∷ 1 ∷ []) (0 ∷ 1000 ∷ []) 2) 4 [] ≡ Accepted) ×
     (verdictOn (two-arcs (1 ∷ 1 ∷ []) (1 ∷ 0 ∷ []) (1001 ∷ []) 2) 4 [] ≡ Refused (Capacity 2)) ×

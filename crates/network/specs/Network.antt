@@ -43,7 +43,7 @@ capacity net e = getD (net .capacities) e 0
 abbrev pub reversible : Network → ℕ → Bool
 reversible net e = not (eqb (getD (net .marks) e 0) 0)
 
--- what node v lets through, in totes an hour; 0 if it has no limit
+-- what node v lets through, in totes an hour; 0 if it has no limit. Nodes count from 1, so a 0 for no node stands in front.
 abbrev pub limit : Network → ℕ → ℕ
 limit net v = getD (0 ∷ net .limits) v 0
 
