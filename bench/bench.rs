@@ -1,6 +1,7 @@
 //! Times the static library against both forms of the second solver on
 //! full-size floors, in one run: each is handed the same bytes and writes the
-//! same tables. Exits with 1 if the tables differ or the stack grows too deep.
+//! same tables. Tells besides how much of its bound a total was at least. Exits with
+//! 1 if the tables differ or the stack grows too deep.
 //! `--q N` keeps to that precision (4, 8 and 16 otherwise), `--fast` leaves the
 //! plain form out, `--seed N` takes other floors, `--marked` makes all their belts
 //! reversible and `--limited` limits all their stations; both leave the plain form out.
@@ -97,22 +98,24 @@ fn bench(q: u64, options: &Options) -> bool {
     let times = ["library ms", "fast ms", "plain ms", "fast/library", "plain/library"];
     let [library, fast, plain, level, gain] = times;
     show_row(["floor", "q", "choices", library, fast, plain, level, gain].map(String::from));
-    let mut rows = Vec::new();
+    let (mut rows, mut shares) = (Vec::new(), Vec::new());
     let mut alike = true;
     for (name, call) in floors_at(q, options.seed, options.kind) {
-        let (times, same, choices) = measure(&call, options.plain);
-        show(&name, q, choices, &times);
+        let (times, same, tables) = measure(&call, options.plain);
+        show(&name, q, get(&tables.answer, 5), &times);
         if !same {
             println!("DIFFERENT {name}: the library's tables are not the second solver's");
             alike = false;
         }
         rows.push(times);
+        shares.push((share(&tables), name));
     }
     show_means(q, &rows);
+    show_least(q, shares);
     alike
 }
 
-fn measure(call: &Call, plain: bool) -> (Times, bool, u64) {
+fn measure(call: &Call, plain: bool) -> (Times, bool, Call) {
     let (library, found) = quickest(|| solve(call.clone()));
     let (fast, wanted) = quickest(|| call.answered(fast::solve).1);
     let (plain, same_plain) = match plain {
@@ -122,8 +125,14 @@ fn measure(call: &Call, plain: bool) -> (Times, bool, u64) {
         }
         false => (None, true),
     };
-    let choices = get(&wanted.answer, 5);
-    (Times { library, fast, plain }, found == wanted && same_plain, choices)
+    (Times { library, fast, plain }, found == wanted && same_plain, found)
+}
+
+/// V over B in ten thousandths, rounded down; on each of these floors some pair is joined.
+fn share(tables: &Call) -> u128 {
+    let [drawn, capacity, load, d, alpha] =
+        [0, 1, 2, 3, 4].map(|i| u128::from(get(&tables.answer, i)));
+    10_000 * drawn * capacity * alpha / (d * load)
 }
 
 fn solve(mut call: Call) -> Call {
@@ -175,6 +184,12 @@ fn show_means(q: u64, rows: &[Times]) {
         print!(", plain/library {:.2}", mean(plain));
     }
     println!();
+}
+
+fn show_least(q: u64, shares: Vec<(u128, String)>) {
+    if let Some((share, name)) = shares.into_iter().min() {
+        println!("least V / B at q {q}: {}.{:04} on {name}", share / 10_000, share % 10_000);
+    }
 }
 
 /// The deepest of one call on each floor: what is on the stack does not depend

@@ -24,6 +24,7 @@ mod rare;
 mod reversible;
 mod search;
 mod shapes;
+mod shares;
 mod solver;
 mod tally;
 mod ties;

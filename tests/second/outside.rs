@@ -1,11 +1,12 @@
 //! What must hold of any accepted call, read off the bytes that it leaves and not off
 //! a run of the method: document 01's flow and capacities with the signs of request
-//! C-12 and the limits of C-17, and the promises of total, bound and count. Of the
-//! second solver it shares the load mark T alone.
+//! C-12 and the limits of C-17, and the promises of total, bound and count, with that of
+//! C-24. Of the second solver it shares the load mark T alone.
 
 use crate::call::{get, numbers, Call};
 use crate::method::threshold;
 use crate::network::{Arc, Commodity, Network};
+use crate::shares::{reaches, shares};
 
 /// Longer than any path, and the sum of two still fits.
 const NONE: u64 = u64::MAX / 4;
@@ -99,10 +100,10 @@ impl Plan {
         let weight: u128 = weights.map(|(r, l)| wide(r.capacity) * wide(*l)).sum();
         holds(weight == d, "D is not that of the lengths")?;
         holds(wide(self.alpha(&self.lengths)) == alpha, "alpha is not that of the lengths")?;
-        holds(drawn * capacity * alpha <= d * load, "the total is above the bound")?;
-        let q = wide(self.q);
-        let close = (q - 2) * d * load <= q * drawn * capacity * alpha;
-        holds(close, "the total is below 1 - 2/q of the bound")
+        let (v, b) = (drawn * capacity * alpha, d * load);
+        holds(v <= b, "the total is above the bound")?;
+        let missed = shares(self.q).into_iter().find(|(_, share)| !reaches(v, *share, b));
+        missed.map_or(Ok(()), |(promise, _)| Err(promise))
     }
 
     fn alpha(&self, lengths: &[u64]) -> u64 {

@@ -10,11 +10,13 @@
 
 mod method;
 mod network;
+mod shares;
 mod slipped;
 mod solver;
 
 use method::{fraction_below, SCALE};
 use network::{network, Network};
+use shares::{reaches, shares};
 use slipped::{run, starts, Met, Run, Slip};
 use std::process::ExitCode;
 
@@ -26,6 +28,9 @@ struct Case {
     breaks: &'static [&'static str],
     fact: fn(&Run) -> Fact,
 }
+
+/// The promises of V over B.
+const SHARES: [&str; 3] = ["near", "closer", "nearer"];
 
 /// A fact of the proof at the end of a run, with its figures.
 struct Fact {
@@ -53,8 +58,8 @@ fn cases() -> Vec<Case> {
     let case = |name, slip, net, q, breaks, fact| Case { name, slip, net, q, breaks, fact };
     vec![
         case("start rounded down", Slip::StartDown, one(3), 4, &[], scaled),
-        case("growth rounded down", Slip::GrowthDown, two_feeders, 16, &["near", "nearer"], lower),
-        case("halving rounded down", Slip::HalvingDown, one_feeder, 16, &["near", "nearer"], lower),
+        case("growth rounded down", Slip::GrowthDown, two_feeders, 16, &SHARES, lower),
+        case("halving rounded down", Slip::HalvingDown, one_feeder, 16, &SHARES, lower),
         case("divided by T", Slip::ScaleByMark, merge(), 4, &["capacities"], within),
         case("divided by T", Slip::ScaleByMark, merge(), 16, &["capacities", "V above B"], within),
         case("last bound", Slip::LastBound, two, 4, &[], best),
@@ -112,18 +117,14 @@ fn broken(run: &Run) -> Vec<&'static str> {
     let wide = u128::from;
     let ((upper, lower), bound) = (run.scale(), run.bound());
     let m = run.net.arcs.len() as u64;
-    let (q, v) = (wide(run.q), wide(run.drawn) * wide(upper) * wide(bound.alpha));
+    let v = wide(run.drawn) * wide(upper) * wide(bound.alpha);
     let b = wide(bound.weight) * wide(lower);
     let mut loads = run.net.arcs.iter().zip(&run.loads);
     let over = loads.any(|(arc, y)| wide(*y) * wide(upper) > wide(arc.capacity) * wide(lower));
-    let promises = [
-        ("capacities", over),
-        ("V above B", v > b),
-        ("near", (q - 2) * b > q * v),
-        ("nearer", (8 * q - 9) * b > (8 * q + 5) * v),
-        ("count", run.iterations > m * run.mark),
-    ];
-    promises.into_iter().filter(|(_, broken)| *broken).map(|(name, _)| name).collect()
+    let near = shares(run.q).map(|(name, share)| (name, !reaches(v, share, b)));
+    let first = [("capacities", over), ("V above B", v > b)];
+    let promises = first.into_iter().chain(near).chain([("count", run.iterations > m * run.mark)]);
+    promises.filter(|(_, broken)| *broken).map(|(name, _)| name).collect()
 }
 
 /// At the start capacity times length is the scale or more.

@@ -9,7 +9,7 @@ use Prim.Native.Nat.{ℕ, zero, suc, _+_, _*_, _-_, _≤_, _<_}
 use native.Mathlib.Nat.{mul-pos, mul-le-mul-right, le-of-mul-le-mul-left}
 use native.Mathlib.Omega.{arith}
 use borrow.Author.Tests.{leb-true}
-use lib.Dec.{leb}
+use lib.Dec.{leb, lit≤}
 use lib.IntN.{ℤ}
 use lib.ListN.{getD}
 use Rattle.arith.proofs.Exists.{exists-true}
@@ -23,7 +23,7 @@ use Rattle.network.proofs.Resources.{arcs-le, place-high, room-arc, room-node}
 use Rattle.network.proofs.Sounds.{sound-ends, resources-within, room-within}
 use Rattle.network.proofs.Duality.{Bounds}
 use Rattle.packing.proofs.Count.{count-all}
-use Rattle.packing.proofs.Near.{near, near-two}
+use Rattle.packing.proofs.Near.{near, near-two, near-share}
 use Rattle.packing.proofs.Health.{positive-alpha}
 use Rattle.packing.proofs.Run as packing
 use Rattle.method.specs.Answer.{fullest, unjoined, outcomeOf, outcome}
@@ -136,6 +136,10 @@ module _ (net : Network) (q : ℕ) (sound : Sound net q) where
     unfolding seen
     near-enough = near-two (program net q sound) (f .reached .valid .run) (f .reached .below) step b inside at-mark
 
+    near-within : (d r Q : ℕ) → 14 * d ≤ 8 * r → r ≤ Q → Q ≡ d * q → (Q - r) * (t .bound * getD (t .loads) b 0) ≤ Q * (t .total * room net b * t .alpha)
+    unfolding seen
+    near-within = near-share (program net q sound) (f .reached .valid .run) (f .reached .below) step b inside at-mark
+
     few : t .count ≤ resources net * threshold (resources net) q
     unfolding seen threshold
     few = count-all (program net q sound) (f .reached .valid .run) (f .reached .below) step
@@ -175,6 +179,8 @@ module _ (net : Network) (q : ℕ) (sound : Sound net q) where
           upper = upper;
           some-alpha = alpha-pos;
           near = near-enough;
+          -- The figures are read off the statement: what is shown here is that they are enough, 14 * 4 ≤ 8 * 7.
+          closer = near-within _ _ _ (lit≤ tt) (omega (arith, program net q sound .precision-low)) refl;
           nearer = near-by;
           steps = steps;
           count = few;
@@ -197,6 +203,7 @@ module _ (net : Network) (q : ℕ) (sound : Sound net q) where
             (λ i l j. choice-none net (sound-ends net q sound) (initial net .lengths) i l j h);
         some-alpha = omega arith;
         near = omega arith;
+        closer = omega arith;
         nearer = omega arith;
         steps = still net q (resources net * threshold (resources net) q) h;
         count = omega arith;

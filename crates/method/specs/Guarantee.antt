@@ -29,8 +29,9 @@ pub record Guarantee (net : Network) (q : ℕ) (o : Outcome) : Type 0 where
   -- No flow, whole or fractional, that keeps the capacities and the limits carries more than B = D / alpha: d is the common divisor of its amounts.
   pub upper : (d : ℕ) (f : ℕ → ℕ → ℤ) → Flow net f → Keeps net d f → AtMost net f d (o .answer .bound) (o .answer .alpha)
   pub some-alpha : 0 < o .answer .alpha
-  -- V is at least (1 - 2/q) * B, and, sharper, at least (8q - 9) / (8q + 5) times B.
+  -- V is at least (1 - 2/q) * B; closer, at least (1 - 7/(4q)) * B; and, sharper than both, at least (8q - 9) / (8q + 5) times B.
   pub near : (q - 2) * (o .answer .bound * o .answer .load) ≤ q * (o .answer .total * o .answer .capacity * o .answer .alpha)
+  pub closer : (4 * q - 7) * (o .answer .bound * o .answer .load) ≤ 4 * q * (o .answer .total * o .answer .capacity * o .answer .alpha)
   pub nearer :
       (8 * q - 9) * (o .answer .bound * o .answer .load) ≤ (8 * q + 5) * (o .answer .total * o .answer .capacity * o .answer .alpha)
   -- The count is that of the run's iterations, and at most m * T paths were chosen: m counts the resources.

@@ -1,5 +1,5 @@
 -- The guarantee (guarantee.md, section 5): where choosing ends, the scaled total is near the bound.
--- With V = total * c(k) / load(k) and B = bound / alpha: V >= (8q - 9) / (8q + 5) * B, so V >= (1 - 2 / q) * B and V >= (1 - 7 / (4q)) * B.
+-- With V = total * c(k) / load(k) and B = bound / alpha: V >= (8q - 9) / (8q + 5) * B, so V >= (1 - 2 / q) * B, and V >= (1 - 7 / (4q)) * B by its shares.
 -- Assumes nothing.
 use mathlib.Core.Path.{_≡_, ap}
 use Prim.Native.Nat.{ℕ, suc, _+_, _*_, _-_, _^_, _≤_, _<_}
@@ -55,7 +55,8 @@ module _ {m q L : ℕ} {c : ℕ → ℕ} (p : Program m q L c) where
         conclude q L (8 * q - 9) (c k) (t .load k) (t .bound) (t .alpha) (t .total) (omega (arith, p .precision-low)) full
         (meets (Run.next r i) (count-all p r h i) k b)
 
-    near-share : (d r Q : ℕ) → 14 * d ≤ 8 * r → r ≤ Q → Q ≡ d * q → (Q - r) * (t .bound * t .load k) ≤ Q * (t .total * c k * t .alpha)
+    -- V is at least (1 - r / (d * q)) * B where r / d is at least 7 / 4
+    pub near-share : (d r Q : ℕ) → 14 * d ≤ 8 * r → r ≤ Q → Q ≡ d * q → (Q - r) * (t .bound * t .load k) ≤ Q * (t .total * c k * t .alpha)
     near-share d r Q l f e =
         coarser (Q - r) Q (8 * q - 9) (8 * q + 5) (t .bound * t .load k) (t .total * c k * t .alpha) (omega arith)
         (rw e (share q d r (d * q - r) (8 * q - 9) l (omega arith) (omega (arith, p .precision-low)))) near
@@ -63,7 +64,3 @@ module _ {m q L : ℕ} {c : ℕ → ℕ} (p : Program m q L c) where
     -- V is at least (1 - 2 / q) * B (demand 3)
     pub near-two : (q - 2) * (t .bound * t .load k) ≤ q * (t .total * c k * t .alpha)
     near-two = near-share 1 2 q (lit≤ tt) (omega (arith, p .precision-low)) (omega arith)
-
-    -- V is at least (1 - 7 / (4 * q)) * B
-    pub near-seven : (4 * q - 7) * (t .bound * t .load k) ≤ 4 * q * (t .total * c k * t .alpha)
-    near-seven = near-share 4 7 (4 * q) (lit≤ tt) (omega (arith, p .precision-low)) (omega arith)
