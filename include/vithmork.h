@@ -20,9 +20,9 @@ extern "C" {
  * or returns: a host then has to be looked at anew. The second rises with what
  * is new beside that, the third with what is put right. */
 #define VITHMORK_VERSION_MAJOR 3
-#define VITHMORK_VERSION_MINOR 0
+#define VITHMORK_VERSION_MINOR 1
 #define VITHMORK_VERSION_PATCH 0
-#define VITHMORK_VERSION "3.0.0"
+#define VITHMORK_VERSION "3.1.0"
 
 /* Bounds. What lies outside them is refused, so a host need not test first. */
 enum {
@@ -90,7 +90,8 @@ enum {
 /* Solves one floor.
  *
  *   n       stations, numbered from 1
- *   q       precision: the total is at least 1 - 2/q of the bound
+ *   q       precision: the total is at least 1 - 7/(4q) of the bound, 0.56 of it at
+ *           q = 4, 0.78 at 8 and 0.89 at 16. A higher q takes longer (below)
  *   belts   m items: tail, head, capacity, mark. The mark is 0, or anything else
  *           if the belt is reversible: then routes take it either way, and one
  *           capacity holds what goes both ways together

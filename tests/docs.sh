@@ -1,7 +1,8 @@
 #!/usr/bin/env bash
 # The pages agree with the tree: links lead to files; a name with its file in brackets stands in that file; and docs/READING.md has every
 # definition file that the contracts rest on, after those that it uses, with its number of lines and the sums. Listings and output that a page
-# quotes are those that other tests hold to the programs. The notes of docs/changes say what was so when they were written: README leads to each.
+# quotes are those that other tests hold to the programs. The shares in docs/GUARANTEE.md are worked out again. The notes of docs/changes say what
+# was so when they were written: README leads to each.
 set -u
 cd "$(dirname "$0")/.." || exit 2
 faults=0
@@ -61,6 +62,19 @@ quotes docs/COURSE.md tests/one_by_one.expected
 for fraction in $(grep -oE '[0-9]{4,}/[0-9]+' docs/COURSE.md); do
     cat examples/*.csv | tr -d '\r' | grep -qE ",${fraction/\//,}\$" || fault "docs/COURSE.md: no listing has $fraction"
 done
+
+# the shares of the bound at each q, cut after the fourth place
+shares() {
+    awk 'function row(name, a, b, c, d, q, x) {
+            printf "| %s |", name
+            for (q = 4; q <= 16; q++) { x = int(10000 * (a * q + b) / (c * q + d)); printf " %d.%04d |", int(x / 10000), x % 10000 }
+            print ""
+        }
+        BEGIN { row("1 - 2/q", 1, -2, 1, 0); row("1 - 7/(4q)", 4, -7, 4, 0); row("(8q - 9)/(8q + 5)", 8, -9, 8, 5) }'
+}
+while IFS= read -r line; do
+    grep -qxF -- "$line" docs/GUARANTEE.md || fault "docs/GUARANTEE.md: lacks the shares $line"
+done < <(shares)
 
 page=docs/READING.md
 words=" $(sed -n '/^## 0\./,/^## 1\./p' "$page" | grep -oE '`[^`]+`' | tr -d '`\\' | tr ' ,\n' '   ') "
