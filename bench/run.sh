@@ -1,9 +1,9 @@
 #!/usr/bin/env bash
 # Times the static library against the second solver, and sees that it cannot
-# allocate; three to five minutes, most of them the plain form's at q 16. Arguments
-# go to the program: --q 4, --fast (without the plain form), --seed 7, --marked (every
-# belt reversible, and without the plain form), --limited (every station limited, 64 belts
-# fewer, and without the plain form).
+# allocate; prints the least V / B of each precision, too; three to five minutes, most
+# of them the plain form's at q 16. Arguments go to the program: --q 4, --fast (without
+# the plain form), --seed 7, --marked (every belt reversible, and without the plain
+# form), --limited (every station limited, 64 belts fewer, and without the plain form).
 #
 # --against ARCHIVE times it against another archive instead, in one process and in
 # turn, and prints the ratio of each floor and their geometric mean; two minutes.

@@ -1,5 +1,6 @@
 -- The guarantee (guarantee.md, section 5): where choosing ends, the scaled total is near the bound.
--- With V = total * c(k) / load(k) and B = bound / alpha: V >= (8q - 9) / (8q + 5) * B, so V >= (1 - 2 / q) * B, and V >= (1 - 7 / (4q)) * B by its shares.
+-- With V = total * c(k) / load(k) and B = bound / alpha: V >= (8q - 9) / (8q + 5) * B (`near`), so V >= (1 - r / (d * q)) * B where r / d is at least 7 / 4
+-- (`near-share`), and V >= (1 - 2 / q) * B.
 -- Assumes nothing.
 use mathlib.Core.Path.{_≡_, ap}
 use Prim.Native.Nat.{ℕ, suc, _+_, _*_, _-_, _^_, _≤_, _<_}
