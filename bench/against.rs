@@ -50,7 +50,7 @@ fn main() -> ExitCode {
     let Some(options) = options(std::env::args().skip(1)) else {
         eprint!("bench: with --against the options are --q NUMBER, --seed NUMBER, ");
         eprint!("--rounds NUMBER (from {ROUNDS}), --marked, --limited and --layout base ");
-        eprintln!("(without these two) or marks (without --limited)");
+        eprintln!("(without these two), marks (without --limited) or limits");
         return ExitCode::from(2);
     };
     let floors = options.kind.described(options.seed);

@@ -17,17 +17,20 @@ pub enum Layout {
     Marks,
     /// After the pairs a slice of limits (request C-17).
     Limits,
+    /// After q the office, and a table of counts for the running one (request C-20).
+    Offices,
 }
 
 impl Layout {
     /// This tree's, that of tests/second/library.rs.
-    pub const HERE: Layout = Layout::Limits;
+    pub const HERE: Layout = Layout::Offices;
 
     pub fn named(name: &str) -> Option<Layout> {
         match name {
             "base" => Some(Layout::Base),
             "marks" => Some(Layout::Marks),
             "limits" => Some(Layout::Limits),
+            "offices" => Some(Layout::Offices),
             _ => None,
         }
     }
@@ -37,7 +40,7 @@ impl Layout {
         match self {
             Layout::Base => !kind.marked && !kind.limited,
             Layout::Marks => !kind.limited,
-            Layout::Limits => true,
+            Layout::Limits | Layout::Offices => true,
         }
     }
 }
@@ -84,7 +87,8 @@ impl Archive {
         match self.layout {
             Layout::Base => solve_unlimited(self.symbol, &without_marks(&call.belts), call),
             Layout::Marks => solve_unlimited(self.symbol, &call.belts.clone(), call),
-            Layout::Limits => solve(self.symbol, call),
+            Layout::Limits => solve_one_count(self.symbol, call),
+            Layout::Offices => solve(self.symbol, call),
         }
     }
 }
@@ -108,8 +112,44 @@ fn without_marks(belts: &[u8]) -> Vec<u8> {
     belts.flat_map(unmarked).collect()
 }
 
+/// All that an archive with one running count is lent of them: the office's own.
+fn own_count<'a>(counts: &'a mut [u8], office: &u64) -> &'a mut [u8] {
+    &mut counts[(*office as usize - 1) * NUMBER..][..NUMBER]
+}
+
 #[rustfmt::skip]
 type Solve = unsafe extern "C" fn(
+    n: u64, q: u64, office: u64,
+    belts: Read, belts_len: usize,
+    pairs: Read, pairs_len: usize,
+    limits: Read, limits_len: usize,
+    flow: Written, flow_len: usize,
+    length: Written, length_len: usize,
+    answer: Written, answer_len: usize,
+    counts: Written, counts_len: usize,
+) -> u64;
+
+#[rustfmt::skip]
+fn solve(symbol: Symbol, call: &mut Call) -> Run {
+    let Call { n, q, office, belts, pairs, limits, flow, length, answer, counts } = call;
+    // SAFETY: an archive of this layout has these arguments, and asks of its caller
+    // only that each pointer and count be a slice of its own, as borrowed ones are.
+    timed(|| unsafe {
+        transmute::<Symbol, Solve>(symbol)(
+            *n, *q, *office,
+            belts.as_ptr(), belts.len(),
+            pairs.as_ptr(), pairs.len(),
+            limits.as_ptr(), limits.len(),
+            flow.as_mut_ptr(), flow.len(),
+            length.as_mut_ptr(), length.len(),
+            answer.as_mut_ptr(), answer.len(),
+            counts.as_mut_ptr(), counts.len(),
+        )
+    })
+}
+
+#[rustfmt::skip]
+type SolveOneCount = unsafe extern "C" fn(
     n: u64, q: u64,
     belts: Read, belts_len: usize,
     pairs: Read, pairs_len: usize,
@@ -120,13 +160,15 @@ type Solve = unsafe extern "C" fn(
     count: Written, count_len: usize,
 ) -> u64;
 
+/// For the layout with limits and without offices.
 #[rustfmt::skip]
-fn solve(symbol: Symbol, call: &mut Call) -> Run {
-    let Call { n, q, belts, pairs, limits, flow, length, answer, count } = call;
+fn solve_one_count(symbol: Symbol, call: &mut Call) -> Run {
+    let Call { n, q, office, belts, pairs, limits, flow, length, answer, counts } = call;
+    let count = own_count(counts, office);
     // SAFETY: an archive of this layout has these arguments, and asks of its caller
     // only that each pointer and count be a slice of its own, as borrowed ones are.
     timed(|| unsafe {
-        transmute::<Symbol, Solve>(symbol)(
+        transmute::<Symbol, SolveOneCount>(symbol)(
             *n, *q,
             belts.as_ptr(), belts.len(),
             pairs.as_ptr(), pairs.len(),
@@ -150,11 +192,12 @@ type SolveUnlimited = unsafe extern "C" fn(
     count: Written, count_len: usize,
 ) -> u64;
 
-/// For the layouts without limits, which differ in their belts alone.
+/// For the layouts without limits and offices, which differ in their belts alone.
 #[rustfmt::skip]
 fn solve_unlimited(symbol: Symbol, belts: &[u8], call: &mut Call) -> Run {
-    let Call { n, q, pairs, limits, flow, length, answer, count, .. } = call;
+    let Call { n, q, office, pairs, limits, flow, length, answer, counts, .. } = call;
     assert!(limits.is_empty(), "this layout has no limits");
+    let count = own_count(counts, office);
     // SAFETY: an archive of these layouts has these arguments, and asks of its caller
     // only that each pointer and count be a slice of its own, as borrowed ones are.
     timed(|| unsafe {

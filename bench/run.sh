@@ -8,10 +8,12 @@
 # --against ARCHIVE times it against another archive instead, in one process and in
 # turn, and prints the ratio of each floor and their geometric mean; two minutes.
 # With it go --q 4, --seed 7, --rounds 20 (5 otherwise; more where the machine is
-# busy), --marked, --limited and --layout base or marks, for an archive with that call
-# where this tree's is another (bench/layouts.rs): base has no marks, and neither has
-# limits. An archive to compare with is a copy of target/staticlib/libvithmork.a, made
-# before a change, or what bench/archive.sh REVISION FILE builds.
+# busy), --marked, --limited and --layout base, marks or limits, for an archive with
+# that call where this tree's is another (bench/layouts.rs): base has no marks, base
+# and marks have no limits, and none has offices; called by another layout than its
+# own, an archive may crash. One to compare with is a copy of
+# target/staticlib/libvithmork.a, made before a change, or what bench/archive.sh
+# REVISION FILE builds.
 set -eu
 from=$PWD
 cd "$(dirname "$0")/.."

@@ -4,7 +4,7 @@
 
 #include <stdio.h>
 
-enum { STATIONS = 4, BELTS = 5, PAIRS = 2, PRECISION = 16 };
+enum { STATIONS = 4, BELTS = 5, PAIRS = 2, PRECISION = 16, OFFICE = 1 };
 
 static const uint64_t belt[BELTS][3] = {
     /* tail, head, totes an hour */
@@ -16,7 +16,7 @@ static uint8_t pairs[VITHMORK_PAIRS_BYTES(PAIRS)];
 static uint8_t flow[VITHMORK_FLOW_BYTES(PAIRS, BELTS)];
 static uint8_t lengths[VITHMORK_LENGTH_BYTES(BELTS)];
 static uint8_t answer[VITHMORK_ANSWER_BYTES];
-static uint8_t count[VITHMORK_COUNT_BYTES];
+static uint8_t counts[VITHMORK_COUNTS_BYTES] = {0}; /* every office starts at 0 */
 
 static void fill(void)
 {
@@ -24,7 +24,6 @@ static void fill(void)
         vithmork_put_belt(belts, e, belt[e][0], belt[e][1], belt[e][2]);
     for (size_t p = 0; p < PAIRS; p++)
         vithmork_put_pair(pairs, p, pair[p][0], pair[p][1]);
-    vithmork_put(count, 0, 0);
 }
 
 static void print(void)
@@ -42,15 +41,16 @@ static void print(void)
                (unsigned)belt[e][1], vithmork_scaled(answer, load), (unsigned)belt[e][2]);
     }
     printf("choices %u, so far %u\n", (unsigned)vithmork_get(answer, VITHMORK_CHOICES),
-           (unsigned)vithmork_get(count, 0));
+           (unsigned)vithmork_count(counts, OFFICE));
 }
 
 int main(void)
 {
     fill();
     uint64_t returned = vithmork_solve(
-        STATIONS, PRECISION, belts, sizeof belts, pairs, sizeof pairs, VITHMORK_ABSENT, 0,
-        flow, sizeof flow, lengths, sizeof lengths, answer, sizeof answer, count, sizeof count);
+        STATIONS, PRECISION, OFFICE, belts, sizeof belts, pairs, sizeof pairs, VITHMORK_ABSENT,
+        0, flow, sizeof flow, lengths, sizeof lengths, answer, sizeof answer, counts,
+        sizeof counts);
     if (returned != VITHMORK_ACCEPTED) {
         vithmork_refusal refusal = vithmork_refused(returned);
         printf("refused: %u (%s), place %u\n", refusal.number, vithmork_word(refusal.number),

@@ -5,7 +5,7 @@
 #include <stdio.h>
 #include <stdlib.h>
 
-enum { STATIONS = 6, BELTS = 6, LIMITED = 1, PAIRS = 2, PRECISION = 16 };
+enum { STATIONS = 6, BELTS = 6, LIMITED = 1, PAIRS = 2, PRECISION = 16, OFFICE = 4 };
 
 static const uint64_t belt[BELTS][3] = {
     /* tail, head, totes an hour */
@@ -21,7 +21,7 @@ static uint8_t limits[VITHMORK_LIMITS_BYTES(STATIONS)];
 static uint8_t flow[VITHMORK_FLOW_BYTES(PAIRS, BELTS)];
 static uint8_t lengths[VITHMORK_LENGTH_BYTES(BELTS + LIMITED)];
 static uint8_t answer[VITHMORK_ANSWER_BYTES];
-static uint8_t count[VITHMORK_COUNT_BYTES];
+static uint8_t counts[VITHMORK_COUNTS_BYTES] = {0}; /* every office starts at 0 */
 
 static void fill(void)
 {
@@ -31,14 +31,14 @@ static void fill(void)
         vithmork_put_pair(pairs, p, pair[p][0], pair[p][1]);
     for (size_t i = 0; i < LIMITED; i++)
         vithmork_put_limit(limits, limit[i][0], limit[i][1]);
-    vithmork_put(count, 0, 0);
 }
 
 static void solve(const char *what, size_t limits_len)
 {
     uint64_t returned = vithmork_solve(
-        STATIONS, PRECISION, belts, sizeof belts, pairs, sizeof pairs, limits, limits_len,
-        flow, sizeof flow, lengths, sizeof lengths, answer, sizeof answer, count, sizeof count);
+        STATIONS, PRECISION, OFFICE, belts, sizeof belts, pairs, sizeof pairs, limits,
+        limits_len, flow, sizeof flow, lengths, sizeof lengths, answer, sizeof answer, counts,
+        sizeof counts);
     if (returned != VITHMORK_ACCEPTED) {
         vithmork_refusal refusal = vithmork_refused(returned);
         printf("refused: %u (%s), place %u\n", refusal.number, vithmork_word(refusal.number),

@@ -5,7 +5,7 @@
 #include <stdio.h>
 #include <stdlib.h>
 
-enum { STATIONS = 3, BELTS = 2, PAIRS = 3, PRECISION = 16 };
+enum { STATIONS = 3, BELTS = 2, PAIRS = 3, PRECISION = 16, OFFICE = 3 };
 
 static const uint64_t belt[BELTS][3] = {
     /* tail, head, totes an hour */
@@ -17,7 +17,7 @@ static uint8_t pairs[VITHMORK_PAIRS_BYTES(PAIRS)];
 static uint8_t flow[VITHMORK_FLOW_BYTES(PAIRS, BELTS)];
 static uint8_t lengths[VITHMORK_LENGTH_BYTES(BELTS)];
 static uint8_t answer[VITHMORK_ANSWER_BYTES];
-static uint8_t count[VITHMORK_COUNT_BYTES];
+static uint8_t counts[VITHMORK_COUNTS_BYTES] = {0}; /* every office starts at 0 */
 
 static void fill(void)
 {
@@ -25,16 +25,15 @@ static void fill(void)
         vithmork_put_belt(belts, e, belt[e][0], belt[e][1], belt[e][2]);
     for (size_t p = 0; p < PAIRS; p++)
         vithmork_put_pair(pairs, p, pair[p][0], pair[p][1]);
-    vithmork_put(count, 0, 0);
 }
 
 /* Solves for some pairs, adds each belt's amounts to carried, returns the total. */
 static double solve(size_t first, size_t number, double *carried)
 {
     uint64_t returned = vithmork_solve(
-        STATIONS, PRECISION, belts, sizeof belts, pairs + VITHMORK_PAIRS_BYTES(first),
+        STATIONS, PRECISION, OFFICE, belts, sizeof belts, pairs + VITHMORK_PAIRS_BYTES(first),
         VITHMORK_PAIRS_BYTES(number), VITHMORK_ABSENT, 0, flow, sizeof flow, lengths,
-        sizeof lengths, answer, sizeof answer, count, sizeof count);
+        sizeof lengths, answer, sizeof answer, counts, sizeof counts);
     if (returned != VITHMORK_ACCEPTED) {
         vithmork_refusal refusal = vithmork_refused(returned);
         printf("refused: %u (%s), place %u\n", refusal.number, vithmork_word(refusal.number),

@@ -6,7 +6,7 @@
 #include <stdio.h>
 #include <stdlib.h>
 
-enum { STATIONS = 6, BELTS = 5, REVERSIBLE = 1, PAIRS = 2, PRECISION = 16 };
+enum { STATIONS = 6, BELTS = 5, REVERSIBLE = 1, PAIRS = 2, PRECISION = 16, OFFICE = 8 };
 enum { MOST = BELTS + REVERSIBLE };
 
 static const uint64_t belt[BELTS][4] = {
@@ -19,7 +19,7 @@ static uint8_t pairs[VITHMORK_PAIRS_BYTES(PAIRS)];
 static uint8_t flow[VITHMORK_FLOW_BYTES(PAIRS, MOST)];
 static uint8_t lengths[VITHMORK_LENGTH_BYTES(MOST)];
 static uint8_t answer[VITHMORK_ANSWER_BYTES];
-static uint8_t count[VITHMORK_COUNT_BYTES];
+static uint8_t counts[VITHMORK_COUNTS_BYTES] = {0}; /* every office starts at 0 */
 
 /* The floor as it is built. */
 static size_t put_reversible(void)
@@ -44,9 +44,9 @@ static size_t put_opposite(void)
 static void solve(const char *what, size_t m)
 {
     uint64_t returned = vithmork_solve(
-        STATIONS, PRECISION, belts, VITHMORK_BELTS_BYTES(m), pairs, sizeof pairs,
+        STATIONS, PRECISION, OFFICE, belts, VITHMORK_BELTS_BYTES(m), pairs, sizeof pairs,
         VITHMORK_ABSENT, 0, flow, sizeof flow, lengths, sizeof lengths, answer, sizeof answer,
-        count, sizeof count);
+        counts, sizeof counts);
     if (returned != VITHMORK_ACCEPTED) {
         vithmork_refusal refusal = vithmork_refused(returned);
         printf("refused: %u (%s), place %u\n", refusal.number, vithmork_word(refusal.number),
@@ -76,7 +76,6 @@ int main(void)
 {
     for (size_t p = 0; p < PAIRS; p++)
         vithmork_put_pair(pairs, p, pair[p][0], pair[p][1]);
-    vithmork_put(count, 0, 0);
     solve("as two opposite belts", put_opposite());
     solve("as one reversible belt", put_reversible());
     for (size_t e = 0; e < BELTS; e++)

@@ -19,10 +19,10 @@ extern "C" {
 /* The first number rises with every change of a call, in what it takes, writes
  * or returns: a host then has to be looked at anew. The second rises with what
  * is new beside that, the third with what is put right. */
-#define VITHMORK_VERSION_MAJOR 3
-#define VITHMORK_VERSION_MINOR 1
+#define VITHMORK_VERSION_MAJOR 4
+#define VITHMORK_VERSION_MINOR 0
 #define VITHMORK_VERSION_PATCH 0
-#define VITHMORK_VERSION "3.1.0"
+#define VITHMORK_VERSION "4.0.0"
 
 /* Bounds. What lies outside them is refused, so a host need not test first. */
 enum {
@@ -38,24 +38,27 @@ enum {
     VITHMORK_MAX_LIMIT = 1000,
     VITHMORK_MAX_BELTS_AND_LIMITS = 256,
     VITHMORK_MIN_PRECISION = 4,
-    VITHMORK_MAX_PRECISION = 16
+    VITHMORK_MAX_PRECISION = 16,
+    VITHMORK_MIN_OFFICE = 1,
+    VITHMORK_MAX_OFFICE = 8
 };
 
 /* Sizes in bytes. m and k are the whole items in the slices of belts and pairs, r
  * is m and as many more as stations have a limit (vithmork_limited counts them); an
- * incomplete last item is not read. The tables to write may be longer than m, k and
- * r ask: their later bytes keep their contents. */
+ * incomplete last item is not read. The tables to write may be longer than is asked:
+ * their later bytes keep their contents. */
 #define VITHMORK_NUMBER_BYTES ((size_t)8)
 #define VITHMORK_BELT_NUMBERS ((size_t)4)
 #define VITHMORK_PAIR_NUMBERS ((size_t)2)
 #define VITHMORK_ANSWER_NUMBERS ((size_t)7)
+#define VITHMORK_COUNTS_NUMBERS ((size_t)VITHMORK_MAX_OFFICE)
 #define VITHMORK_BELTS_BYTES(m) ((size_t)(m) * VITHMORK_BELT_NUMBERS * VITHMORK_NUMBER_BYTES)
 #define VITHMORK_PAIRS_BYTES(k) ((size_t)(k) * VITHMORK_PAIR_NUMBERS * VITHMORK_NUMBER_BYTES)
 #define VITHMORK_LIMITS_BYTES(n) ((size_t)(n) * VITHMORK_NUMBER_BYTES)
 #define VITHMORK_FLOW_BYTES(k, m) ((size_t)(k) * (size_t)(m) * VITHMORK_NUMBER_BYTES)
 #define VITHMORK_LENGTH_BYTES(r) ((size_t)(r) * VITHMORK_NUMBER_BYTES)
 #define VITHMORK_ANSWER_BYTES (VITHMORK_ANSWER_NUMBERS * VITHMORK_NUMBER_BYTES)
-#define VITHMORK_COUNT_BYTES VITHMORK_NUMBER_BYTES
+#define VITHMORK_COUNTS_BYTES (VITHMORK_COUNTS_NUMBERS * VITHMORK_NUMBER_BYTES)
 
 /* Places of the answer table, from 0. The scale is CAPACITY / LOAD: the total
  * carried is DRAWN times the scale, and what a pair sends over a belt is its
@@ -82,9 +85,10 @@ enum {
     VITHMORK_REFUSED_LOOSE_BELT = 6,  /* an end outside 1 to n, or both equal; place: the belt */
     VITHMORK_REFUSED_CAPACITY = 7,    /* out of bounds; place: the belt */
     VITHMORK_REFUSED_LOOSE_PAIR = 8,  /* as 6; place: the pair */
-    VITHMORK_REFUSED_FULL_COUNT = 11, /* running count above 2^63 */
+    VITHMORK_REFUSED_FULL_COUNT = 11, /* the office's running count above 2^63 */
     VITHMORK_REFUSED_LIMIT = 14,      /* above VITHMORK_MAX_LIMIT; place: the station */
-    VITHMORK_REFUSED_BELTS_AND_LIMITS = 15 /* more than 256 of them together */
+    VITHMORK_REFUSED_BELTS_AND_LIMITS = 15, /* more than 256 of them together */
+    VITHMORK_REFUSED_OFFICE = 16      /* office out of bounds */
 };
 
 /* Solves one floor.
@@ -92,6 +96,7 @@ enum {
  *   n       stations, numbered from 1
  *   q       precision: the total is at least 1 - 7/(4q) of the bound, 0.56 of it at
  *           q = 4, 0.78 at 8 and 0.89 at 16. A higher q takes longer (below)
+ *   office  which of the eight offices, numbered from 1, pays for the run
  *   belts   m items: tail, head, capacity, mark. The mark is 0, or anything else
  *           if the belt is reversible: then routes take it either way, and one
  *           capacity holds what goes both ways together
@@ -108,9 +113,11 @@ enum {
  *   lengths written: r lengths that give the bound, those of the belts and then
  *           those of the limited stations in order
  *   answer  written: seven numbers (above)
- *   count   read and written: the running count, raised by the choices made. It
- *           is the host's own, for as many calls as it likes, and must be set
- *           before the first of them: to 0, or where the host likes up to 2^63
+ *   counts  read and written: a running count for each office, office 1's first.
+ *           That of this office is raised by the choices made; the others are not
+ *           looked at and keep their contents. The table is the host's own, for as
+ *           many calls as it likes, and must be set before the first of them: each
+ *           count to 0, or where the host likes up to 2^63
  *
  * Returns 0, or for a refusal number * 1000 + place; a refusal changes no byte.
  * An unjoined floor is no refusal: its answer is 0, 1, 1, 0, 1, 0, 0.
@@ -121,22 +128,24 @@ enum {
  * VITHMORK_ABSENT is one for that, since data() of an empty C++ vector may be
  * null.
  *
- * Threads may call at once if no two lend the same slice to write. That goes
- * for the running count too: two threads with one count lose part of it. They
- * may share belts, pairs and limits.
+ * Threads may call at once if no two lend the same slice to write. That goes for
+ * the counts too, and an office for each thread is no remedy: the table is one
+ * slice, and the proof takes each slice that is written to be the call's own while
+ * it runs. So each thread lends a table of counts of its own, and the host adds
+ * them up. Belts, pairs and limits may be shared.
  *
  * A call cannot be interrupted; it always ends. Of eleven floors of 64 stations,
  * 256 belts and 32 pairs the slowest took 37 ms at q = 4 and 0.6 s at q = 16, on
  * one core of an AMD EPYC, and twice that with every belt reversible
  * (docs/SPEED.md of the sources has them all). */
-uint64_t vithmork_solve(uint64_t n, uint64_t q,
+uint64_t vithmork_solve(uint64_t n, uint64_t q, uint64_t office,
                         const uint8_t *belts, size_t belts_len,
                         const uint8_t *pairs, size_t pairs_len,
                         const uint8_t *limits, size_t limits_len,
                         uint8_t *flow, size_t flow_len,
                         uint8_t *lengths, size_t lengths_len,
                         uint8_t *answer, size_t answer_len,
-                        uint8_t *count, size_t count_len);
+                        uint8_t *counts, size_t counts_len);
 
 /* The pointer to lend with a length of 0: not null, and never read or written. */
 #define VITHMORK_ABSENT ((uint8_t *)"")
@@ -171,6 +180,7 @@ static inline const char *vithmork_word(unsigned number)
     case VITHMORK_REFUSED_FULL_COUNT: return "full count";
     case VITHMORK_REFUSED_LIMIT: return "limit";
     case VITHMORK_REFUSED_BELTS_AND_LIMITS: return "belts and limits";
+    case VITHMORK_REFUSED_OFFICE: return "office";
     default: return "unknown";
     }
 }
@@ -250,6 +260,17 @@ static inline size_t vithmork_limited(const uint8_t *limits, size_t limits_len, 
         if (vithmork_get(limits, i) != 0)
             limited++;
     return limited;
+}
+
+/* The running count of an office, which is numbered from 1: read, and set. */
+static inline uint64_t vithmork_count(const uint8_t *counts, size_t office)
+{
+    return vithmork_get(counts, office - 1);
+}
+
+static inline void vithmork_put_count(uint8_t *counts, size_t office, uint64_t number)
+{
+    vithmork_put(counts, office - 1, number);
 }
 
 /* What pair p, from 0, of a floor of m belts carries by itself: what leaves its

@@ -1,11 +1,12 @@
 /* What the header adds to the call: versions, absent slices, marks, signed
- * amounts, limits, a station's use and a pair's own total. Compiled as C99 and as C++17; exits with 1 if something is otherwise. */
+ * amounts, limits, counts, a station's use and a pair's own total. Compiled as C99
+ * and as C++17; exits with 1 if something is otherwise. */
 #include "vithmork.h"
 
 #include <stdio.h>
 #include <string.h>
 
-enum { STATIONS = 4, BELTS = 6, LIMITED = 2, PAIRS = 3, PRECISION = 16 };
+enum { STATIONS = 4, BELTS = 6, LIMITED = 2, PAIRS = 3, PRECISION = 16, OFFICE = 6 };
 
 static uint8_t belts[VITHMORK_BELTS_BYTES(BELTS)];
 static uint8_t pairs[VITHMORK_PAIRS_BYTES(PAIRS)];
@@ -13,7 +14,7 @@ static uint8_t flow[VITHMORK_FLOW_BYTES(PAIRS, BELTS)];
 static uint8_t limits[VITHMORK_LIMITS_BYTES(STATIONS)];
 static uint8_t lengths[VITHMORK_LENGTH_BYTES(BELTS + LIMITED)];
 static uint8_t answer[VITHMORK_ANSWER_BYTES];
-static uint8_t count[VITHMORK_COUNT_BYTES];
+static uint8_t counts[VITHMORK_COUNTS_BYTES];
 
 static int failed;
 
@@ -47,7 +48,6 @@ static void fill(void)
     vithmork_put_pair(pairs, 2, 3, 1);
     vithmork_put_limit(limits, 2, 450);
     vithmork_put_limit(limits, 3, 700);
-    vithmork_put(count, 0, 0);
 }
 
 /* A number of the flow table, the amount that it stands for, and its size. */
@@ -81,6 +81,22 @@ static void limited(void)
     expect("limits of four", vithmork_limited(limits, sizeof limits, STATIONS), LIMITED);
     expect("limits of two", vithmork_limited(limits, sizeof limits, 2), 1);
     expect("limits of a shorter slice", vithmork_limited(limits, VITHMORK_LIMITS_BYTES(3) - 1, STATIONS), 1);
+}
+
+/* A count for each of offices 1 to 8, and no byte beside. All but one are left full. */
+static void counted(void)
+{
+    expect("the offices", VITHMORK_MAX_OFFICE - VITHMORK_MIN_OFFICE + 1, VITHMORK_COUNTS_NUMBERS);
+    expect("the bytes of their counts", sizeof counts, 64);
+    for (size_t office = VITHMORK_MIN_OFFICE; office <= VITHMORK_MAX_OFFICE; office++)
+        vithmork_put_count(counts, office, UINT64_MAX - office);
+    for (size_t office = VITHMORK_MIN_OFFICE; office <= VITHMORK_MAX_OFFICE; office++) {
+        expect("a count as set", vithmork_count(counts, office), UINT64_MAX - office);
+        expect("its place", vithmork_get(counts, office - 1), UINT64_MAX - office);
+    }
+    vithmork_put_count(counts, OFFICE, 7);
+    expect("the count before", vithmork_count(counts, OFFICE - 1), UINT64_MAX - (OFFICE - 1));
+    expect("the count after", vithmork_count(counts, OFFICE + 1), UINT64_MAX - (OFFICE + 1));
 }
 
 /* Scaled by 3 over 4, with its sign. */
@@ -126,15 +142,17 @@ static void within_limit(uint64_t station)
 /* Of the library's own plan the pairs' totals make the drawn total. */
 static void of_a_plan(void)
 {
-    uint64_t sum = 0;
-    expect("the call", vithmork_solve(STATIONS, PRECISION, belts, sizeof belts, pairs,
+    uint64_t sum = 0, before = vithmork_count(counts, OFFICE);
+    expect("the call", vithmork_solve(STATIONS, PRECISION, OFFICE, belts, sizeof belts, pairs,
                                       sizeof pairs, limits, sizeof limits, flow, sizeof flow,
-                                      lengths, sizeof lengths, answer, sizeof answer, count,
-                                      sizeof count),
+                                      lengths, sizeof lengths, answer, sizeof answer, counts,
+                                      sizeof counts),
            VITHMORK_ACCEPTED);
     for (size_t p = 0; p < PAIRS; p++)
         sum += vithmork_pair_total(belts, BELTS, pairs, p, flow);
     expect("the sum over pairs", sum, vithmork_get(answer, VITHMORK_DRAWN));
+    expect("the office's count", vithmork_count(counts, OFFICE),
+           before + vithmork_get(answer, VITHMORK_CHOICES));
     for (uint64_t station = 1; station <= STATIONS; station++)
         within_limit(station);
 }
@@ -142,10 +160,10 @@ static void of_a_plan(void)
 static void absent(void)
 {
     uint8_t *none = VITHMORK_ABSENT;
-    uint64_t of_belts = vithmork_solve(STATIONS, PRECISION, none, 0, pairs, sizeof pairs, none, 0,
-                                       flow, sizeof flow, lengths, sizeof lengths, answer,
-                                       sizeof answer, count, sizeof count);
-    uint64_t of_tables = vithmork_solve(STATIONS, PRECISION, belts, sizeof belts, pairs,
+    uint64_t of_belts = vithmork_solve(STATIONS, PRECISION, OFFICE, none, 0, pairs, sizeof pairs,
+                                       none, 0, flow, sizeof flow, lengths, sizeof lengths,
+                                       answer, sizeof answer, counts, sizeof counts);
+    uint64_t of_tables = vithmork_solve(STATIONS, PRECISION, OFFICE, belts, sizeof belts, pairs,
                                         sizeof pairs, none, 0, none, 0, none, 0, none, 0, none,
                                         0);
     expect("an absent slice's pointer", none != NULL, 1);
@@ -160,6 +178,7 @@ int main(void)
     signs();
     marks();
     limited();
+    counted();
     scaled();
     by_hand();
     of_a_plan();

@@ -1,23 +1,28 @@
 /* Every refusal that the call knows, as a C program meets it: number, place and
- * word, and no byte changed. Exits with 1 at the first that is otherwise. */
+ * word, and no byte changed; and of the counts, what an accepted call changes. Exits
+ * with 1 if one is otherwise. */
 #include "vithmork.h"
 
 #include <stdio.h>
 #include <string.h>
 
-enum { STATIONS = 3, BELTS = 2, LIMITED = 1, PAIRS = 2, PRECISION = 4 };
+enum { STATIONS = 3, BELTS = 2, LIMITED = 1, PAIRS = 2, PRECISION = 4, OFFICE = 3 };
 
-/* All that is lent, sound at first: each case spoils one part. */
+/* The greatest count that an office may run with. */
+static const uint64_t most = (uint64_t)1 << 63;
+
+/* All that is lent, sound at first: each case spoils one part. The counts have room for
+ * an office 9, whose count nothing may read or write. */
 typedef struct {
-    uint64_t n, q;
-    size_t belts_len, pairs_len, limits_len, flow_len, lengths_len, answer_len, count_len;
+    uint64_t n, q, office;
+    size_t belts_len, pairs_len, limits_len, flow_len, lengths_len, answer_len, counts_len;
     uint8_t belts[VITHMORK_BELTS_BYTES(VITHMORK_MAX_BELTS + 1)];
     uint8_t pairs[VITHMORK_PAIRS_BYTES(VITHMORK_MAX_PAIRS + 1)];
     uint8_t limits[VITHMORK_LIMITS_BYTES(STATIONS)];
     uint8_t flow[VITHMORK_FLOW_BYTES(PAIRS, BELTS)];
     uint8_t lengths[VITHMORK_LENGTH_BYTES(BELTS + LIMITED)];
     uint8_t answer[VITHMORK_ANSWER_BYTES];
-    uint8_t count[VITHMORK_COUNT_BYTES];
+    uint8_t counts[VITHMORK_COUNTS_BYTES + VITHMORK_NUMBER_BYTES];
 } lent;
 
 static lent sound(void)
@@ -26,13 +31,14 @@ static lent sound(void)
     memset(&l, 9, sizeof l);
     l.n = STATIONS;
     l.q = PRECISION;
+    l.office = OFFICE;
     l.belts_len = VITHMORK_BELTS_BYTES(BELTS);
     l.pairs_len = VITHMORK_PAIRS_BYTES(PAIRS);
     l.limits_len = sizeof l.limits;
     l.flow_len = sizeof l.flow;
     l.lengths_len = sizeof l.lengths;
     l.answer_len = sizeof l.answer;
-    l.count_len = sizeof l.count;
+    l.counts_len = VITHMORK_COUNTS_BYTES;
     vithmork_put_belt(l.belts, 0, 1, 2, 600);
     vithmork_put_belt(l.belts, 1, 2, 3, 400);
     vithmork_put_pair(l.pairs, 0, 1, 3);
@@ -40,15 +46,15 @@ static lent sound(void)
     vithmork_put_limit(l.limits, 1, 0);
     vithmork_put_limit(l.limits, 2, 500);
     vithmork_put_limit(l.limits, 3, 0);
-    vithmork_put(l.count, 0, 0);
+    vithmork_put_count(l.counts, OFFICE, 0);
     return l;
 }
 
 static uint64_t solve(lent *l)
 {
-    return vithmork_solve(l->n, l->q, l->belts, l->belts_len, l->pairs, l->pairs_len,
+    return vithmork_solve(l->n, l->q, l->office, l->belts, l->belts_len, l->pairs, l->pairs_len,
                           l->limits, l->limits_len, l->flow, l->flow_len, l->lengths,
-                          l->lengths_len, l->answer, l->answer_len, l->count, l->count_len);
+                          l->lengths_len, l->answer, l->answer_len, l->counts, l->counts_len);
 }
 
 static int failed;
@@ -65,11 +71,71 @@ static void expect(lent l, unsigned number, unsigned place, const char *word)
     }
 }
 
+/* Of all counts only the office's own is another, by the choices. */
+static void expect_raised(lent l)
+{
+    lent before = l;
+    uint64_t returned = solve(&l), choices = vithmork_get(l.answer, VITHMORK_CHOICES);
+    uint64_t count = vithmork_count(before.counts, before.office);
+    vithmork_put_count(before.counts, before.office, count + choices);
+    if (returned != VITHMORK_ACCEPTED || choices == 0 ||
+        memcmp(l.counts, before.counts, sizeof l.counts) != 0) {
+        printf("refusals: a call by office %u is refused or raises other counts\n",
+               (unsigned)before.office);
+        failed = 1;
+    }
+}
+
+/* Every count is this, and what stands where an office 9 would have its own. */
+static lent with_counts(uint64_t count)
+{
+    lent l = sound();
+    for (size_t office = VITHMORK_MIN_OFFICE; office <= VITHMORK_MAX_OFFICE + 1; office++)
+        vithmork_put_count(l.counts, office, count);
+    return l;
+}
+
+/* Each office by itself: its own count is looked at and raised, and no other, nor what
+ * follows the eighth in a longer table. */
+static void each_office(void)
+{
+    for (size_t office = VITHMORK_MIN_OFFICE; office <= VITHMORK_MAX_OFFICE; office++) {
+        lent l = with_counts(most + 1);
+        l.office = office;
+        expect(l, VITHMORK_REFUSED_FULL_COUNT, 0, "full count");
+        vithmork_put_count(l.counts, office, most);
+        expect_raised(l);
+        l = with_counts(0);
+        l.office = office;
+        l.counts_len = sizeof l.counts;
+        expect_raised(l);
+        vithmork_put_count(l.counts, office, most + 1);
+        expect(l, VITHMORK_REFUSED_FULL_COUNT, 0, "full count");
+    }
+}
+
+/* A number that no office has: refused after a short table, before full counts and
+ * loose belts. */
+static void no_office(uint64_t office)
+{
+    lent l = sound();
+    l.office = office;
+    expect(l, VITHMORK_REFUSED_OFFICE, 0, "office");
+    l.counts_len = sizeof l.counts;
+    expect(l, VITHMORK_REFUSED_OFFICE, 0, "office");
+    l.counts_len = VITHMORK_COUNTS_BYTES - 1;
+    expect(l, VITHMORK_REFUSED_SHORT_TABLE, 0, "short table");
+    l = with_counts(most + 1);
+    l.office = office;
+    l.counts_len = sizeof l.counts;
+    vithmork_put_belt(l.belts, 0, 1, 1, 600);
+    expect(l, VITHMORK_REFUSED_OFFICE, 0, "office");
+}
+
 int main(void)
 {
     lent l = sound();
-    if (solve(&l) != VITHMORK_ACCEPTED || strcmp(vithmork_word(VITHMORK_ACCEPTED), "accepted") != 0 ||
-        vithmork_get(l.count, 0) != vithmork_get(l.answer, VITHMORK_CHOICES))
+    if (solve(&l) != VITHMORK_ACCEPTED || strcmp(vithmork_word(VITHMORK_ACCEPTED), "accepted") != 0)
         failed = 1;
     l = sound();
     l.n = VITHMORK_MAX_STATIONS + 1;
@@ -99,7 +165,7 @@ int main(void)
     l.answer_len--;
     expect(l, VITHMORK_REFUSED_SHORT_TABLE, 0, "short table");
     l = sound();
-    l.count_len--;
+    l.counts_len--;
     expect(l, VITHMORK_REFUSED_SHORT_TABLE, 0, "short table");
     l = sound();
     vithmork_put_belt(l.belts, 1, 3, 3, VITHMORK_MAX_CAPACITY + 1);
@@ -114,7 +180,13 @@ int main(void)
     vithmork_put_pair(l.pairs, 0, 1, 4);
     expect(l, VITHMORK_REFUSED_LOOSE_PAIR, 1, "loose pair");
     l = sound();
-    vithmork_put(l.count, 0, ((uint64_t)1 << 63) + 1);
+    vithmork_put_count(l.counts, OFFICE, most + 1);
+    vithmork_put_belt(l.belts, 0, 1, 1, 600);
     expect(l, VITHMORK_REFUSED_FULL_COUNT, 0, "full count");
+    each_office();
+    no_office(VITHMORK_MIN_OFFICE - 1);
+    no_office(VITHMORK_MAX_OFFICE + 1);
+    no_office(((uint64_t)1 << 32) + OFFICE);
+    no_office(UINT64_MAX);
     return failed;
 }

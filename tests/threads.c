@@ -1,6 +1,7 @@
-/* Calls from several threads at once, each with tables and a running count of
- * its own, beside the same calls one after the other: every byte written must be
- * the same. Belts, pairs and limits are lent to all threads. Exits with 1 if not. */
+/* Calls from several threads at once, each with tables of its own, that of the
+ * counts among them, beside the same calls one after the other: every byte written
+ * must be the same. Belts, pairs and limits are lent to all threads. Exits with 1 if
+ * not. */
 #define _POSIX_C_SOURCE 200112L
 #include "vithmork.h"
 
@@ -14,7 +15,7 @@ enum { THREADS = 8, FLOORS = 16, OFTEN = 300 };
 enum { STATIONS = 24, BELTS = 96, PAIRS = 8, SMALL_STATIONS = 4, SMALL_BELTS = 6, SMALL_PAIRS = 2 };
 
 typedef struct {
-    uint64_t n, q;
+    uint64_t n, q, office;
     size_t m, k, times;
     uint8_t belts[VITHMORK_BELTS_BYTES(BELTS)];
     uint8_t pairs[VITHMORK_PAIRS_BYTES(PAIRS)];
@@ -27,7 +28,7 @@ typedef struct {
     uint8_t flow[VITHMORK_FLOW_BYTES(PAIRS, BELTS)];
     uint8_t lengths[VITHMORK_LENGTH_BYTES(BELTS + STATIONS)];
     uint8_t answer[VITHMORK_ANSWER_BYTES];
-    uint8_t count[VITHMORK_COUNT_BYTES];
+    uint8_t counts[VITHMORK_COUNTS_BYTES];
 } outcome;
 
 typedef struct {
@@ -78,13 +79,13 @@ static void draw_floor(floor_lent *f, uint64_t n, size_t m, size_t k, size_t tim
 static void solve(const floor_lent *f, outcome *o)
 {
     memset(o, 9, sizeof *o);
-    vithmork_put(o->count, 0, f->n);
+    vithmork_put_count(o->counts, f->office, f->n);
     vithmork_put(o->returned, 0,
-                 vithmork_solve(f->n, f->q, f->belts, VITHMORK_BELTS_BYTES(f->m), f->pairs,
-                                VITHMORK_PAIRS_BYTES(f->k), f->limits,
+                 vithmork_solve(f->n, f->q, f->office, f->belts, VITHMORK_BELTS_BYTES(f->m),
+                                f->pairs, VITHMORK_PAIRS_BYTES(f->k), f->limits,
                                 VITHMORK_LIMITS_BYTES(f->n), o->flow, sizeof o->flow,
                                 o->lengths, sizeof o->lengths, o->answer, sizeof o->answer,
-                                o->count, sizeof o->count));
+                                o->counts, sizeof o->counts));
 }
 
 /* Draws the floors and solves each once; returns how many have a plan. The last
@@ -97,6 +98,7 @@ static unsigned alone(void)
             draw_floor(&floors[f], STATIONS, BELTS, PAIRS, 1);
         else
             draw_floor(&floors[f], SMALL_STATIONS, SMALL_BELTS, SMALL_PAIRS, OFTEN);
+        floors[f].office = f % VITHMORK_MAX_OFFICE + 1;
     }
     vithmork_put_belt(floors[FLOORS - 1].belts, 1, 2, 2, 1);
     for (size_t f = 0; f < FLOORS; f++) {

@@ -1,5 +1,5 @@
-//! The host's call by document 01 and requests C-12 and C-17: byte slices in, what is
-//! returned and every byte of the slices out.
+//! The host's call by document 01 and requests C-12, C-17 and C-20: byte slices in, what
+//! is returned and every byte of the slices out.
 
 use crate::network::{Arc, Commodity, Network, Solution};
 
@@ -9,6 +9,13 @@ pub const PAIR: usize = 2 * NUMBER;
 pub const ANSWER: usize = 7 * NUMBER;
 pub const FULL: u64 = 1 << 63;
 
+/// Offices count from 1, and each has its number in the table of counts.
+pub const OFFICES: usize = 8;
+pub const COUNTS: usize = OFFICES * NUMBER;
+
+/// Neither the first nor the last, so that a count at another place would show.
+const OFFICE: u64 = 3;
+
 /// Of belts and limits together.
 pub const MOST: usize = 256;
 
@@ -17,13 +24,14 @@ pub const MOST: usize = 256;
 pub struct Call {
     pub n: u64,
     pub q: u64,
+    pub office: u64,
     pub belts: Vec<u8>,
     pub pairs: Vec<u8>,
     pub limits: Vec<u8>,
     pub flow: Vec<u8>,
     pub length: Vec<u8>,
     pub answer: Vec<u8>,
-    pub count: Vec<u8>,
+    pub counts: Vec<u8>,
 }
 
 /// A number of document 01's table, with its place.
@@ -60,19 +68,20 @@ fn put_all(slice: &mut [u8], numbers: &[u64]) {
 }
 
 impl Call {
-    /// Tables of exactly the needed size, all zero, and a running count of 0.
+    /// Tables of exactly the needed size, all zero, the counts too.
     pub fn new(net: &Network, q: u64) -> Call {
         let (m, k) = (net.arcs.len(), net.commodities.len());
         let mut call = Call {
             n: net.nodes,
             q,
+            office: OFFICE,
             belts: vec![0; m * BELT],
             pairs: vec![0; k * PAIR],
             limits: vec![0; net.limits.len() * NUMBER],
             flow: vec![0; k * m * NUMBER],
             length: vec![0; net.capacities().len() * NUMBER],
             answer: vec![0; ANSWER],
-            count: vec![0; NUMBER],
+            counts: vec![0; COUNTS],
         };
         for (e, arc) in net.arcs.iter().enumerate() {
             let item = [arc.tail, arc.head, arc.capacity, arc.mark];
@@ -109,18 +118,27 @@ impl Call {
         }
     }
 
-    /// Amounts by two's complement.
+    /// Amounts by two's complement. Of the counts the office's own alone is raised.
     pub fn written(&self, solution: &Solution) -> Call {
         let mut after = self.clone();
         let amounts: Vec<u64> = solution.flow.iter().map(|amount| *amount as u64).collect();
         put_all(&mut after.flow, &amounts);
         put_all(&mut after.length, &solution.lengths);
         put_all(&mut after.answer, &solution.answer);
-        put(&mut after.count, 0, get(&self.count, 0) + solution.answer[5]);
+        put(&mut after.counts, self.own(), self.own_count() + solution.answer[5]);
         after
     }
 
-    /// Document 01, "Turned down", in its order, with request C-17's two.
+    /// Where the office's count stands, from 0; for an office that there is.
+    pub fn own(&self) -> usize {
+        self.office as usize - 1
+    }
+
+    fn own_count(&self) -> u64 {
+        get(&self.counts, self.own())
+    }
+
+    /// Document 01, "Turned down", in its order, with request C-17's two and C-20's one.
     pub fn refusal(&self) -> Option<Refusal> {
         let net = self.network();
         whole_call(1, !(2..=64).contains(&self.n))
@@ -129,7 +147,8 @@ impl Call {
             .or_else(|| whole_call(3, !(1..=32).contains(&net.commodities.len())))
             .or_else(|| whole_call(4, !(4..=16).contains(&self.q)))
             .or_else(|| whole_call(5, self.short(&net)))
-            .or_else(|| whole_call(11, get(&self.count, 0) > FULL))
+            .or_else(|| whole_call(16, !(1..=OFFICES as u64).contains(&self.office)))
+            .or_else(|| whole_call(11, self.own_count() > FULL))
             .or_else(|| first_faulty_belt(&net))
             .or_else(|| first_great_limit(&net))
             .or_else(|| first_loose_pair(&net))
@@ -140,7 +159,7 @@ impl Call {
         self.flow.len() / NUMBER < k * m
             || self.length.len() / NUMBER < net.capacities().len()
             || self.answer.len() / NUMBER < 7
-            || self.count.len() / NUMBER < 1
+            || self.counts.len() / NUMBER < OFFICES
     }
 }
 

@@ -17,6 +17,7 @@ mod literal;
 mod marked;
 mod method;
 mod network;
+mod offices;
 mod outside;
 mod programs;
 mod random;
@@ -95,6 +96,9 @@ fn main() -> ExitCode {
     timed("damaged calls, stated", &mut tally, compare_damaged);
     timed("damaged calls, random", &mut tally, |tally| {
         compare_random_damage(tally, amounts.damaged, &mut Random::new(seed))
+    });
+    timed("offices in turn", &mut tally, |tally| {
+        offices::compare_turns(tally, &mut Random::new(seed + 16))
     });
     timed("load marks", &mut tally, |tally| compare_levels(tally, amounts.levels));
     timed("floors with ties", &mut tally, |tally| {

@@ -2,13 +2,13 @@
 //! stated here from the order of document 01's rows, apart from the second solver's own
 //! checks.
 
-use crate::call::{put, Call, Refusal, BELT, FULL, NUMBER, PAIR};
-use crate::edges;
+use crate::call::{put, Call, Refusal, BELT, FULL, NUMBER, OFFICES, PAIR};
 use crate::floors::{lent, small};
 use crate::limits::{limited, STATIONS};
 use crate::network::network;
 use crate::random::Random;
 use crate::reversible::{marked, SHARES};
+use crate::{edges, offices};
 
 pub struct Case {
     pub name: String,
@@ -35,13 +35,16 @@ const BIG: [u64; 4] = [(1 << 16) + 5, (1 << 32) + 5, u64::MAX - 1, u64::MAX];
 
 /// A sound floor of 5 stations that the faults are put into; belts 1 and 4 are
 /// reversible, and the last station has no number among the limits. The length table
-/// has room for limits everywhere.
+/// has room for limits everywhere. The office is neither the first nor the last, and its
+/// count as great as may be.
 pub fn sound() -> Call {
     let belts = [(1, 2, 3), (2, 3, 2), (3, 5, 4), (1, 4, 2), (4, 5, 1), (2, 5, 1000)];
     let net = network(NODES as u64, &belts, &[(1, 5), (2, 5), (1, 3)]).reversible(&[1, 4]);
     let mut call = lent(&net.limited(&LIMITS), 7, &mut Random::new(5));
     set_limits(&mut call, &LIMITS);
     call.length.resize((BELTS + NODES) * NUMBER, 0x3c);
+    call.office = 6;
+    set_own(&mut call, FULL);
     call
 }
 
@@ -49,10 +52,10 @@ pub fn set_limits(call: &mut Call, limits: &[u64]) {
     call.limits = limits.iter().flat_map(|limit| limit.to_le_bytes()).collect();
 }
 
-/// The place in document 01's order, with request C-17's two: of two faults the lower
-/// one is returned.
+/// The place in document 01's order, with request C-17's two and C-20's one: of two
+/// faults the lower one is returned.
 fn rank(refusal: Refusal) -> (usize, u64, u64) {
-    let rows = [1, 2, 15, 3, 4, 5, 11];
+    let rows = [1, 2, 15, 3, 4, 5, 16, 11];
     let row = rows.iter().position(|number| *number == refusal.number);
     match (row, refusal.number) {
         (Some(row), _) => (row, 0, 0),
@@ -65,6 +68,7 @@ fn rank(refusal: Refusal) -> (usize, u64, u64) {
 pub fn cases() -> Vec<Case> {
     let faults = faults();
     let mut cases = edges::cases();
+    cases.extend(offices::cases());
     for (i, a) in faults.iter().enumerate() {
         cases.push(case(&[a]));
         cases.extend(faults[i + 1..].iter().map(|b| case(&[a, b])));
@@ -93,11 +97,13 @@ fn faults() -> Vec<Fault> {
     faults.extend([(256, &[0, 0, 0, 0, 1001][..]), (255, &[u64::MAX; 2])].map(crowded));
     faults.extend([0, 1, PAIR - 1, 33 * PAIR, 34 * PAIR - 1, 999 * PAIR].map(pairs));
     faults.extend(with_big(&[0, 3, 17, 256 + 5]).map(precision));
-    for (at, needed) in [PAIRS * BELTS, RESOURCES, 7, 1].into_iter().enumerate() {
+    for (at, needed) in [PAIRS * BELTS, RESOURCES, 7, OFFICES].into_iter().enumerate() {
         let whole = needed * NUMBER;
         faults.extend([0, whole - NUMBER, whole - 1].map(|size| short(at, size)));
     }
+    faults.extend(with_big(&[0, 9, 256 + 5]).map(office));
     faults.extend([FULL + 1, u64::MAX].map(full_count));
+    faults.extend([FULL + 1, u64::MAX].map(full_counts));
     for place in [1, 3, BELTS] {
         faults.extend(loose_ends().map(|ends| loose_belt(place, ends)));
         faults.extend(with_big(&[0, 1001]).map(|number| capacity(place, number)));
@@ -167,11 +173,11 @@ fn pairs(size: usize) -> Fault {
 }
 
 pub fn tables(call: &mut Call) -> [&mut Vec<u8>; 4] {
-    [&mut call.flow, &mut call.length, &mut call.answer, &mut call.count]
+    [&mut call.flow, &mut call.length, &mut call.answer, &mut call.counts]
 }
 
 fn short(at: usize, size: usize) -> Fault {
-    let name = ["flow", "length", "answer", "count"][at];
+    let name = ["flow", "length", "answer", "counts"][at];
     let apply = move |call: &mut Call| tables(call)[at].truncate(size);
     fault(format!("{name} of {size} bytes"), 5, 0, apply)
 }
@@ -188,8 +194,31 @@ pub fn set_belt(call: &mut Call, place: usize, which: usize, number: u64) {
     set(&mut call.belts, (place - 1) * BELT / NUMBER + which, number);
 }
 
+fn office(number: u64) -> Fault {
+    fault(format!("office {number}"), 16, 0, move |call| call.office = number)
+}
+
+/// Another fault may have left the call without an office, or cut its count away.
+fn set_own(call: &mut Call, count: u64) {
+    if (1..=OFFICES as u64).contains(&call.office) {
+        let own = call.own();
+        set(&mut call.counts, own, count);
+    }
+}
+
 fn full_count(count: u64) -> Fault {
-    fault(format!("count {count}"), 11, 0, move |call| set(&mut call.count, 0, count))
+    fault(format!("the office's count {count}"), 11, 0, move |call| set_own(call, count))
+}
+
+/// Whatever office the call has.
+fn full_counts(count: u64) -> Fault {
+    let apply = move |call: &mut Call| set_counts(call, &[count; OFFICES]);
+    fault(format!("every count {count}"), 11, 0, apply)
+}
+
+/// What the table has after them stays.
+pub fn set_counts(call: &mut Call, counts: &[u64]) {
+    (0..).zip(counts).for_each(|(place, count)| set(&mut call.counts, place, *count));
 }
 
 fn loose_belt(place: usize, (tail, head): (u64, u64)) -> Fault {
@@ -229,16 +258,18 @@ pub fn at_random(random: &mut Random) -> Call {
 fn disturb(call: &mut Call, random: &mut Random) {
     let edges = [0, 1, 2, 3, 4, 8, 9, 16, 17, 64, 65, 1000, 1001, FULL, FULL + 1, u64::MAX];
     let number = random.pick(&edges);
-    match random.index(10) {
+    match random.index(12) {
         0 => call.n = number,
         1 => call.q = number,
-        2 => set(&mut call.count, 0, number),
-        3 => set_somewhere(&mut call.pairs, number, random),
-        4 => cut(&mut call.belts, random),
-        5 => cut(&mut call.pairs, random),
-        6 => cut(tables(call)[random.index(4)], random),
-        7 => cut(&mut call.limits, random),
-        8 => set_somewhere(&mut call.limits, number, random),
+        2 => call.office = number,
+        3 => set_own(call, number),
+        4 => set_somewhere(&mut call.counts, number, random),
+        5 => set_somewhere(&mut call.pairs, number, random),
+        6 => cut(&mut call.belts, random),
+        7 => cut(&mut call.pairs, random),
+        8 => cut(tables(call)[random.index(4)], random),
+        9 => cut(&mut call.limits, random),
+        10 => set_somewhere(&mut call.limits, number, random),
         _ => set_somewhere(&mut call.belts, number, random),
     }
 }

@@ -11,10 +11,17 @@ mod solver;
 use network::{network, Arc, Network, Solution};
 use std::process::ExitCode;
 
-/// An example's floor, and the precision at which it is solved.
+/// Request C-20: how many offices there are, and the most that the count of one may be
+/// when it runs.
+const OFFICES: usize = 8;
+const MOST: u64 = 1 << 63;
+
+/// An example's floor, the precision at which it is solved, and its text, for what it
+/// alone has.
 struct Example {
     net: Network,
     q: u64,
+    source: String,
 }
 
 fn main() -> ExitCode {
@@ -22,25 +29,26 @@ fn main() -> ExitCode {
     let print = match name.as_str() {
         "floor" => print_floor,
         "lift" => print_lift,
+        "offices" => print_offices,
         "one_by_one" => print_one_by_one,
         "reversible" => print_reversible,
         _ => {
-            eprintln!("expected: name an example, floor, lift, one_by_one or reversible");
+            eprintln!("expected: name an example, floor, lift, offices, one_by_one or reversible");
             return ExitCode::from(2);
         }
     };
     let file = std::fs::read_to_string(format!("examples/{name}.c"));
-    print(&example(&file.expect("the example can be read")));
+    print(&example(file.expect("the example can be read")));
     ExitCode::SUCCESS
 }
 
-fn example(source: &str) -> Example {
-    let [belts, pairs] = ["belt[BELTS]", "pair[PAIRS]"].map(|name| items(after(source, name)));
-    let [nodes, q] = ["STATIONS =", "PRECISION ="].map(|name| numbers(after(source, name))[0]);
+fn example(source: String) -> Example {
+    let [belts, pairs] = ["belt[BELTS]", "pair[PAIRS]"].map(|name| items(after(&source, name)));
+    let [nodes, q] = ["STATIONS =", "PRECISION ="].map(|name| constant(&source, name));
     let ends: Vec<_> = pairs.iter().map(|pair| (pair[0], pair[1])).collect();
     let arcs = belts.iter().map(|belt| arc(belt)).collect();
-    let limits = limits(nodes, source);
-    Example { net: Network { arcs, limits, ..network(nodes, &[], &ends) }, q }
+    let limits = limits(nodes, &source);
+    Example { net: Network { arcs, limits, ..network(nodes, &[], &ends) }, q, source }
 }
 
 /// Those of an example that has some, as station and limit.
@@ -61,6 +69,10 @@ fn after<'a>(source: &'a str, name: &str) -> &'a str {
     source.split_once(name).expect("the example has it").1
 }
 
+fn constant(source: &str, name: &str) -> u64 {
+    numbers(after(source, name))[0]
+}
+
 /// What a table is set to, each item in braces.
 fn items(text: &str) -> Vec<Vec<u64>> {
     let table = after(text, "=").split(';').next().unwrap_or_default();
@@ -73,7 +85,7 @@ fn numbers(text: &str) -> Vec<u64> {
     text.split(|c: char| !c.is_ascii_digit()).filter_map(|word| word.parse().ok()).collect()
 }
 
-fn print_floor(Example { net, q }: &Example) {
+fn print_floor(Example { net, q, .. }: &Example) {
     let solution = solver::solve(net, *q);
     let m = net.arcs.len();
     println!("total {:.3}", scaled(&solution, solution.answer[0]));
@@ -89,7 +101,7 @@ fn print_floor(Example { net, q }: &Example) {
     println!("choices {choices}, so far {choices}");
 }
 
-fn print_lift(Example { net, q }: &Example) {
+fn print_lift(Example { net, q, .. }: &Example) {
     let unlimited = Network { limits: Vec::new(), ..net.clone() };
     for (what, floor) in [("without the limit", &unlimited), ("with it", net)] {
         let solution = solver::solve(floor, *q);
@@ -113,7 +125,36 @@ fn through(net: &Network, row: &[i64], node: u64) -> u64 {
     into.max(out)
 }
 
-fn print_one_by_one(Example { net, q }: &Example) {
+fn print_offices(Example { net, q, source }: &Example) {
+    let mut counts = [0; OFFICES];
+    for run in items(after(source, "run[RUNS]")) {
+        print_run(net, run[1], run[0], &mut counts);
+    }
+    let each: String = counts.iter().map(|count| format!(" {count}")).collect();
+    println!("choices that offices 1 to {OFFICES} pay for:{each}");
+    let [full, other] = ["FULL =", "OTHER ="].map(|name| constant(source, name));
+    counts[full as usize - 1] = MOST + 1;
+    for office in [full, other, OFFICES as u64 + 1] {
+        print_run(net, *q, office, &mut counts);
+    }
+}
+
+/// One run, with the count of its office raised, or why it is refused.
+fn print_run(net: &Network, q: u64, office: u64, counts: &mut [u64]) {
+    print!("office {office} at q = {q}: ");
+    let own = counts.iter_mut().zip(1..).find(|(_, number)| *number == office);
+    let Some((count, _)) = own else { return println!("refused: 16 (office), place 0") };
+    if *count > MOST {
+        return println!("refused: 11 (full count), place 0");
+    }
+    let solution = solver::solve(net, q);
+    let (total, choices) = (scaled(&solution, solution.answer[0]), solution.answer[5]);
+    *count += choices;
+    print!("total {total:.3}, bound {:.3}, ", bound(&solution));
+    println!("choices {choices}, so far {count}");
+}
+
+fn print_one_by_one(Example { net, q, .. }: &Example) {
     let (mut sum, mut apart) = (0.0, vec![0.0; net.arcs.len()]);
     for pair in &net.commodities {
         let alone = Network { commodities: vec![*pair], ..net.clone() };
@@ -130,7 +171,7 @@ fn print_one_by_one(Example { net, q }: &Example) {
     println!("bound {:.3}", bound(&together));
 }
 
-fn print_reversible(Example { net, q }: &Example) {
+fn print_reversible(Example { net, q, .. }: &Example) {
     let opposite = solver::solve(&two_for_one(net), *q);
     print_total("as two opposite belts", &opposite);
     let solution = solver::solve(net, *q);

@@ -1,6 +1,6 @@
 //! Floors of many shapes, small and full-size, from a seed, and calls on them.
 
-use crate::call::{put, Call, BELT, FULL, NUMBER, PAIR};
+use crate::call::{put, Call, BELT, FULL, NUMBER, OFFICES, PAIR};
 use crate::network::{network, Arc, Commodity, Network};
 use crate::random::Random;
 use crate::shapes::{arcs_of, terminals, two_nodes, Ends, Shape, Size, SHAPES};
@@ -90,7 +90,8 @@ pub fn one_joining(m: u64, capacity: u64) -> Network {
 }
 
 /// The call on a floor, with tables that hold strange bytes and are longer than
-/// needed, incomplete last items, and any running count that passes.
+/// needed, incomplete last items, and a count of the office that passes. The other
+/// offices' are strange bytes, of which half would not pass.
 pub fn lent(net: &Network, q: u64, random: &mut Random) -> Call {
     let mut call = Call::new(net, q);
     for (slice, room) in [(&mut call.belts, BELT), (&mut call.pairs, PAIR)] {
@@ -98,13 +99,14 @@ pub fn lent(net: &Network, q: u64, random: &mut Random) -> Call {
         slice.extend(random.bytes(more));
     }
     lengthen(&mut call.limits, net.nodes, random);
-    let tables = [&mut call.flow, &mut call.length, &mut call.answer, &mut call.count];
+    let tables = [&mut call.flow, &mut call.length, &mut call.answer, &mut call.counts];
     for table in tables {
         let more = random.pick(&[0, 0, 1, 7, 8, 9, 40]);
         *table = random.bytes(table.len() + more);
     }
-    let count = random.pick(&[0, 1, 255, FULL - 1, FULL]);
-    put(&mut call.count, 0, count);
+    call.office = random.between(1, OFFICES as u64);
+    let (own, count) = (call.own(), random.pick(&[0, 1, 255, FULL - 1, FULL]));
+    put(&mut call.counts, own, count);
     call
 }
 

@@ -41,18 +41,19 @@ impl Guarded {
 /// What the library returns, with the slices as it leaves them, or the names of
 /// the slices outside which it wrote.
 pub fn call_library(call: &Call) -> Result<(u64, Call), String> {
-    let Call { n, q, belts, pairs, limits, flow, length, answer, count } = call;
-    let given = [belts, pairs, limits, flow, length, answer, count];
+    let Call { n, q, office, belts, pairs, limits, flow, length, answer, counts } = call;
+    let given = [belts, pairs, limits, flow, length, answer, counts];
     let mut lent = given.map(|slice| Guarded::around(slice));
-    let [belts, pairs, limits, flow, length, answer, count] = lent.each_mut().map(Guarded::slice);
-    let returned = solve(*n, *q, Lent { belts, pairs, limits, flow, length, answer, count });
-    let names = ["belts", "pairs", "limits", "flow", "length", "answer", "count"];
+    let [belts, pairs, limits, flow, length, answer, counts] = lent.each_mut().map(Guarded::slice);
+    let slices = Lent { belts, pairs, limits, flow, length, answer, counts };
+    let returned = solve(*n, *q, *office, slices);
+    let names = ["belts", "pairs", "limits", "flow", "length", "answer", "counts"];
     let spilled: Vec<&str> =
         lent.iter().zip(names).filter(|(g, _)| !g.whole()).map(|(_, name)| name).collect();
     if !spilled.is_empty() {
         return Err(format!("wrote outside {}", spilled.join(", ")));
     }
-    let [belts, pairs, limits, flow, length, answer, count] = lent.map(Guarded::contents);
-    let (n, q) = (*n, *q);
-    Ok((returned, Call { n, q, belts, pairs, limits, flow, length, answer, count }))
+    let [belts, pairs, limits, flow, length, answer, counts] = lent.map(Guarded::contents);
+    let (n, q, office) = (*n, *q, *office);
+    Ok((returned, Call { n, q, office, belts, pairs, limits, flow, length, answer, counts }))
 }

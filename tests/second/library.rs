@@ -5,6 +5,7 @@ extern "C" {
     fn vithmork_solve(
         n: u64,
         q: u64,
+        office: u64,
         belts: *const u8,
         belts_len: usize,
         pairs: *const u8,
@@ -17,8 +18,8 @@ extern "C" {
         length_len: usize,
         answer: *mut u8,
         answer_len: usize,
-        count: *mut u8,
-        count_len: usize,
+        counts: *mut u8,
+        counts_len: usize,
     ) -> u64;
 }
 
@@ -32,16 +33,17 @@ pub struct Lent<'a> {
     pub flow: &'a mut [u8],
     pub length: &'a mut [u8],
     pub answer: &'a mut [u8],
-    pub count: &'a mut [u8],
+    pub counts: &'a mut [u8],
 }
 
-pub fn solve(n: u64, q: u64, lent: Lent) -> u64 {
+pub fn solve(n: u64, q: u64, office: u64, lent: Lent) -> u64 {
     // SAFETY: the library asks of its caller only that each pointer and count be
     // a slice of its own, and borrowed slices are.
     unsafe {
         vithmork_solve(
             n,
             q,
+            office,
             lent.belts.as_mut_ptr().cast_const(),
             lent.belts.len(),
             lent.pairs.as_mut_ptr().cast_const(),
@@ -54,8 +56,8 @@ pub fn solve(n: u64, q: u64, lent: Lent) -> u64 {
             lent.length.len(),
             lent.answer.as_mut_ptr(),
             lent.answer.len(),
-            lent.count.as_mut_ptr(),
-            lent.count.len(),
+            lent.counts.as_mut_ptr(),
+            lent.counts.len(),
         )
     }
 }

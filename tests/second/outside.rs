@@ -1,9 +1,9 @@
 //! What must hold of any accepted call, read off the bytes that it leaves and not off
 //! a run of the method: document 01's flow and capacities with the signs of request
-//! C-12 and the limits of C-17, and the promises of total, bound and count, with that of
-//! C-24. Of the second solver it shares the load mark T alone.
+//! C-12 and the limits of C-17, and the promises of total, bound and counts, with those of
+//! C-20 and C-24. Of the second solver it shares the load mark T alone.
 
-use crate::call::{get, numbers, Call};
+use crate::call::{get, numbers, Call, NUMBER};
 use crate::method::threshold;
 use crate::network::{Arc, Commodity, Network};
 use crate::shares::{reaches, shares};
@@ -31,12 +31,24 @@ struct Plan {
 /// The name of the first thing that fails.
 pub fn check(before: &Call, after: &Call) -> Result<(), &'static str> {
     let plan = Plan::read(before, after);
-    let raised = get(&after.count, 0) - get(&before.count, 0);
-    holds(raised == plan.answer[5], "the running count is not raised by the iterations")?;
+    check_counts(before, after, plan.answer[5])?;
     match plan.answer[5] {
         0 => plan.check_unjoined(),
         _ => plan.check_joined(),
     }
+}
+
+/// The office's own count is raised, and every other byte of the table is as it was.
+fn check_counts(before: &Call, after: &Call, iterations: u64) -> Result<(), &'static str> {
+    holds((1..=8).contains(&before.office), "accepted for no office")?;
+    let parted = |table: &[u8]| {
+        let (upto, past) = table.split_at(before.office as usize * NUMBER);
+        let (others, own) = upto.split_at(upto.len() - NUMBER);
+        (get(own, 0), [others, past].concat())
+    };
+    let ((was, others), (is, others_after)) = (parted(&before.counts), parted(&after.counts));
+    holds(is == was + iterations, "the office's count is not raised by the iterations")?;
+    holds(others_after == others, "another byte of the counts is changed")
 }
 
 fn holds(fact: bool, otherwise: &'static str) -> Result<(), &'static str> {

@@ -50,6 +50,7 @@ requote README.md '    ' "$old/two_docks.csv" examples/two_docks.csv
 requote README.md '    ' "$old/floor.expected" tests/floor.expected
 requote README.md '    ' "$old/reversible.expected" tests/reversible.expected
 requote README.md '    ' "$old/lift.expected" tests/lift.expected
+requote README.md '    ' "$old/offices.expected" tests/offices.expected
 requote docs/COURSE.md '' "$old/one_by_one.expected" tests/one_by_one.expected
 requote docs/GUARANTEE.md '' "$old/slips" "$old/slips.new"
 echo "remake: all made again, with $times changes"

@@ -1,7 +1,7 @@
 //! The comparison itself: the library's answer to a call beside the second
 //! solver's, and the count of what was seen.
 
-use crate::call::{get, Call};
+use crate::call::{get, numbers, Call};
 use crate::fast;
 use crate::guarded;
 use crate::network::{Arc, Commodity, Network, Solution};
@@ -112,7 +112,7 @@ fn slices<'a>(a: &'a Call, b: &'a Call) -> [(&'static str, &'a [u8], &'a [u8]); 
         ("flow", &a.flow, &b.flow),
         ("length", &a.length, &b.length),
         ("answer", &a.answer, &b.answer),
-        ("count", &a.count, &b.count),
+        ("counts", &a.counts, &b.counts),
     ]
 }
 
@@ -126,8 +126,9 @@ fn describe(call: &Call) {
     let pair = |pair: &Commodity| format!(" {}-{}", pair.source, pair.sink);
     let belts: String = net.arcs.iter().take(256).map(belt).collect();
     let pairs: String = net.commodities.iter().take(32).map(pair).collect();
-    println!("  n {} q {}", call.n, call.q);
+    println!("  n {} q {} office {}", call.n, call.q, call.office);
     println!("  {} belts{belts}", net.arcs.len());
     println!("  {} pairs{pairs}", net.commodities.len());
     println!("  limits {:?}", net.limits);
+    println!("  counts {:?}", numbers(&call.counts));
 }

@@ -35,6 +35,10 @@ mostBytes = 65536
 abbrev pub mostRunning : ℕ
 mostRunning = 2 ^ 63
 
+-- "one for each office, 1 to 8" (request C-20)
+abbrev pub offices : ℕ
+offices = 8
+
 -- "the seven numbers of the answer" ("The floor and its flow")
 abbrev pub answerNumbers : ℕ
 answerNumbers = 7

@@ -22,8 +22,11 @@ pub const MOST_PRECISION: u64 = 16;
 // The bytes of a file.
 pub const MOST_BYTES: usize = 65536;
 
-// The running count up to which a call is accepted.
+// The running count of an office up to which its call is accepted.
 pub const MOST_RUNNING: u64 = 1 << 63;
+
+// The offices, each with its count (request C-20), numbered from 1.
+pub const OFFICES: usize = 8;
 
 // How many numbers an answer has.
 pub const ANSWER_NUMBERS: usize = 7;

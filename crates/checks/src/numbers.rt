@@ -49,6 +49,10 @@ pub fn refusal_code(r: Refusal) -> Code
             number: 15,
             place: 0,
         },
+        Refusal::Office => Code {
+            number: 16,
+            place: 0,
+        },
     }
 }
 

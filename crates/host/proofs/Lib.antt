@@ -1,5 +1,5 @@
 pub mod Counting
-pub mod First
 pub mod Hosts
 pub mod Judged
+pub mod Offices
 pub mod ReadBack

@@ -1,7 +1,7 @@
 -- What a host reads back from the tables of an accepted call is the outcome's numbers, none of them cut. Assumes nothing.
 use mathlib.Core.Path.{_≡_, ap, _∙_}
-use mathlib.Core.List.{List, [], _∷_, map}
-use Prim.Native.Nat.{ℕ, zero, suc, _+_, _*_, _≤_, _<_, _^_}
+use mathlib.Core.List.{List, map}
+use Prim.Native.Nat.{ℕ, _+_, _*_, _-_, _<_}
 use native.Mathlib.Nat.{mul-le-mul-right}
 use native.Mathlib.Omega.{arith}
 use lib.ListN.{length, getD}
@@ -14,15 +14,16 @@ use Rattle.network.specs.Verdict.{verdict, afterwards}
 use Rattle.network.specs.declared.Verdict.{Verdict}
 use Rattle.network.specs.declared.Verdict.the-variants.{Accepted}
 use Rattle.network.proofs.Accepted.{accepted-sound}
-use Rattle.numbers.specs.Numbers.{numberAt, written}
+use Rattle.numbers.specs.Numbers.{count, numberAt, written}
+use Rattle.numbers.proofs.Puts.{numberAt-putAt, numberAt-putAt-other}
 use Rattle.numbers.proofs.Signed.{signed-read}
 use Rattle.numbers.proofs.Tables.{numberAt-written}
 use Rattle.method.specs.Answer.{amounts, numbersOf, outcome}
 use Rattle.method.specs.Fits.{Words}
 use Rattle.decode.specs.Decode.{networkIn}
-use Rattle.host.specs.Host.{Slices, runningIn, hostConditions, verdictIn, Served, Hosted}
+use Rattle.host.specs.Host.{Slices, countOf, raised, hostConditions, verdictIn, Hosted}
 use Rattle.host.proofs.Counting.{count-small}
-use Rattle.host.proofs.Hosts.{open-for}
+use Rattle.host.proofs.Hosts.{has-count, not-full}
 
 -- A table of an accepted call, and a number written into it.
 accepted-table : {v : Verdict} (old xs : List ℕ) {new : List ℕ} → v ≡ Accepted → new ≡ afterwards v (written old xs) old → new ≡ written old xs
@@ -36,13 +37,13 @@ read-back old xs a e w i l = ap (λ s. numberAt s i) (accepted-table old xs a e)
 within : (i k e m : ℕ) → i < k → e < m → i * m + e < k * m
 within i k e m h l = omega (arith, mul-le-mul-right m h)
 
-module _ (n q : ℕ) (belts pairs limits : List ℕ) (old new : Slices) (r : ℕ) (h : Hosted n q belts pairs limits old new r)
-    (a : verdictIn (networkIn n belts pairs limits) q old ≡ Accepted) where
+module _ (n q office : ℕ) (belts pairs limits : List ℕ) (old new : Slices) (r : ℕ) (h : Hosted n q office belts pairs limits old new r)
+    (a : verdictIn (networkIn n belts pairs limits) q office old ≡ Accepted) where
   abbrev net : Network
   net = networkIn n belts pairs limits
 
-  accepted : Sound net q × (verdict (hostConditions (commodities net) (arcs net) (resources net) old) ≡ Accepted)
-  accepted = accepted-sound net q (hostConditions (commodities net) (arcs net) (resources net) old) a
+  accepted : Sound net q × (verdict (hostConditions (commodities net) (arcs net) (resources net) office old) ≡ Accepted)
+  accepted = accepted-sound net q (hostConditions (commodities net) (arcs net) (resources net) office old) a
 
   pub amount-read : (i e : ℕ) → i < commodities net → e < arcs net →
       fromTwos (numberAt (new .flow) (i * arcs net + e)) ≡ amounts net (outcome net q .flow) i e
@@ -62,13 +63,24 @@ module _ (n q : ℕ) (belts pairs limits : List ℕ) (old new : Slices) (r : ℕ
   unfolding numbersOf
   answer-read j l = read-back (old .answer) (numbersOf (outcome net q .answer)) a (h .answer) (h .guarantee a .fits .answer) j l
 
-  pub count-read : numberAt (new .running) 0 ≡ runningIn old + outcome net q .answer .count
-  count-read =
-      read-back (old .running) ((runningIn old + outcome net q .answer .count) ∷ []) a (h .running) one 0 (omega arith)
-    where
-      small : runningIn old + outcome net q .answer .count < 2 ^ 64
-      small = omega (arith, count-small net q (accepted .0) (outcome net q) (h .guarantee a), open-for (commodities net) (arcs net) (resources net) old (accepted .1) .full)
+  -- The office's count is raised, and no other number of the table has changed.
+  raises : new .counts ≡ raised office (outcome net q .answer .count) (old .counts)
+  unfolding afterwards
+  raises = h .counts ∙ ap (λ v. afterwards v (raised office (outcome net q .answer .count) (old .counts)) (old .counts)) a
 
-      one : Words ((runningIn old + outcome net q .answer .count) ∷ [])
-      one zero = small
-      one (suc j) = omega arith
+  there : office - 1 < count (old .counts)
+  there = has-count (commodities net) (arcs net) (resources net) office old (accepted .1)
+
+  pub count-read : countOf office (new .counts) ≡ countOf office (old .counts) + outcome net q .answer .count
+  count-read =
+      ap (countOf office) raises ∙
+      numberAt-putAt (old .counts) (office - 1) (countOf office (old .counts) + outcome net q .answer .count) there
+      (omega (
+        arith,
+        count-small net q (accepted .0) (outcome net q) (h .guarantee a),
+        not-full (commodities net) (arcs net) (resources net) office old (accepted .1),
+      ))
+
+  pub others-read : (i : ℕ) → (i ≡ office - 1 → ⊥) → numberAt (new .counts) i ≡ numberAt (old .counts) i
+  others-read i ne =
+      ap (λ s. numberAt s i) raises ∙ numberAt-putAt-other (old .counts) (office - 1) (countOf office (old .counts) + outcome net q .answer .count) there i ne

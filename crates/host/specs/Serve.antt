@@ -9,9 +9,9 @@ use Rattle.decode.specs.Calls.{Shaped}
 use Rattle.host.specs.Deliver.{Open}
 use Rattle.host.specs.Host.{Slices, hostConditions, Served}
 
--- 1 to 5, 11 and 15, for n nodes, m arcs, r resources, k commodities and precision q: what is looked at before an item is read.
-abbrev pub callConditions : ℕ → ℕ → ℕ → ℕ → ℕ → Slices → List Condition
-callConditions n m r k q s = sizeConditions n m r k q ++ hostConditions k m r s
+-- 1 to 5, 11, 15 and 16, for n nodes, m arcs, r resources, k commodities and precision q: what is looked at before an item is read.
+abbrev pub callConditions : ℕ → ℕ → ℕ → ℕ → ℕ → ℕ → Slices → List Condition
+callConditions n m r k q office s = sizeConditions n m r k q ++ hostConditions k m r office s
 
 -- The shape is that of the bytes, within its bounds, and the tables have room for it.
 pub record Sizable (s : Shape) (q : ℕ) (belts pairs limits : List ℕ) (t : Slices) : Type 0 where
@@ -19,6 +19,6 @@ pub record Sizable (s : Shape) (q : ℕ) (belts pairs limits : List ℕ) (t : Sl
   pub counts : Counts (s .nodes) (s .arcs) (s .resources) (s .commodities) q
   pub open-for : Open (s .commodities) (s .arcs) (s .resources) t
 
--- The arcs, limits and commodities decide.
+-- The arcs, limits and commodities decide; the count is lent by itself.
 abbrev pub Judged : Network → ℕ → Slices → Slices → ℕ → Type 0
-Judged net q old new result = Served net q (verdict (itemConditions net)) old new result
+Judged net q old new result = Served net q 1 (verdict (itemConditions net)) old new result

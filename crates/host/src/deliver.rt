@@ -7,14 +7,14 @@ use packed::KEPT;
 use packed::Shape;
 use packed::TABLE_NUMBERS;
 ghost use mathlib.Core.Path.{_≡_};
-ghost use mathlib.Core.List.{[], _∷_};
 ghost use Prim.Native.Nat.{_+_, _*_, _≤_, _<_, _^_};
 ghost use Rattle.bounds.specs.Bounds.{answerNumbers};
-ghost use Rattle.numbers.specs.Numbers.{count, numberAt, written};
+ghost use Rattle.numbers.specs.Numbers.{count, written};
 ghost use Rattle.method.specs.Answer.{numbersOf};
 ghost use Rattle.packed.specs.Packed.{netIn, Lent};
 ghost use Rattle.solver.specs.Solved.{Solving};
 ghost use Rattle.host.specs.Deliver.{slices, Room, Open, TablesWritten, Delivered};
+ghost use Rattle.host.specs.Host.{countOf, raised};
 
 // The seven numbers of the answer.
 fn put_answer(a: Answer, answer: &mut [u8])
@@ -33,10 +33,10 @@ fn put_answer(a: Answer, answer: &mut [u8])
     numbers::write_all(answer, &seven, ANSWER_NUMBERS);
 }
 
-// The running count raised by the iterations.
+// The office's running count, lent by itself, raised by the iterations.
 fn raise_count(iterations: u64, running: &mut [u8])
-    requires { ⌜ (1 ≤ count (now running)) × (numberAt (now running) 0 + iterations < 2 ^ 64) ⌝ }
-    ensures { λ _. ⌜ now (running .exit) ≡ written (now (running .entry)) ((numberAt (now (running .entry)) 0 + iterations) ∷ []) ⌝ }
+    requires { ⌜ (1 ≤ count (now running)) × (countOf 1 (now running) + iterations < 2 ^ 64) ⌝ }
+    ensures { λ _. ⌜ now (running .exit) ≡ raised 1 iterations (now (running .entry)) ⌝ }
 {
     let sum = numbers::read(running, 0) + iterations;
     numbers::write(running, 0, sum);

@@ -1,4 +1,4 @@
-// What the exported call does, on byte slices: sizes and tables checked, then the call served. Document 01, "The floor and its flow".
+// What the exported call does, on byte slices: sizes and tables checked, then the call served with the office's own count. Document 01, "The floor and its flow".
 mod deliver;
 mod room;
 mod serve;
@@ -12,20 +12,32 @@ ghost use Rattle.host.specs.Host.{Hosted};
 pub fn solve(
     n: u64,
     q: u64,
+    office: u64,
     belts: &[u8],
     pairs: &[u8],
     limits: &[u8],
     flow: &mut [u8],
     lengths: &mut [u8],
     answer: &mut [u8],
-    running: &mut [u8],
+    counts: &mut [u8],
 ) -> u64
-    ensures { λ r. ⌜ Hosted n q (now (belts .entry)) (now (pairs .entry)) (now (limits .entry)) (slices (now (flow .entry)) (now (lengths .entry)) (now (answer .entry)) (now (running .entry))) (slices (now (flow .exit)) (now (lengths .exit)) (now (answer .exit)) (now (running .exit))) r ⌝ }
+    ensures { λ r. ⌜ Hosted n q office (now (belts .entry)) (now (pairs .entry)) (now (limits .entry)) (slices (now (flow .entry)) (now (lengths .entry)) (now (answer .entry)) (now (counts .entry))) (slices (now (flow .exit)) (now (lengths .exit)) (now (answer .exit)) (now (counts .exit))) r ⌝ }
 {
     let s = decode::shape(n, belts, pairs, limits);
-    let v = room::check_call(s, q, flow, lengths, answer, running);
+    let v = room::check_call(s, q, office, flow, lengths, answer, counts);
     if let Verdict::Refused(_) = v {
         return host_number(v);
     }
-    serve::serve(s, q, belts, pairs, limits, flow, lengths, answer, running)
+    let own = 8 * (office as usize - 1);
+    serve::serve(
+        s,
+        q,
+        belts,
+        pairs,
+        limits,
+        flow,
+        lengths,
+        answer,
+        &mut counts[own..own + 8],
+    )
 }

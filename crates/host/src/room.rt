@@ -1,16 +1,19 @@
-// What is checked before an item is read: are the sizes within their bounds, have the lent tables room, and is the running count full?
+// What is checked before an item is read: are the sizes within their bounds, have the lent tables room, is the office one of eight, and is its count full?
 use bounds::ANSWER_NUMBERS;
 use bounds::MOST_RUNNING;
+use bounds::OFFICES;
 use checks::sizes::check_sizes;
+use checks::sizes::outside;
 use network::Refusal;
 use network::Verdict;
 use packed::Shape;
 ghost use mathlib.Core.Path.{_≡_};
 ghost use Prim.Native.Nat.{_≤_};
-ghost use Rattle.bounds.specs.Bounds.{mostArcs, mostCommodities};
+ghost use Rattle.bounds.specs.Bounds.{mostArcs, mostCommodities, offices};
 ghost use Rattle.network.specs.Verdict.{verdict};
 ghost use Rattle.host.specs.Deliver.{slices};
-ghost use Rattle.host.specs.Host.{short, hostConditions};
+ghost use Rattle.numbers.specs.Numbers.{count};
+ghost use Rattle.host.specs.Host.{short, officeConditions};
 ghost use Rattle.host.specs.Serve.{callConditions};
 
 // A table is too small for what the call may write.
@@ -21,10 +24,10 @@ fn short(
     flow: &[u8],
     lengths: &[u8],
     answer: &[u8],
-    running: &[u8],
+    counts: &[u8],
 ) -> bool
     requires { ⌜ (k ≤ mostCommodities) × (m ≤ mostArcs) ⌝ }
-    ensures { λ v. ⌜ v ≡ short k m r (slices (now (flow .entry)) (now (lengths .entry)) (now (answer .entry)) (now (running .entry))) ⌝ }
+    ensures { λ v. ⌜ v ≡ short k m r (slices (now (flow .entry)) (now (lengths .entry)) (now (answer .entry)) (now (counts .entry))) ⌝ }
 {
     if numbers::count(flow) < k * m {
         return true;
@@ -35,53 +38,50 @@ fn short(
     if numbers::count(answer) < ANSWER_NUMBERS {
         return true;
     }
-    numbers::count(running) < 1
+    numbers::count(counts) < OFFICES
 }
 
-// 5 and 11, where the sizes have passed. The running count is read only where its slice holds one.
-fn check_tables(
-    k: usize,
-    m: usize,
-    r: usize,
-    flow: &[u8],
-    lengths: &[u8],
-    answer: &[u8],
-    running: &[u8],
-) -> Verdict
-    requires { ⌜ (k ≤ mostCommodities) × (m ≤ mostArcs) ⌝ }
-    ensures { λ v. ⌜ v ≡ verdict (hostConditions k m r (slices (now (flow .entry)) (now (lengths .entry)) (now (answer .entry)) (now (running .entry)))) ⌝ }
+// 16 and 11. Of the counts only the office's own is read, once it is one of those in the table.
+fn check_office(office: u64, counts: &[u8]) -> Verdict
+    requires { ⌜ offices ≤ count (now counts) ⌝ }
+    ensures { λ v. ⌜ v ≡ verdict (officeConditions office (now (counts .entry))) ⌝ }
 {
-    if short(k, m, r, flow, lengths, answer, running) {
-        return Verdict::Refused(Refusal::ShortTable);
+    if outside(1, OFFICES as u64, office) {
+        return Verdict::Refused(Refusal::Office);
     }
-    if MOST_RUNNING < numbers::read(running, 0) {
+    let place = office as usize - 1;
+    if MOST_RUNNING < numbers::read(counts, place) {
         return Verdict::Refused(Refusal::FullCount);
     }
     Verdict::Accepted
 }
 
-// 1 to 5, 11 and 15.
+// 1 to 5, 11, 15 and 16.
 pub fn check_call(
     s: Shape,
     q: u64,
+    office: u64,
     flow: &[u8],
     lengths: &[u8],
     answer: &[u8],
-    running: &[u8],
+    counts: &[u8],
 ) -> Verdict
-    ensures { λ r. ⌜ r ≡ verdict (callConditions (s .nodes) (s .arcs) (s .resources) (s .commodities) q (slices (now (flow .entry)) (now (lengths .entry)) (now (answer .entry)) (now (running .entry)))) ⌝ }
+    ensures { λ r. ⌜ r ≡ verdict (callConditions (s .nodes) (s .arcs) (s .resources) (s .commodities) q office (slices (now (flow .entry)) (now (lengths .entry)) (now (answer .entry)) (now (counts .entry)))) ⌝ }
 {
     let sizes = check_sizes(s.nodes, s.arcs, s.resources, s.commodities, q);
     if let Verdict::Refused(_) = sizes {
         return sizes;
     }
-    check_tables(
+    if short(
         s.commodities,
         s.arcs,
         s.resources,
         flow,
         lengths,
         answer,
-        running,
-    )
+        counts,
+    ) {
+        return Verdict::Refused(Refusal::ShortTable);
+    }
+    check_office(office, counts)
 }

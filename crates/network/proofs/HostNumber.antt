@@ -9,13 +9,13 @@ use Rattle.network.specs.Resources.{resources}
 use Rattle.network.specs.Sound.{Counts}
 use Rattle.network.specs.Verdict.{verdict, sizeConditions, itemConditions}
 use Rattle.network.specs.declared.Refusal.{Refusal}
-use Rattle.network.specs.declared.Refusal.the-variants.{Nodes, Arcs, Commodities, Precision, ShortTable, LooseArc, Capacity, LooseCommodity, Layout, LongFile, FullCount, Limit, Resources}
+use Rattle.network.specs.declared.Refusal.the-variants.{Nodes, Arcs, Commodities, Precision, ShortTable, LooseArc, Capacity, LooseCommodity, Layout, LongFile, FullCount, Limit, Resources, Office}
 use Rattle.network.specs.declared.Verdict.{Verdict}
 use Rattle.network.specs.declared.Verdict.the-variants.{Accepted, Refused}
 use Rattle.network.proofs.Faults.{SizeFault, ItemFault, of-nodes, of-arcs, of-resources, of-commodities, of-precision, of-ends, of-capacity, of-limit, of-commodity, size-refused, item-refused}
 
--- numbers to 15, each its own case
-number-most : (w : Refusal) → refusalCode w .number ≤ 15
+-- numbers to 16, each its own case
+number-most : (w : Refusal) → refusalCode w .number ≤ 16
 number-most Nodes = omega arith
 number-most Arcs = omega arith
 number-most Commodities = omega arith
@@ -29,6 +29,7 @@ number-most LongFile = omega arith
 number-most FullCount = omega arith
 number-most (Limit p) = omega arith
 number-most Resources = omega arith
+number-most Office = omega arith
 
 -- For a refusal of a file too: 65,536 bytes are at most as many lines.
 pub refusal-fits : (w : Refusal) → refusalCode w .place ≤ 65536 → hostNumber (Refused w) < 2 ^ 64

@@ -65,8 +65,8 @@ itemConditions net =
     flat (arcConditions net) (upTo (arcs net)) ++
     (flat (limitConditions net) (upTo (net .nodes)) ++ flat (commodityConditions net) (upTo (commodities net)))
 
--- The verdict on a call with this network at precision q. Between sizes and items stand the conditions that concern some calls only, 5 and 11: the
--- call says which.
+-- The verdict on a call with this network at precision q. Between sizes and items stand the conditions that concern some calls only, 5, 16 and 11:
+-- the call says which.
 unfoldable pub verdictOn : Network → ℕ → List Condition → Verdict
 verdictOn net q own = verdict (sizeConditions (net .nodes) (arcs net) (resources net) (commodities net) q ++ (own ++ itemConditions net))
 

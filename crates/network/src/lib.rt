@@ -14,6 +14,7 @@ pub enum Refusal {
     FullCount,
     Limit(u64),
     Resources,
+    Office,
 }
 
 pub enum Verdict {

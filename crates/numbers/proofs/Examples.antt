@@ -4,8 +4,7 @@ use mathlib.Core.Path.{_≡_, refl}
 use Prim.Native.Nat.{ℕ}
 use mathlib.Core.List.{List, [], _∷_}
 use Rattle.numbers.specs.Digits.{fromBytes, toBytes}
-use Rattle.numbers.specs.Numbers.{count, items, numberAt, column, encode, written}
-use Rattle.numbers.specs.Parts.{putAt}
+use Rattle.numbers.specs.Numbers.{count, items, numberAt, column, encode, written, putAt}
 
 table : List ℕ
 table = 1 ∷ 2 ∷ 0 ∷ 0 ∷ 0 ∷ 0 ∷ 0 ∷ 0 ∷ 7 ∷ 0 ∷ 0 ∷ 1 ∷ 0 ∷ 0 ∷ 0 ∷ 0 ∷ 9 ∷ []

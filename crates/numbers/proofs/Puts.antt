@@ -8,8 +8,7 @@ use native.Mathlib.Omega.{arith}
 use lib.ListN.{length, take, drop, length-append}
 use lib.Seq.{length-take-le, drop-at, take-all}
 use Rattle.numbers.specs.Digits.{toBytes}
-use Rattle.numbers.specs.Numbers.{count, numberAt}
-use Rattle.numbers.specs.Parts.{putAt}
+use Rattle.numbers.specs.Numbers.{count, numberAt, putAt}
 use Rattle.numbers.proofs.Digits.{length-digits}
 use Rattle.numbers.proofs.Over.{over, length-over, drop-over, over-take}
 use Rattle.numbers.proofs.Places.{numberAt-front, numberAt-past}

@@ -7,8 +7,7 @@ use lib.IntN.{ℤ, pos}
 use lib.ListN.{length, take, getD, length-map, List·getD-map}
 use Rattle.signed.specs.Signed.{size, twos, fromTwos}
 use Rattle.signed.proofs.Signed.{twos-below, twos-read}
-use Rattle.numbers.specs.Numbers.{numberAt, written}
-use Rattle.numbers.specs.Parts.{putAt}
+use Rattle.numbers.specs.Numbers.{numberAt, written, putAt}
 use Rattle.numbers.proofs.Tables.{numberAt-written, written-more}
 
 map-take : (n : ℕ) (xs : List ℤ) → map twos (take n xs) ≡ take n (map twos xs)

@@ -8,8 +8,8 @@ use native.Mathlib.Omega.{arith}
 use lib.ListN.{length, take, drop, getD, length-append}
 use lib.Seq.{take-suc, length-take-le}
 use Rattle.numbers.specs.Digits.{toBytes}
-use Rattle.numbers.specs.Numbers.{count, numberAt, encode, written}
-use Rattle.numbers.specs.Parts.{splice, putAt}
+use Rattle.numbers.specs.Numbers.{count, numberAt, encode, written, putAt}
+use Rattle.numbers.specs.Parts.{splice}
 use Rattle.numbers.proofs.Digits.{length-digits}
 use Rattle.numbers.proofs.Over.{over, length-over, drop-over}
 use Rattle.numbers.proofs.Places.{numberAt-next, numberAt-past}

@@ -31,3 +31,7 @@ encode (x ∷ xs) = toBytes 8 x ++ encode xs
 -- (document 01, "One choice of route"), also those of an incomplete last number.
 unfoldable pub written : List ℕ → List ℕ → List ℕ
 written s xs = encode xs ++ drop (8 * length xs) s
+
+-- The same once number i is x: every other byte keeps its contents.
+unfoldable pub putAt : List ℕ → ℕ → ℕ → List ℕ
+putAt s i x = take (8 * i) s ++ (toBytes 8 x ++ drop (8 * i + 8) s)

@@ -6,8 +6,8 @@ ghost use mathlib.Core.List.{_++_, map};
 ghost use Prim.Native.Nat.{_+_, _*_, _%_, _<_, _≤_};
 ghost use lib.ListN.{length, take, drop};
 ghost use Rattle.numbers.specs.Digits.{fromBytes, toBytes};
-ghost use Rattle.numbers.specs.Numbers.{count, items, numberAt, column, written};
-ghost use Rattle.numbers.specs.Parts.{splice, putAt};
+ghost use Rattle.numbers.specs.Numbers.{count, items, numberAt, column, written, putAt};
+ghost use Rattle.numbers.specs.Parts.{splice};
 ghost use Rattle.signed.specs.Signed.{twos};
 
 // How many complete numbers `s` holds.

@@ -6,15 +6,27 @@ ghost use Rattle.host.specs.Host.{Hosted};
 pub extern "C" fn vithmork_solve(
     n: u64,
     q: u64,
+    office: u64,
     belts: &[u8],
     pairs: &[u8],
     limits: &[u8],
     flow: &mut [u8],
     lengths: &mut [u8],
     answer: &mut [u8],
-    running: &mut [u8],
+    counts: &mut [u8],
 ) -> u64
-    ensures { λ r. ⌜ Hosted n q (now (belts .entry)) (now (pairs .entry)) (now (limits .entry)) (record { flow = now (flow .entry); lengths = now (lengths .entry); answer = now (answer .entry); running = now (running .entry) }) (record { flow = now (flow .exit); lengths = now (lengths .exit); answer = now (answer .exit); running = now (running .exit) }) r ⌝ }
+    ensures { λ r. ⌜ Hosted n q office (now (belts .entry)) (now (pairs .entry)) (now (limits .entry)) (record { flow = now (flow .entry); lengths = now (lengths .entry); answer = now (answer .entry); counts = now (counts .entry) }) (record { flow = now (flow .exit); lengths = now (lengths .exit); answer = now (answer .exit); counts = now (counts .exit) }) r ⌝ }
 {
-    host::solve(n, q, belts, pairs, limits, flow, lengths, answer, running)
+    host::solve(
+        n,
+        q,
+        office,
+        belts,
+        pairs,
+        limits,
+        flow,
+        lengths,
+        answer,
+        counts,
+    )
 }

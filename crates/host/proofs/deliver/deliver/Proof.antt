@@ -2,14 +2,11 @@
 use borrow.Author.Needs.{needs}
 use denote.Ref.{now}
 use mathlib.Core.Path.{ap, _∙_}
-use mathlib.Core.List.{[], _∷_}
 use native.Mathlib.Omega.{arith}
 use Rattle.numbers.specs.Numbers.{written}
 use Rattle.method.specs.Answer.{numbersOf}
-use Rattle.host.specs.Deliver.{slices}
-use Rattle.host.specs.Host.{Slices}
+use Rattle.host.specs.Host.{raised}
 use Rattle.host.proofs.Counting.{count-small}
-use Rattle.host.proofs.Hosts.{running-is}
 use Rattle.host.proofs.deliver.deliver.Statement.{statement}
 use Rattle.host.proofs.deliver.deliver.Tie as tie
 
@@ -23,18 +20,13 @@ tables-at c = c .before .before .before .before .before .before
 abbrev answer-at : tie.After-raise-count → tie.After-put-answer
 answer-at c = c .before .before .before .before
 
--- the slices at entry
-abbrev lent : tie.Start → Slices
-lent s = slices (now (s .args .flow)) (now (s .args .lengths)) (now (s .args .answer)) (now (s .args .running))
-
 raise-count-requires : tie.Need-raise-count-requires
 raise-count-requires c κs =
     let t = tables-at (c .before .before .before) in
     let s = entry t in (
-      s .pre .1 .for-running,
+      s .pre .1 .for-counts,
       omega (
         arith,
-        running-is (lent s) (s .pre .1 .for-running),
         s .pre .1 .full,
         count-small _ (s .args .q) (s .pre .0 .sound) _ (t .write-tables .ensures .guarantee),
         ap (λ a. a .count) (t .write-tables .ensures .answers),
@@ -49,9 +41,7 @@ returns c =
       flow = r .flows;
       lengths = r .bests;
       answer = a .put-answer .ensures ∙ ap (λ a. written (now (s .args .answer)) (numbersOf a)) (r .answers);
-      running =
-          k .raise-count .ensures ∙
-          ap (λ x. written (now (s .args .running)) (x ∷ [])) (omega (arith, running-is (lent s) (s .pre .1 .for-running), ap (λ a. a .count) (r .answers)));
+      counts = k .raise-count .ensures ∙ ap (λ a. raised 1 (a .count) (now (s .args .running))) (r .answers);
       guarantee = r .guarantee;
     }
 

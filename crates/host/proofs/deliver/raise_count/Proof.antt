@@ -2,7 +2,6 @@
 use borrow.Author.Needs.{needs}
 use mathlib.Core.Path.{_∙_}
 use native.Mathlib.Omega.{arith}
-use Rattle.host.proofs.First.{put-first}
 use Rattle.host.proofs.deliver.raise_count.Statement.{statement}
 use Rattle.host.proofs.deliver.raise_count.Tie as tie
 
@@ -12,7 +11,7 @@ add-sum c = omega (arith, c .read .ensures, c .before .before .before .pre .1)
 returns : tie.Need-returns
 returns c =
     let w = c .before .before in
-    w .write .ensures ∙ (put-first _ _ ∙ rw (w .before .before .read .ensures))
+    w .write .ensures ∙ rw (w .before .before .read .ensures)
 
 pub raise-count-spec : {M : Type 1} → statement M
 raise-count-spec =

@@ -61,7 +61,7 @@ returns c =
     let s = entry d in
     let e = i .check-items .ensures in
     judged-of (d .decode .ensures)
-    (served-refused (net d) (s .args .q) (verdict (itemConditions (net d))) (lent s) (c .host-number .result) _ (sym e ∙ c .before .enum-told .given .1) (c .host-number .ensures ∙ ap hostNumber e))
+    (served-refused (net d) (s .args .q) (verdict (itemConditions (net d))) (lent s) (c .host-number .result) _ _ (sym e ∙ c .before .enum-told .given .1) (c .host-number .ensures ∙ ap hostNumber e))
 
 -- nothing is refused
 accepted : (c : tie.After-enum-told2) → verdict (itemConditions (net (decode-at (c .before .before)))) ≡ Accepted
