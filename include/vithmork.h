@@ -1,7 +1,7 @@
 /* Vithmork: the most totes a mezzanine floor can carry between its pairs of
  * stations, as a plan in exact whole numbers and a bound that no plan exceeds.
  *
- * A number in a table takes eight bytes, lowest first, at any address. The
+ * A number in a table takes eight bytes, lowest first, at any address. A
  * call allocates nothing, keeps nothing between calls and needs less than
  * 256 KiB of stack. The header is C99 and C++17; the archive is built for
  * x86-64 Linux.
@@ -20,9 +20,9 @@ extern "C" {
  * or returns: a host then has to be looked at anew. The second rises with what
  * is new beside that, the third with what is put right. */
 #define VITHMORK_VERSION_MAJOR 4
-#define VITHMORK_VERSION_MINOR 0
+#define VITHMORK_VERSION_MINOR 1
 #define VITHMORK_VERSION_PATCH 0
-#define VITHMORK_VERSION "4.0.0"
+#define VITHMORK_VERSION "4.1.0"
 
 /* Bounds. What lies outside them is refused, so a host need not test first. */
 enum {
@@ -52,6 +52,7 @@ enum {
 #define VITHMORK_PAIR_NUMBERS ((size_t)2)
 #define VITHMORK_ANSWER_NUMBERS ((size_t)7)
 #define VITHMORK_COUNTS_NUMBERS ((size_t)VITHMORK_MAX_OFFICE)
+#define VITHMORK_TOTES_NUMBERS(k) ((size_t)(k) * (size_t)2)
 #define VITHMORK_BELTS_BYTES(m) ((size_t)(m) * VITHMORK_BELT_NUMBERS * VITHMORK_NUMBER_BYTES)
 #define VITHMORK_PAIRS_BYTES(k) ((size_t)(k) * VITHMORK_PAIR_NUMBERS * VITHMORK_NUMBER_BYTES)
 #define VITHMORK_LIMITS_BYTES(n) ((size_t)(n) * VITHMORK_NUMBER_BYTES)
@@ -59,11 +60,12 @@ enum {
 #define VITHMORK_LENGTH_BYTES(r) ((size_t)(r) * VITHMORK_NUMBER_BYTES)
 #define VITHMORK_ANSWER_BYTES (VITHMORK_ANSWER_NUMBERS * VITHMORK_NUMBER_BYTES)
 #define VITHMORK_COUNTS_BYTES (VITHMORK_COUNTS_NUMBERS * VITHMORK_NUMBER_BYTES)
+#define VITHMORK_TOTES_BYTES(k) (VITHMORK_TOTES_NUMBERS(k) * VITHMORK_NUMBER_BYTES)
 
 /* Places of the answer table, from 0. The scale is CAPACITY / LOAD: the total
  * carried is DRAWN times the scale, and what a pair sends over a belt is its
  * amount in the flow table times the scale. The bound is D / ALPHA. Nothing is
- * reduced or rounded. */
+ * reduced or rounded, and DRAWN * CAPACITY is below 2^64. */
 enum {
     VITHMORK_DRAWN = 0,          /* F, the sum of all draws */
     VITHMORK_SCALE_CAPACITY = 1, /* c(b) of the fullest b, a belt or a limited station */
@@ -74,14 +76,14 @@ enum {
     VITHMORK_BOUND_CHOICE = 6    /* which of them, from 1, gave the bound; 0 if none */
 };
 
-/* Refusals. 9 and 10 speak of files, and this call never returns them. */
+/* Refusals. 9 and 10 speak of files, and these calls never return them. */
 enum {
     VITHMORK_ACCEPTED = 0,
     VITHMORK_REFUSED_STATIONS = 1,    /* n out of bounds */
     VITHMORK_REFUSED_BELTS = 2,       /* too few or too many complete belts */
     VITHMORK_REFUSED_PAIRS = 3,       /* likewise pairs */
     VITHMORK_REFUSED_PRECISION = 4,   /* q out of bounds */
-    VITHMORK_REFUSED_SHORT_TABLE = 5, /* a table to write is too small */
+    VITHMORK_REFUSED_SHORT_TABLE = 5, /* a table to write is too small, totes among them */
     VITHMORK_REFUSED_LOOSE_BELT = 6,  /* an end outside 1 to n, or both equal; place: the belt */
     VITHMORK_REFUSED_CAPACITY = 7,    /* out of bounds; place: the belt */
     VITHMORK_REFUSED_LOOSE_PAIR = 8,  /* as 6; place: the pair */
@@ -146,6 +148,33 @@ uint64_t vithmork_solve(uint64_t n, uint64_t q, uint64_t office,
                         uint8_t *lengths, size_t lengths_len,
                         uint8_t *answer, size_t answer_len,
                         uint8_t *counts, size_t counts_len);
+
+/* Solves one floor as vithmork_solve does, and says for contracts how many whole totes
+ * an hour each pair carries. All that is said above holds of this call too: what it
+ * takes, writes, refuses and returns, and of threads. Beside that:
+ *
+ *   totes   written: two numbers for each pair, in order: the whole totes an hour in
+ *           its scaled amount, and the exact remainder, in parts of a tote of which
+ *           LOAD make one. A pair's amount is what leaves its source less what
+ *           enters it (vithmork_pair_total), before the scale:
+ *
+ *               amount * CAPACITY = whole * LOAD + remainder, remainder < LOAD
+ *
+ *           Both are 0 for a pair that carries nothing, so for each pair of an
+ *           unjoined floor. Room for fewer than 2k numbers is refusal 5
+ *
+ * The whole totes of all pairs are together at most the total carried, and more than
+ * the total less k: each pair loses less than one. What belts carry is not rounded,
+ * since rounded belts no longer balance at the stations. */
+uint64_t vithmork_whole(uint64_t n, uint64_t q, uint64_t office,
+                        const uint8_t *belts, size_t belts_len,
+                        const uint8_t *pairs, size_t pairs_len,
+                        const uint8_t *limits, size_t limits_len,
+                        uint8_t *flow, size_t flow_len,
+                        uint8_t *lengths, size_t lengths_len,
+                        uint8_t *answer, size_t answer_len,
+                        uint8_t *counts, size_t counts_len,
+                        uint8_t *totes, size_t totes_len);
 
 /* The pointer to lend with a length of 0: not null, and never read or written. */
 #define VITHMORK_ABSENT ((uint8_t *)"")
@@ -290,6 +319,18 @@ static inline uint64_t vithmork_pair_total(const uint8_t *belts, size_t m, const
             total -= amount;
     }
     return total;
+}
+
+/* What vithmork_whole wrote of pair p, from 0: its whole totes an hour, and the
+ * remainder over LOAD. */
+static inline uint64_t vithmork_pair_whole(const uint8_t *totes, size_t p)
+{
+    return vithmork_get(totes, VITHMORK_TOTES_NUMBERS(p));
+}
+
+static inline uint64_t vithmork_pair_remainder(const uint8_t *totes, size_t p)
+{
+    return vithmork_get(totes, VITHMORK_TOTES_NUMBERS(p) + 1);
 }
 
 /* What pair p, from 0, of a floor of m belts uses of a station: the larger of what

@@ -1,8 +1,9 @@
 #!/usr/bin/env bash
 # Compiles the header as C99 and as C++17, compares what each C example prints with
 # tests/NAME.expected, which is what the second solver says it should print
-# (tests/second), meets every refusal from C (tests/refusals.c) and tries what the header
-# adds to the call (tests/helpers.c). The header's times are those of docs/SPEED.md.
+# (tests/second), meets every refusal from C (tests/refusals.c), holds the whole totes of
+# pairs to their amounts (tests/totes.c) and tries what the header adds to the calls
+# (tests/helpers.c). The header's times are those of docs/SPEED.md.
 set -eu
 cd "$(dirname "$0")/.."
 tests/second/archive.sh
@@ -21,6 +22,8 @@ for program in examples/*.c; do
 done
 cc -std=c99 "${strict[@]}" -o "$made/refusals" tests/refusals.c "$archive"
 "$made/refusals"
+cc -std=c99 "${strict[@]}" -o "$made/totes" tests/totes.c "$archive"
+"$made/totes"
 cc -std=c99 "${strict[@]}" -o "$made/helpers" tests/helpers.c "$archive"
 "$made/helpers"
 c++ -x c++ -std=c++17 "${strict[@]}" -o "$made/helpers" tests/helpers.c -x none "$archive"
@@ -38,4 +41,4 @@ if ! tr -s '\n *' ' ' <include/vithmork.h | grep -qF "the slowest took $cost"; t
     echo "c_example: docs/SPEED.md has other times than the header: $cost"
     exit 1
 fi
-echo "c_example: the header is C99 and C++17, the examples print what they should, and refusals read as they should"
+echo "c_example: the header is C99 and C++17, the examples print what they should, and refusals and totes read as they should"

@@ -59,6 +59,7 @@ quotes README.md tests/floor.expected
 quotes README.md tests/reversible.expected
 quotes README.md tests/lift.expected
 quotes README.md tests/offices.expected
+quotes README.md tests/whole.expected
 quotes docs/COURSE.md tests/one_by_one.expected
 for fraction in $(grep -oE '[0-9]{4,}/[0-9]+' docs/COURSE.md); do
     cat examples/*.csv | tr -d '\r' | grep -qE ",${fraction/\//,}\$" || fault "docs/COURSE.md: no listing has $fraction"

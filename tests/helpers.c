@@ -1,6 +1,6 @@
-/* What the header adds to the call: versions, absent slices, marks, signed
- * amounts, limits, counts, a station's use and a pair's own total. Compiled as C99
- * and as C++17; exits with 1 if something is otherwise. */
+/* What the header adds to the calls: versions, absent slices, marks, signed
+ * amounts, limits, counts, totes, a station's use and a pair's own total. Compiled as
+ * C99 and as C++17; exits with 1 if something is otherwise. */
 #include "vithmork.h"
 
 #include <stdio.h>
@@ -15,6 +15,7 @@ static uint8_t limits[VITHMORK_LIMITS_BYTES(STATIONS)];
 static uint8_t lengths[VITHMORK_LENGTH_BYTES(BELTS + LIMITED)];
 static uint8_t answer[VITHMORK_ANSWER_BYTES];
 static uint8_t counts[VITHMORK_COUNTS_BYTES];
+static uint8_t totes[VITHMORK_TOTES_BYTES(PAIRS)];
 
 static int failed;
 
@@ -99,6 +100,19 @@ static void counted(void)
     expect("the count after", vithmork_count(counts, OFFICE + 1), UINT64_MAX - (OFFICE + 1));
 }
 
+/* Two numbers for each pair, the whole totes first. */
+static void toted(void)
+{
+    expect("the numbers of three pairs' totes", VITHMORK_TOTES_NUMBERS(PAIRS), 6);
+    expect("their bytes", sizeof totes, 48);
+    for (size_t place = 0; place < VITHMORK_TOTES_NUMBERS(PAIRS); place++)
+        vithmork_put(totes, place, UINT64_MAX - place);
+    for (size_t p = 0; p < PAIRS; p++) {
+        expect("a pair's whole totes", vithmork_pair_whole(totes, p), UINT64_MAX - 2 * p);
+        expect("its remainder", vithmork_pair_remainder(totes, p), UINT64_MAX - 2 * p - 1);
+    }
+}
+
 /* Scaled by 3 over 4, with its sign. */
 static void scaled(void)
 {
@@ -157,6 +171,24 @@ static void of_a_plan(void)
         within_limit(station);
 }
 
+/* The whole totes of the same plan. */
+static void in_whole_totes(void)
+{
+    uint64_t capacity, load;
+    expect("the call for totes",
+           vithmork_whole(STATIONS, PRECISION, OFFICE, belts, sizeof belts, pairs, sizeof pairs,
+                          limits, sizeof limits, flow, sizeof flow, lengths, sizeof lengths,
+                          answer, sizeof answer, counts, sizeof counts, totes, sizeof totes),
+           VITHMORK_ACCEPTED);
+    capacity = vithmork_get(answer, VITHMORK_SCALE_CAPACITY);
+    load = vithmork_get(answer, VITHMORK_SCALE_LOAD);
+    for (size_t p = 0; p < PAIRS; p++) {
+        uint64_t parts = vithmork_pair_total(belts, BELTS, pairs, p, flow) * capacity;
+        expect("whole totes of a plan", vithmork_pair_whole(totes, p), parts / load);
+        expect("their remainder", vithmork_pair_remainder(totes, p), parts % load);
+    }
+}
+
 static void absent(void)
 {
     uint8_t *none = VITHMORK_ABSENT;
@@ -166,9 +198,14 @@ static void absent(void)
     uint64_t of_tables = vithmork_solve(STATIONS, PRECISION, OFFICE, belts, sizeof belts, pairs,
                                         sizeof pairs, none, 0, none, 0, none, 0, none, 0, none,
                                         0);
+    uint64_t of_totes = vithmork_whole(STATIONS, PRECISION, OFFICE, belts, sizeof belts, pairs,
+                                       sizeof pairs, none, 0, flow, sizeof flow, lengths,
+                                       sizeof lengths, answer, sizeof answer, counts,
+                                       sizeof counts, none, 0);
     expect("an absent slice's pointer", none != NULL, 1);
     expect("no belts", vithmork_refused(of_belts).number, VITHMORK_REFUSED_BELTS);
     expect("no tables", vithmork_refused(of_tables).number, VITHMORK_REFUSED_SHORT_TABLE);
+    expect("no totes", vithmork_refused(of_totes).number, VITHMORK_REFUSED_SHORT_TABLE);
 }
 
 int main(void)
@@ -179,9 +216,11 @@ int main(void)
     marks();
     limited();
     counted();
+    toted();
     scaled();
     by_hand();
     of_a_plan();
+    in_whole_totes();
     absent();
     return failed;
 }

@@ -1,6 +1,7 @@
-/* Every refusal that the call knows, as a C program meets it: number, place and
- * word, and no byte changed; and of the counts, what an accepted call changes. Exits
- * with 1 if one is otherwise. */
+/* Every refusal that the calls know, as a C program meets it: number, place and
+ * word, and no byte changed; and of the counts, what an accepted call changes. Each
+ * case is tried on both calls, and once more with too few totes, which shows where 5
+ * stands in the order. Exits with 1 if one is otherwise. */
 #include "vithmork.h"
 
 #include <stdio.h>
@@ -16,6 +17,7 @@ static const uint64_t most = (uint64_t)1 << 63;
 typedef struct {
     uint64_t n, q, office;
     size_t belts_len, pairs_len, limits_len, flow_len, lengths_len, answer_len, counts_len;
+    size_t totes_len;
     uint8_t belts[VITHMORK_BELTS_BYTES(VITHMORK_MAX_BELTS + 1)];
     uint8_t pairs[VITHMORK_PAIRS_BYTES(VITHMORK_MAX_PAIRS + 1)];
     uint8_t limits[VITHMORK_LIMITS_BYTES(STATIONS)];
@@ -23,6 +25,7 @@ typedef struct {
     uint8_t lengths[VITHMORK_LENGTH_BYTES(BELTS + LIMITED)];
     uint8_t answer[VITHMORK_ANSWER_BYTES];
     uint8_t counts[VITHMORK_COUNTS_BYTES + VITHMORK_NUMBER_BYTES];
+    uint8_t totes[VITHMORK_TOTES_BYTES(PAIRS)];
 } lent;
 
 static lent sound(void)
@@ -39,6 +42,7 @@ static lent sound(void)
     l.lengths_len = sizeof l.lengths;
     l.answer_len = sizeof l.answer;
     l.counts_len = VITHMORK_COUNTS_BYTES;
+    l.totes_len = sizeof l.totes;
     vithmork_put_belt(l.belts, 0, 1, 2, 600);
     vithmork_put_belt(l.belts, 1, 2, 3, 400);
     vithmork_put_pair(l.pairs, 0, 1, 3);
@@ -57,33 +61,80 @@ static uint64_t solve(lent *l)
                           l->lengths_len, l->answer, l->answer_len, l->counts, l->counts_len);
 }
 
+static uint64_t whole(lent *l)
+{
+    return vithmork_whole(l->n, l->q, l->office, l->belts, l->belts_len, l->pairs, l->pairs_len,
+                          l->limits, l->limits_len, l->flow, l->flow_len, l->lengths,
+                          l->lengths_len, l->answer, l->answer_len, l->counts, l->counts_len,
+                          l->totes_len == 0 ? VITHMORK_ABSENT : l->totes, l->totes_len);
+}
+
+typedef uint64_t call(lent *l);
+
+static const char *name(call *made)
+{
+    return made == solve ? "vithmork_solve" : "vithmork_whole";
+}
+
 static int failed;
 
-static void expect(lent l, unsigned number, unsigned place, const char *word)
+static void meet(call *made, lent l, unsigned number, unsigned place, const char *word)
 {
     lent before = l;
-    vithmork_refusal refusal = vithmork_refused(solve(&l));
+    vithmork_refusal refusal = vithmork_refused(made(&l));
     if (refusal.number != number || refusal.place != place ||
         strcmp(vithmork_word(refusal.number), word) != 0 || memcmp(&l, &before, sizeof l) != 0) {
-        printf("refusals: %u (%s), place %u, where %u (%s), place %u is due\n", refusal.number,
-               vithmork_word(refusal.number), refusal.place, number, word, place);
+        printf("refusals: %s: %u (%s), place %u, where %u (%s), place %u is due\n", name(made),
+               refusal.number, vithmork_word(refusal.number), refusal.place, number, word, place);
         failed = 1;
     }
 }
 
+/* The totes a byte short, a number short, with one number a pair, and absent: 5, if
+ * nothing is refused before it. */
+static void short_totes(lent l, unsigned number)
+{
+    static const size_t sizes[] = {VITHMORK_TOTES_BYTES(PAIRS) - 1,
+                                   VITHMORK_TOTES_BYTES(PAIRS) - VITHMORK_NUMBER_BYTES,
+                                   VITHMORK_TOTES_BYTES(PAIRS) / 2, 0};
+    for (size_t i = 0; i < sizeof sizes / sizeof *sizes; i++) {
+        l.totes_len = sizes[i];
+        meet(whole, l, number, 0, vithmork_word(number));
+    }
+}
+
+/* 1, 2, 15, 3 and 4 are looked for before the tables, all others after them. */
+static int before_tables(unsigned number)
+{
+    return number <= VITHMORK_REFUSED_PRECISION || number == VITHMORK_REFUSED_BELTS_AND_LIMITS;
+}
+
+static void expect(lent l, unsigned number, unsigned place, const char *word)
+{
+    meet(solve, l, number, place, word);
+    meet(whole, l, number, place, word);
+    short_totes(l, before_tables(number) ? number : VITHMORK_REFUSED_SHORT_TABLE);
+}
+
 /* Of all counts only the office's own is another, by the choices. */
-static void expect_raised(lent l)
+static void meet_raised(call *made, lent l)
 {
     lent before = l;
-    uint64_t returned = solve(&l), choices = vithmork_get(l.answer, VITHMORK_CHOICES);
+    uint64_t returned = made(&l), choices = vithmork_get(l.answer, VITHMORK_CHOICES);
     uint64_t count = vithmork_count(before.counts, before.office);
     vithmork_put_count(before.counts, before.office, count + choices);
     if (returned != VITHMORK_ACCEPTED || choices == 0 ||
         memcmp(l.counts, before.counts, sizeof l.counts) != 0) {
-        printf("refusals: a call by office %u is refused or raises other counts\n",
-               (unsigned)before.office);
+        printf("refusals: %s: a call by office %u is refused or raises other counts\n",
+               name(made), (unsigned)before.office);
         failed = 1;
     }
+}
+
+static void expect_raised(lent l)
+{
+    meet_raised(solve, l);
+    meet_raised(whole, l);
 }
 
 /* Every count is this, and what stands where an office 9 would have its own. */
@@ -137,6 +188,10 @@ int main(void)
     lent l = sound();
     if (solve(&l) != VITHMORK_ACCEPTED || strcmp(vithmork_word(VITHMORK_ACCEPTED), "accepted") != 0)
         failed = 1;
+    l = sound();
+    if (whole(&l) != VITHMORK_ACCEPTED)
+        failed = 1;
+    short_totes(sound(), VITHMORK_REFUSED_SHORT_TABLE);
     l = sound();
     l.n = VITHMORK_MAX_STATIONS + 1;
     expect(l, VITHMORK_REFUSED_STATIONS, 0, "stations");

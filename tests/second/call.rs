@@ -61,7 +61,7 @@ pub fn numbers(slice: &[u8]) -> Vec<u64> {
     (0..slice.len() / NUMBER).map(|place| get(slice, place)).collect()
 }
 
-fn put_all(slice: &mut [u8], numbers: &[u64]) {
+pub fn put_all(slice: &mut [u8], numbers: &[u64]) {
     for (place, number) in numbers.iter().enumerate() {
         put(slice, place, *number);
     }
@@ -138,15 +138,20 @@ impl Call {
         get(&self.counts, self.own())
     }
 
-    /// Document 01, "Turned down", in its order, with request C-17's two and C-20's one.
     pub fn refusal(&self) -> Option<Refusal> {
+        self.refusal_beside(false)
+    }
+
+    /// Document 01, "Turned down", in its order, with request C-17's two and C-20's one.
+    /// `short` says of a table that another call has beside these whether it is too short.
+    pub fn refusal_beside(&self, short: bool) -> Option<Refusal> {
         let net = self.network();
         whole_call(1, !(2..=64).contains(&self.n))
             .or_else(|| whole_call(2, !(1..=256).contains(&net.arcs.len())))
             .or_else(|| whole_call(15, net.capacities().len() > MOST))
             .or_else(|| whole_call(3, !(1..=32).contains(&net.commodities.len())))
             .or_else(|| whole_call(4, !(4..=16).contains(&self.q)))
-            .or_else(|| whole_call(5, self.short(&net)))
+            .or_else(|| whole_call(5, short || self.short(&net)))
             .or_else(|| whole_call(16, !(1..=OFFICES as u64).contains(&self.office)))
             .or_else(|| whole_call(11, self.own_count() > FULL))
             .or_else(|| first_faulty_belt(&net))

@@ -29,6 +29,8 @@ mod shares;
 mod solver;
 mod tally;
 mod ties;
+mod totes;
+mod whole;
 mod wrong;
 
 use call::{numbers, Call};
@@ -115,6 +117,7 @@ fn main() -> ExitCode {
     });
     marked::compare(&mut tally, &amounts.marked, amounts.plain, seed + 5);
     limited::compare(&mut tally, &amounts.limited, amounts.plain, seed + 10);
+    totes::compare(&mut tally, seed + 17);
     tally.close()
 }
 
@@ -135,10 +138,11 @@ fn timed(name: &str, tally: &mut Tally, part: impl FnOnce(&mut Tally)) {
     let (before, started) = (*tally, Instant::now());
     part(tally);
     println!(
-        "{name}: {} solved, {} unjoined, {} refused in {:.1} s",
+        "{name}: {} solved, {} unjoined, {} refused, {} of them for whole totes, in {:.1} s",
         tally.solved - before.solved,
         tally.unjoined - before.unjoined,
         tally.refused - before.refused,
+        tally.whole - before.whole,
         started.elapsed().as_secs_f64()
     );
 }

@@ -76,6 +76,15 @@ pub fn cases() -> Vec<Case> {
     cases
 }
 
+/// Calls with at most one fault, and what is returned if a table that another call has
+/// beside these is too short as well.
+pub fn beside_short(table: &str) -> Vec<Case> {
+    let short = fault(format!("short {table}"), 5, 0, |_| ());
+    let mut cases = vec![case(&[&short])];
+    cases.extend(faults().iter().map(|fault| case(&[fault, &short])));
+    cases
+}
+
 fn case(faults: &[&Fault]) -> Case {
     let mut call = sound();
     faults.iter().for_each(|fault| (fault.apply)(&mut call));

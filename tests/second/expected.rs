@@ -4,6 +4,7 @@
 // Of the shared modules only a part is used here.
 #![allow(dead_code)]
 
+mod contracts;
 mod method;
 mod network;
 mod solver;
@@ -32,8 +33,9 @@ fn main() -> ExitCode {
         "offices" => print_offices,
         "one_by_one" => print_one_by_one,
         "reversible" => print_reversible,
+        "whole" => contracts::print,
         _ => {
-            eprintln!("expected: name an example, floor, lift, offices, one_by_one or reversible");
+            eprintln!("expected: name one of floor, lift, offices, one_by_one, reversible, whole");
             return ExitCode::from(2);
         }
     };

@@ -1,12 +1,14 @@
 //! What must hold of any accepted call, read off the bytes that it leaves and not off
 //! a run of the method: document 01's flow and capacities with the signs of request
 //! C-12 and the limits of C-17, and the promises of total, bound and counts, with those of
-//! C-20 and C-24. Of the second solver it shares the load mark T alone.
+//! C-20 and C-24, and of whole totes (C-15). Of the second solver it shares the load mark T
+//! alone.
 
 use crate::call::{get, numbers, Call, NUMBER};
 use crate::method::threshold;
 use crate::network::{Arc, Commodity, Network};
 use crate::shares::{reaches, shares};
+use crate::whole::Whole;
 
 /// Longer than any path, and the sum of two still fits.
 const NONE: u64 = u64::MAX / 4;
@@ -36,6 +38,15 @@ pub fn check(before: &Call, after: &Call) -> Result<(), &'static str> {
         0 => plan.check_unjoined(),
         _ => plan.check_joined(),
     }
+}
+
+/// The same of the totes; the rest is for the solving call on the same floor.
+pub fn check_totes(before: &Whole, after: &Whole) -> Result<(), &'static str> {
+    let plan = Plan::read(&before.call, &after.call);
+    let written = plan.net.commodities.len() * 2 * NUMBER;
+    let later = before.totes[written..] == after.totes[written..];
+    holds(later, "later places of the totes are changed")?;
+    plan.check_totes(&numbers(&after.totes[..written]))
 }
 
 /// The office's own count is raised, and every other byte of the table is as it was.
@@ -91,6 +102,24 @@ impl Plan {
         holds((1..=self.answer[5]).contains(&self.answer[6]), "the bound is of no iteration")
     }
 
+    /// The wholes lack less than a tote a pair of the total.
+    fn check_totes(&self, totes: &[u64]) -> Result<(), &'static str> {
+        let [drawn, capacity, load] = [0, 1, 2].map(|i| wide(self.answer[i]));
+        let (mut sum, pairs) = (0, self.net.commodities.iter().enumerate());
+        for ((i, pair), told) in pairs.zip(totes.chunks(2)) {
+            let [brought, taken] = self.at(i, pair.source);
+            holds(brought == 0, "something of a pair enters its own source")?;
+            let [whole, remainder] = [0, 1].map(|place| wide(told[place]));
+            holds(remainder < load, "a remainder has a whole tote in it")?;
+            let exact = whole * load + remainder == wide(taken) * capacity;
+            holds(exact, "whole and remainder are not the scaled amount")?;
+            sum += whole;
+        }
+        let lack = (drawn * capacity).checked_sub(sum * load);
+        let within = lack.is_some_and(|lack| lack < totes.len() as u128 / 2 * load);
+        holds(within, "the wholes lack a tote a pair or more, or are above the total")
+    }
+
     fn threshold(&self) -> u64 {
         threshold(self.resources.len(), self.q)
     }
@@ -133,9 +162,12 @@ impl Plan {
         arcs.zip(&self.flow).all(|(arc, amount)| *amount >= 0 || arc.mark != 0)
     }
 
+    fn at(&self, i: usize, node: u64) -> [u64; 2] {
+        at(&self.net.arcs, &self.flow[i * self.net.arcs.len()..], node)
+    }
+
     fn net_out(&self, i: usize, node: u64) -> i128 {
-        let m = self.net.arcs.len();
-        let [brought, taken] = at(&self.net.arcs, &self.flow[i * m..], node);
+        let [brought, taken] = self.at(i, node);
         i128::from(taken) - i128::from(brought)
     }
 

@@ -1,15 +1,21 @@
 //! The comparison itself: the library's answer to a call beside the second
 //! solver's, and the count of what was seen.
 
-use crate::call::{get, numbers, Call};
+use crate::call::{get, numbers, Call, BELT};
 use crate::fast;
 use crate::guarded;
 use crate::network::{Arc, Commodity, Network, Solution};
 use crate::outside;
+use crate::random::Random;
+use crate::totes;
+use crate::whole::Whole;
 use std::process::ExitCode;
 
 /// Differences beyond these are only counted.
 const SHOWN: usize = 10;
+
+/// Floors of more belts are large.
+const LARGE: usize = 64;
 
 #[derive(Clone, Copy, Default)]
 pub struct Tally {
@@ -17,6 +23,8 @@ pub struct Tally {
     pub solved: u64,
     pub unjoined: u64,
     pub refused: u64,
+    /// Of all these, those for whole totes.
+    pub whole: u64,
     differences: usize,
 }
 
@@ -40,24 +48,49 @@ impl Tally {
         self.compare_with(name, call, call.answered(solve))
     }
 
+    /// For a share of the calls whole totes are compared too.
     pub fn compare_with(&mut self, name: &str, call: &Call, wanted: (u64, Call)) -> Call {
-        self.count(&wanted);
+        self.count(wanted.0, &wanted.1);
         let found = match self.forms {
             true => Ok(call.answered(fast::solve)),
             false => guarded::call_library(call),
         };
         let verdict = found.as_ref().map_err(String::clone).and_then(|found| {
-            first_difference(&wanted, found)?;
+            first_difference((wanted.0, &wanted.1), (found.0, &found.1))?;
             checked(call, found)
         });
         self.judge(name, Some(call), verdict);
+        let mut random = Random::new(self.calls());
+        if random.one_in(share(call, wanted.0)) {
+            self.compare_whole(name, &totes::lent(call, &mut random), &wanted.1);
+        }
         found.map_or(call.clone(), |(_, after)| after)
     }
 
-    fn count(&mut self, wanted: &(u64, Call)) {
-        match wanted {
-            (0, after) if get(&after.answer, 5) == 0 => self.unjoined += 1,
-            (0, _) => self.solved += 1,
+    /// The call of request C-15, given what a solving call leaves. With `forms` nothing
+    /// stands in for the library, and the second solver's totes are looked at alone.
+    pub fn compare_whole(&mut self, name: &str, whole: &Whole, solved: &Call) -> Whole {
+        let (due, wanted) = whole.answered(solved);
+        self.count(due, &wanted.call);
+        self.whole += 1;
+        let found = match self.forms {
+            true => Ok((due, wanted.clone())),
+            false => guarded::call_whole(whole),
+        };
+        let verdict = found.as_ref().map_err(String::clone).and_then(|(returned, after)| {
+            first_difference((due, &wanted.call), (*returned, &after.call))?;
+            same_bytes("totes", &wanted.totes, &after.totes)?;
+            checked_totes(whole, *returned, after)
+        });
+        let name = format!("{name}, totes of {} bytes", whole.totes.len());
+        self.judge(&name, Some(&whole.call), verdict);
+        found.map_or(whole.clone(), |(_, after)| after)
+    }
+
+    fn count(&mut self, returned: u64, after: &Call) {
+        match returned {
+            0 if get(&after.answer, 5) == 0 => self.unjoined += 1,
+            0 => self.solved += 1,
             _ => self.refused += 1,
         }
     }
@@ -72,13 +105,24 @@ impl Tally {
     }
 
     pub fn close(&self) -> ExitCode {
-        let Tally { solved, unjoined, refused, differences, .. } = self;
+        let Tally { solved, unjoined, refused, whole, differences, .. } = self;
         println!(
-            "compare: {} calls ({solved} solved, {unjoined} unjoined, {refused} refused), \
-             {differences} differences",
+            "compare: {} calls ({solved} solved, {unjoined} unjoined, {refused} refused; {whole} \
+             of them for whole totes), {differences} differences",
             self.calls()
         );
         ExitCode::from(u8::from(*differences > 0))
+    }
+}
+
+/// Of how many calls one is for whole totes as well. On a large floor the library takes as
+/// long as the second solver.
+fn share(call: &Call, returned: u64) -> u64 {
+    let large = returned == 0 && call.belts.len() / BELT > LARGE;
+    if large {
+        3
+    } else {
+        1
     }
 }
 
@@ -86,20 +130,30 @@ pub fn holds(fact: bool, otherwise: &str) -> Result<(), String> {
     fact.then_some(()).ok_or(otherwise.into())
 }
 
-fn first_difference(wanted: &(u64, Call), found: &(u64, Call)) -> Result<(), String> {
+fn first_difference(wanted: (u64, &Call), found: (u64, &Call)) -> Result<(), String> {
     holds(wanted.0 == found.0, &format!("returned {}, not {}", found.0, wanted.0))?;
-    for (name, wanted, found) in slices(&wanted.1, &found.1) {
-        if let Some(at) = wanted.iter().zip(found).position(|(a, b)| a != b) {
-            return Err(format!("{name}: byte {at} is {}, not {}", found[at], wanted[at]));
-        }
+    let mut slices = slices(wanted.1, found.1).into_iter();
+    slices.try_for_each(|(name, wanted, found)| same_bytes(name, wanted, found))
+}
+
+fn same_bytes(name: &str, wanted: &[u8], found: &[u8]) -> Result<(), String> {
+    match wanted.iter().zip(found).position(|(a, b)| a != b) {
+        Some(at) => Err(format!("{name}: byte {at} is {}, not {}", found[at], wanted[at])),
+        None => Ok(()),
     }
-    Ok(())
 }
 
 /// Comes after the comparison, whose bytes may be anything: these are plausible.
 fn checked(call: &Call, (returned, after): &(u64, Call)) -> Result<(), String> {
     match returned {
         0 => outside::check(call, after).map_err(String::from),
+        _ => Ok(()),
+    }
+}
+
+fn checked_totes(whole: &Whole, returned: u64, after: &Whole) -> Result<(), String> {
+    match returned {
+        0 => outside::check_totes(whole, after).map_err(String::from),
         _ => Ok(()),
     }
 }

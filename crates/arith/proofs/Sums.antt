@@ -3,7 +3,7 @@
 use mathlib.Core.Path.{_≡_, refl, sym, ap}
 use mathlib.Core.Logic.{⊎-elim}
 use Prim.Native.Nat.{ℕ, zero, suc, _+_, _*_, _≤_, _<_}
-use native.Mathlib.Nat.{le-refl, eq-or-lt-of-le, le-of-suc-le-suc}
+use native.Mathlib.Nat.{le-refl, le-antisymm, eq-or-lt-of-le, le-of-suc-le-suc}
 use native.Mathlib.Omega.{arith}
 use Rattle.arith.specs.Sum.{sum}
 
@@ -60,6 +60,13 @@ unfolding sum
 term-le-sum zero f i l = omega arith
 term-le-sum (suc n) f i l =
     ⊎-elim (λ (e : i ≡ n). omega (arith, ap f e)) (λ (l : i < n). omega (arith, term-le-sum n f i l)) (eq-or-lt-of-le (le-of-suc-le-suc l))
+
+-- The first terms are at most all of them.
+pub sum-part : (j n : ℕ) (f : ℕ → ℕ) → j ≤ n → sum j f ≤ sum n f
+unfolding sum
+sum-part j zero f h = rw (le-antisymm h (omega arith)) (le-refl _)
+sum-part j (suc n) f h =
+    ⊎-elim (λ (e : j ≡ suc n). rw e (le-refl _)) (λ (l : j < suc n). omega (arith, sum-part j n f (omega arith))) (eq-or-lt-of-le h)
 
 -- Exchange of two sums.
 pub sum-exchange : (n m : ℕ) (f : ℕ → ℕ → ℕ) → sum n (λ i. sum m (λ j. f i j)) ≡ sum m (λ j. sum n (λ i. f i j))

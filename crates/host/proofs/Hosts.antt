@@ -1,6 +1,6 @@
 -- The verdict on a call, by its sizes and tables first, then by its items. Assumes nothing.
 use mathlib.Core.Path.{_≡_, refl, _∙_}
-use mathlib.Core.Bool.{true, false, _||_}
+use mathlib.Core.Bool.{Bool, true, false, _||_}
 use mathlib.Core.List.{List, _++_, append-assoc}
 use Prim.Native.Nat.{ℕ, _*_, _-_, _≤_, _<_, _^_}
 use native.Mathlib.Omega.{arith}
@@ -23,42 +23,49 @@ use Rattle.network.proofs.Sizes.{sizes-kept}
 use Rattle.numbers.specs.Numbers.{count, items}
 use Rattle.packed.specs.declared.Shape.{Shape}
 use Rattle.numbers.proofs.Columns.{length-column}
-use Rattle.host.specs.Deliver.{slices, Room, Open}
+use Rattle.host.specs.Deliver.{Room, Open}
 use Rattle.decode.specs.Calls.{Shaped}
 use Rattle.decode.specs.Decode.{networkIn}
-use Rattle.host.specs.Host.{Slices, countOf, short, officeConditions, hostConditions, verdictIn}
+use Rattle.host.specs.Host.{Slices, slices, countOf, short, officeConditions, hostConditions, verdictIn}
 use Rattle.host.specs.Serve.{callConditions}
 use Rattle.host.proofs.Offices.{own, own-complete, own-count}
 
--- Nothing is short: each table has its room.
-pub room : (k m r : ℕ) (s : Slices) → short k m r s ≡ false → Room k m r (s .flow) (s .lengths) × (answerNumbers ≤ count (s .answer)) × (offices ≤ count (s .counts))
+-- Nothing is short: each table has its room, and the call lacks none of its own.
+pub room : (lacking : Bool) (k m r : ℕ) (s : Slices) → short lacking k m r s ≡ false →
+    Room k m r (s .flow) (s .lengths) × (answerNumbers ≤ count (s .answer)) × (offices ≤ count (s .counts)) × (lacking ≡ false)
 unfolding short
-room k m r s h =
-    let three = or-false-left (ltb (count (s .flow)) (k * m) || ltb (count (s .lengths)) r || ltb (count (s .answer)) answerNumbers) (ltb (count (s .counts)) offices) h in
-    let two = or-false-left (ltb (count (s .flow)) (k * m) || ltb (count (s .lengths)) r) (ltb (count (s .answer)) answerNumbers) three in (
+room lacking k m r s h =
+    let four = or-false-right lacking _ h in
+    let three = or-false-left _ (ltb (count (s .counts)) offices) four in
+    let two = or-false-left _ (ltb (count (s .answer)) answerNumbers) three in (
       record {
-        for-flow = ltb-false _ _ (or-false-left (ltb (count (s .flow)) (k * m)) (ltb (count (s .lengths)) r) two);
-        for-lengths = ltb-false _ _ (or-false-right (ltb (count (s .flow)) (k * m)) (ltb (count (s .lengths)) r) two);
+        for-flow = ltb-false _ _ (or-false-left _ (ltb (count (s .lengths)) r) two);
+        for-lengths = ltb-false _ _ (or-false-right (ltb (count (s .flow)) (k * m)) _ two);
       },
-      ltb-false _ _ (or-false-right (ltb (count (s .flow)) (k * m) || ltb (count (s .lengths)) r) (ltb (count (s .answer)) answerNumbers) three),
-      ltb-false _ _
-          (or-false-right (ltb (count (s .flow)) (k * m) || ltb (count (s .lengths)) r || ltb (count (s .answer)) answerNumbers) (ltb (count (s .counts)) offices) h),
+      ltb-false _ _ (or-false-right (ltb (count (s .flow)) (k * m) || ltb (count (s .lengths)) r) _ three),
+      ltb-false _ _ (or-false-right (ltb (count (s .flow)) (k * m) || ltb (count (s .lengths)) r || ltb (count (s .answer)) answerNumbers) _ four),
+      or-false-left lacking _ h,
     )
 
-passed : (k m r office : ℕ) (s : Slices) → Quiet (hostConditions k m r office s) → (short k m r s ≡ false) × (outside 1 offices office ≡ false) × (ltb mostRunning (countOf office (s .counts)) ≡ false)
+passed : (lacking : Bool) (k m r office : ℕ) (s : Slices) → Quiet (hostConditions lacking k m r office s) →
+    (short lacking k m r s ≡ false) × (outside 1 offices office ≡ false) × (ltb mostRunning (countOf office (s .counts)) ≡ false)
 unfolding hostConditions officeConditions
-passed k m r office s (more a (more b (more c none))) = (a, b, c)
+passed lacking k m r office s (more a (more b (more c none))) = (a, b, c)
 
 -- Neither 5, 16 nor 11: the office's count is in the table and not full, and lent by itself it is open.
-module _ (k m r office : ℕ) (s : Slices) (h : verdict (hostConditions k m r office s) ≡ Accepted) where
-  none-holds : (short k m r s ≡ false) × (outside 1 offices office ≡ false) × (ltb mostRunning (countOf office (s .counts)) ≡ false)
-  none-holds = passed k m r office s (accepted-quiet _ h)
+module _ (lacking : Bool) (k m r office : ℕ) (s : Slices) (h : verdict (hostConditions lacking k m r office s) ≡ Accepted) where
+  none-holds : (short lacking k m r s ≡ false) × (outside 1 offices office ≡ false) × (ltb mostRunning (countOf office (s .counts)) ≡ false)
+  none-holds = passed lacking k m r office s (accepted-quiet _ h)
 
   pub an-office : Within 1 offices office
   an-office = within 1 offices office (none-holds .1)
 
+  -- nor does the call lack a table of its own
+  pub lacks-none : lacking ≡ false
+  lacks-none = room lacking k m r s (none-holds .0) .3
+
   pub has-counts : offices ≤ count (s .counts)
-  has-counts = room k m r s (none-holds .0) .2
+  has-counts = room lacking k m r s (none-holds .0) .2
 
   pub has-count : office - 1 < count (s .counts)
   has-count = omega (arith, has-counts, an-office .least, an-office .most)
@@ -68,7 +75,7 @@ module _ (k m r office : ℕ) (s : Slices) (h : verdict (hostConditions k m r of
 
   pub open-for : Open k m r (slices (s .flow) (s .lengths) (s .answer) (own office (s .counts) has-count))
   open-for =
-      let e = room k m r s (none-holds .0) in
+      let e = room lacking k m r s (none-holds .0) in
       record {
         for-tables = e .0;
         for-answer = e .1;
@@ -77,43 +84,43 @@ module _ (k m r office : ℕ) (s : Slices) (h : verdict (hostConditions k m r of
       }
 
 -- The refusals before an item is read have no place.
-placeless : (n m r k q office : ℕ) (s : Slices) → Each (λ r. r .holds ≡ true → refusalCode (r .refusal) .place ≤ 65536) (callConditions n m r k q office s)
+placeless : (n m r k q office : ℕ) (lacking : Bool) (s : Slices) → Each (λ r. r .holds ≡ true → refusalCode (r .refusal) .place ≤ 65536) (callConditions n m r k q office lacking s)
 unfolding sizeConditions hostConditions officeConditions
-placeless n m r k q office s =
-    each-append {xs = sizeConditions n m r k q} {ys = hostConditions k m r office s}
+placeless n m r k q office lacking s =
+    each-append {xs = sizeConditions n m r k q} {ys = hostConditions lacking k m r office s}
     (more (λ t. omega arith) (more (λ t. omega arith) (more (λ t. omega arith) (more (λ t. omega arith) (more (λ t. omega arith) none)))))
     (more (λ t. omega arith) (more (λ t. omega arith) (more (λ t. omega arith) none)))
 
-pub call-fits : (n m r k q office : ℕ) (s : Slices) → hostNumber (verdict (callConditions n m r k q office s)) < 2 ^ 64
-call-fits n m r k q office s =
-    verdict-fits (verdict (callConditions n m r k q office s)) (λ w h. refusal-has (λ w. refusalCode w .place ≤ 65536) w (placeless n m r k q office s) h)
+pub call-fits : (n m r k q office : ℕ) (lacking : Bool) (s : Slices) → hostNumber (verdict (callConditions n m r k q office lacking s)) < 2 ^ 64
+call-fits n m r k q office lacking s =
+    verdict-fits (verdict (callConditions n m r k q office lacking s)) (λ w h. refusal-has (λ w. refusalCode w .place ≤ 65536) w (placeless n m r k q office lacking s) h)
 
 -- None of them: counts are within their bounds, and the tables are as 5, 16 and 11 ask.
-module _ (n m r k q office : ℕ) (s : Slices) (h : verdict (callConditions n m r k q office s) ≡ Accepted) where
-  quiet : Quiet (callConditions n m r k q office s)
-  quiet = accepted-quiet (callConditions n m r k q office s) h
+module _ (n m r k q office : ℕ) (lacking : Bool) (s : Slices) (h : verdict (callConditions n m r k q office lacking s) ≡ Accepted) where
+  quiet : Quiet (callConditions n m r k q office lacking s)
+  quiet = accepted-quiet (callConditions n m r k q office lacking s) h
 
   pub call-counts : Counts n m r k q
-  call-counts = sizes-kept n m r k q (each-left (sizeConditions n m r k q) (hostConditions k m r office s) quiet)
+  call-counts = sizes-kept n m r k q (each-left (sizeConditions n m r k q) (hostConditions lacking k m r office s) quiet)
 
-  pub call-open : verdict (hostConditions k m r office s) ≡ Accepted
+  pub call-open : verdict (hostConditions lacking k m r office s) ≡ Accepted
   call-open = quiet-accepted (each-right (sizeConditions n m r k q) quiet)
 
 -- By the shape of the bytes.
-module _ {n : ℕ} (q office : ℕ) {belts pairs limits : List ℕ} (t : Slices) {s : Shape} (h : Shaped n belts pairs limits s) where
+module _ {n : ℕ} (q office : ℕ) (lacking : Bool) {belts pairs limits : List ℕ} (t : Slices) {s : Shape} (h : Shaped n belts pairs limits s) where
   abbrev net : Network
   net = networkIn n belts pairs limits
 
   abbrev conditions : List Condition
-  conditions = callConditions (s .nodes) (s .arcs) (s .resources) (s .commodities) q office t
+  conditions = callConditions (s .nodes) (s .arcs) (s .resources) (s .commodities) q office lacking t
 
-  by-items : verdictIn net q office t ≡ verdict (conditions ++ itemConditions net)
+  by-items : verdictIn lacking net q office t ≡ verdict (conditions ++ itemConditions net)
   unfolding verdictOn networkIn
   by-items =
       rw (h .nodes, h .arcs, h .commodities, h .counted, length-column belts 4 0 (items 4 belts), length-column pairs 2 0 (items 2 pairs), append-assoc) refl
 
-  pub refused-in : (w : Refusal) → verdict conditions ≡ Refused w → verdictIn net q office t ≡ Refused w
+  pub refused-in : (w : Refusal) → verdict conditions ≡ Refused w → verdictIn lacking net q office t ≡ Refused w
   refused-in w e = by-items ∙ first-refuses conditions _ w e
 
-  pub accepted-in : verdict conditions ≡ Accepted → verdictIn net q office t ≡ verdict (itemConditions net)
+  pub accepted-in : verdict conditions ≡ Accepted → verdictIn lacking net q office t ≡ verdict (itemConditions net)
   accepted-in e = by-items ∙ first-accepts conditions _ e

@@ -1,7 +1,8 @@
 -- What a host reads back from the tables of an accepted call is the outcome's numbers, none of them cut. Assumes nothing.
-use mathlib.Core.Path.{_≡_, ap, _∙_}
+use mathlib.Core.Path.{_≡_, sym, ap, _∙_}
+use mathlib.Core.Bool.{Bool, false}
 use mathlib.Core.List.{List, map}
-use Prim.Native.Nat.{ℕ, _+_, _*_, _-_, _<_}
+use Prim.Native.Nat.{ℕ, _+_, _*_, _-_, _≤_, _<_}
 use native.Mathlib.Nat.{mul-le-mul-right}
 use native.Mathlib.Omega.{arith}
 use lib.ListN.{length, getD}
@@ -14,37 +15,43 @@ use Rattle.network.specs.Verdict.{verdict, afterwards}
 use Rattle.network.specs.declared.Verdict.{Verdict}
 use Rattle.network.specs.declared.Verdict.the-variants.{Accepted}
 use Rattle.network.proofs.Accepted.{accepted-sound}
+use Rattle.network.proofs.HostNumber.{zero-accepted, other-kept}
 use Rattle.numbers.specs.Numbers.{count, numberAt, written}
 use Rattle.numbers.proofs.Puts.{numberAt-putAt, numberAt-putAt-other}
 use Rattle.numbers.proofs.Signed.{signed-read}
 use Rattle.numbers.proofs.Tables.{numberAt-written}
 use Rattle.method.specs.Answer.{amounts, numbersOf, outcome}
 use Rattle.method.specs.Fits.{Words}
-use Rattle.decode.specs.Decode.{networkIn}
-use Rattle.host.specs.Host.{Slices, countOf, raised, hostConditions, verdictIn, Hosted}
+use Rattle.host.specs.Deliver.{Room}
+use Rattle.host.specs.Host.{Slices, countOf, raised, hostConditions, verdictIn, Served}
 use Rattle.host.proofs.Counting.{count-small}
-use Rattle.host.proofs.Hosts.{has-count, not-full}
+use Rattle.host.proofs.Hosts.{lacks-none, has-count, not-full, open-for}
 
--- A table of an accepted call, and a number written into it.
-accepted-table : {v : Verdict} (old xs : List ℕ) {new : List ℕ} → v ≡ Accepted → new ≡ afterwards v (written old xs) old → new ≡ written old xs
+-- What an accepted call leaves of a table, and a number written into it.
+pub taken-up : {A : Type 0} {v : Verdict} → v ≡ Accepted → (x y : A) → afterwards v x y ≡ x
 unfolding afterwards
-accepted-table old xs a e = e ∙ ap (λ v. afterwards v (written old xs) old) a
+taken-up a x y = ap (λ v. afterwards v x y) a
+
+accepted-table : {v : Verdict} (old xs : List ℕ) {new : List ℕ} → v ≡ Accepted → new ≡ afterwards v (written old xs) old → new ≡ written old xs
+accepted-table old xs a e = e ∙ taken-up a (written old xs) old
 
 read-back : {v : Verdict} (old xs : List ℕ) {new : List ℕ} → v ≡ Accepted → new ≡ afterwards v (written old xs) old → Words xs → (i : ℕ) → i < length xs → numberAt new i ≡ getD xs i 0
 read-back old xs a e w i l = ap (λ s. numberAt s i) (accepted-table old xs a e) ∙ numberAt-written old xs i l (w i)
+
+-- A call that returned 0 was accepted; what another leaves of a table of its own is that table as it was.
+pub answered : {net : Network} {q office r : ℕ} {v : Verdict} {old new : Slices} → Served net q office v old new r → r ≡ 0 → v ≡ Accepted
+answered {v = v} h e = zero-accepted v (sym (h .returned) ∙ e)
+
+pub turned-down :
+    {net : Network} {q office r : ℕ} {v : Verdict} {old new : Slices} → Served net q office v old new r → (r ≡ 0 → ⊥) → {A : Type 0} (x y : A) → afterwards v x y ≡ y
+turned-down {v = v} h ne x y = other-kept v x y (λ e. ne (h .returned ∙ e))
 
 -- place e of row i, m places a row
 within : (i k e m : ℕ) → i < k → e < m → i * m + e < k * m
 within i k e m h l = omega (arith, mul-le-mul-right m h)
 
-module _ (n q office : ℕ) (belts pairs limits : List ℕ) (old new : Slices) (r : ℕ) (h : Hosted n q office belts pairs limits old new r)
-    (a : verdictIn (networkIn n belts pairs limits) q office old ≡ Accepted) where
-  abbrev net : Network
-  net = networkIn n belts pairs limits
-
-  accepted : Sound net q × (verdict (hostConditions (commodities net) (arcs net) (resources net) office old) ≡ Accepted)
-  accepted = accepted-sound net q (hostConditions (commodities net) (arcs net) (resources net) office old) a
-
+-- The tables.
+module _ {net : Network} {q office r : ℕ} {v : Verdict} {old new : Slices} (h : Served net q office v old new r) (a : v ≡ Accepted) where
   pub amount-read : (i e : ℕ) → i < commodities net → e < arcs net →
       fromTwos (numberAt (new .flow) (i * arcs net + e)) ≡ amounts net (outcome net q .flow) i e
   unfolding amounts
@@ -63,24 +70,34 @@ module _ (n q office : ℕ) (belts pairs limits : List ℕ) (old new : Slices) (
   unfolding numbersOf
   answer-read j l = read-back (old .answer) (numbersOf (outcome net q .answer)) a (h .answer) (h .guarantee a .fits .answer) j l
 
+module _ (lacking : Bool) (net : Network) (q office : ℕ) (old : Slices) (a : verdictIn lacking net q office old ≡ Accepted) where
+  pub accepted : Sound net q × (verdict (hostConditions lacking (commodities net) (arcs net) (resources net) office old) ≡ Accepted)
+  accepted = accepted-sound net q (hostConditions lacking (commodities net) (arcs net) (resources net) office old) a
+
+  -- The tables had their room, and the call lacked none of its own.
+  pub had-room : Room (commodities net) (arcs net) (resources net) (old .flow) (old .lengths) × (answerNumbers ≤ count (old .answer)) × (lacking ≡ false)
+  had-room =
+      let o = open-for lacking (commodities net) (arcs net) (resources net) office old (accepted .1) in
+      (o .for-tables, o .for-answer, lacks-none lacking (commodities net) (arcs net) (resources net) office old (accepted .1))
+
   -- The office's count is raised, and no other number of the table has changed.
-  raises : new .counts ≡ raised office (outcome net q .answer .count) (old .counts)
-  unfolding afterwards
-  raises = h .counts ∙ ap (λ v. afterwards v (raised office (outcome net q .answer .count) (old .counts)) (old .counts)) a
+  module _ {new : Slices} {r : ℕ} (h : Served net q office (verdictIn lacking net q office old) old new r) where
+    raises : new .counts ≡ raised office (outcome net q .answer .count) (old .counts)
+    raises = h .counts ∙ taken-up a (raised office (outcome net q .answer .count) (old .counts)) (old .counts)
 
-  there : office - 1 < count (old .counts)
-  there = has-count (commodities net) (arcs net) (resources net) office old (accepted .1)
+    there : office - 1 < count (old .counts)
+    there = has-count lacking (commodities net) (arcs net) (resources net) office old (accepted .1)
 
-  pub count-read : countOf office (new .counts) ≡ countOf office (old .counts) + outcome net q .answer .count
-  count-read =
-      ap (countOf office) raises ∙
-      numberAt-putAt (old .counts) (office - 1) (countOf office (old .counts) + outcome net q .answer .count) there
-      (omega (
-        arith,
-        count-small net q (accepted .0) (outcome net q) (h .guarantee a),
-        not-full (commodities net) (arcs net) (resources net) office old (accepted .1),
-      ))
+    pub count-read : countOf office (new .counts) ≡ countOf office (old .counts) + outcome net q .answer .count
+    count-read =
+        ap (countOf office) raises ∙
+        numberAt-putAt (old .counts) (office - 1) (countOf office (old .counts) + outcome net q .answer .count) there
+        (omega (
+          arith,
+          count-small net q (accepted .0) (outcome net q) (h .guarantee a),
+          not-full lacking (commodities net) (arcs net) (resources net) office old (accepted .1),
+        ))
 
-  pub others-read : (i : ℕ) → (i ≡ office - 1 → ⊥) → numberAt (new .counts) i ≡ numberAt (old .counts) i
-  others-read i ne =
-      ap (λ s. numberAt s i) raises ∙ numberAt-putAt-other (old .counts) (office - 1) (countOf office (old .counts) + outcome net q .answer .count) there i ne
+    pub others-read : (i : ℕ) → (i ≡ office - 1 → ⊥) → numberAt (new .counts) i ≡ numberAt (old .counts) i
+    others-read i ne =
+        ap (λ s. numberAt s i) raises ∙ numberAt-putAt-other (old .counts) (office - 1) (countOf office (old .counts) + outcome net q .answer .count) there i ne

@@ -1,4 +1,4 @@
--- The call for a host in C: what every one of its byte slices holds afterwards. Document 01, "The floor and its flow".
+-- The calls for a host in C: what every byte slice that they share holds afterwards. Document 01, "The floor and its flow".
 use mathlib.Core.Path.{_≡_}
 use mathlib.Core.Bool.{Bool, _||_}
 use mathlib.Core.List.{List, [], _∷_, map}
@@ -18,12 +18,16 @@ use Rattle.decode.specs.Decode.{networkIn}
 use Rattle.method.specs.Answer.{outcome, numbersOf}
 use Rattle.method.specs.Guarantee.{Guarantee}
 
--- The bytes of the slices that the call may write, at its start or at its end: the last is the table of counts.
+-- The bytes of the slices that every call may write, at its start or at its end: the last is the table of counts.
 pub record Slices : Type 0 where
   pub flow : List ℕ
   pub lengths : List ℕ
   pub answer : List ℕ
   pub counts : List ℕ
+
+-- The four of them, for the contracts of functions.
+abbrev pub slices : List ℕ → List ℕ → List ℕ → List ℕ → Slices
+slices flow lengths answer counts = record { flow = flow; lengths = lengths; answer = answer; counts = counts }
 
 -- An office's running count, in a table with one for each office in order, the first for office 1.
 abbrev pub countOf : ℕ → List ℕ → ℕ
@@ -34,22 +38,24 @@ countOf office counts = numberAt counts (office - 1)
 abbrev pub raised : ℕ → ℕ → List ℕ → List ℕ
 raised office iterations counts = putAt counts (office - 1) (countOf office counts + iterations)
 
--- A lent table is too small for what the call may write, k commodities on m arcs with r resources.
-unfoldable pub short : ℕ → ℕ → ℕ → Slices → Bool
-short k m r s =
-    ltb (count (s .flow)) (k * m) || ltb (count (s .lengths)) r || ltb (count (s .answer)) answerNumbers || ltb (count (s .counts)) offices
+-- A lent table is too small for what the call may write, k commodities on m arcs with r resources: one of those that the call has beside these
+-- (lacking), or one of these.
+unfoldable pub short : Bool → ℕ → ℕ → ℕ → Slices → Bool
+short lacking k m r s =
+    lacking ||
+    (ltb (count (s .flow)) (k * m) || ltb (count (s .lengths)) r || ltb (count (s .answer)) answerNumbers || ltb (count (s .counts)) offices)
 
 -- 16, and 11 of that office alone.
 unfoldable pub officeConditions : ℕ → List ℕ → List Condition
 officeConditions office counts = when (outside 1 offices office) Office ∷ when (ltb mostRunning (countOf office counts)) FullCount ∷ []
 
--- 5, 16 and 11 concern this call.
-unfoldable pub hostConditions : ℕ → ℕ → ℕ → ℕ → Slices → List Condition
-hostConditions k m r office s = when (short k m r s) ShortTable ∷ officeConditions office (s .counts)
+-- 5, 16 and 11 concern these calls.
+unfoldable pub hostConditions : Bool → ℕ → ℕ → ℕ → ℕ → Slices → List Condition
+hostConditions lacking k m r office s = when (short lacking k m r s) ShortTable ∷ officeConditions office (s .counts)
 
--- The verdict on the call.
-abbrev pub verdictIn : Network → ℕ → ℕ → Slices → Verdict
-verdictIn net q office s = verdictOn net q (hostConditions (commodities net) (arcs net) (resources net) office s)
+-- The verdict on a call.
+abbrev pub verdictIn : Bool → Network → ℕ → ℕ → Slices → Verdict
+verdictIn lacking net q office s = verdictOn net q (hostConditions lacking (commodities net) (arcs net) (resources net) office s)
 
 -- What a call with the verdict v on the slices old leaves: its result; in each table the outcome's numbers first, amounts in two's complement, and
 -- later bytes as they were; the office's count raised by the iterations; and where it is accepted, all that holds of the outcome.
@@ -61,7 +67,7 @@ pub record Served (net : Network) (q office : ℕ) (v : Verdict) (old new : Slic
   pub counts : new .counts ≡ afterwards v (raised office (outcome net q .answer .count) (old .counts)) (old .counts)
   pub guarantee : v ≡ Accepted → Guarantee net q (outcome net q)
 
--- The contract of the call.
-abbrev pub Hosted : ℕ → ℕ → ℕ → List ℕ → List ℕ → List ℕ → Slices → Slices → ℕ → Type 0
-Hosted n q office belts pairs limits old new result =
-    Served (networkIn n belts pairs limits) q office (verdictIn (networkIn n belts pairs limits) q office old) old new result
+-- What every call that solves promises; one that writes nothing else lacks no table, and promises no more.
+abbrev pub Hosted : Bool → ℕ → ℕ → ℕ → List ℕ → List ℕ → List ℕ → Slices → Slices → ℕ → Type 0
+Hosted lacking n q office belts pairs limits old new result =
+    Served (networkIn n belts pairs limits) q office (verdictIn lacking (networkIn n belts pairs limits) q office old) old new result

@@ -1,11 +1,12 @@
--- A draw of g along a path of commodity i leaves a flow a flow, adds g to its total, and adds no more than g to the sizes on its arcs and the uses of its
--- nodes.
+-- A draw of g along a path of commodity i leaves a flow a flow, adds g to its total, adds no more than g to the sizes on its arcs and the uses of its
+-- nodes, and brings nothing into the sources, each commodity's own into its own.
 -- Assumes nothing.
 use mathlib.Core.Path.{_≡_, refl, ap, _∙_}
 use mathlib.Core.Bool.{Bool, true, false}
 use mathlib.Core.List.{List, [], _∷_}
 use mathlib.Core.Option.{Option·some-injective}
 use Prim.Native.Nat.{ℕ, _+_, _*_, _≤_, _<_, max}
+use native.Mathlib.Nat.{le-of-eq, mul-le-mul-right}
 use native.Mathlib.Omega.{arith}
 use borrow.Author.Tests.{eqb-true, eqb-false}
 use lib.Dec.{eqb}
@@ -163,6 +164,22 @@ module _ (net : Network) (i g : ℕ) (listed : i < commodities net) where
           drawn-out (source net i) (sink net i) p flow path sized v,
           drawn-in (source net i) (sink net i) p flow path sized v,
         )
+
+    -- Nothing more of any commodity enters its source, if the path does not come back to its own.
+    pub sources-stay : times (source net i) (visited net (source net i) p) ≤ 1 →
+        (j : ℕ) → inflow net (amounts net next j) (source net j) ≤ inflow net (amounts net flow j) (source net j)
+    sources-stay one j = by-test (eqb j i) refl
+      where
+        by-test : (t : Bool) → eqb j i ≡ t → inflow net (amounts net next j) (source net j) ≤ inflow net (amounts net flow j) (source net j)
+        by-test false h = le-of-eq (in-other j (source net j) (eqb-false j i h))
+        by-test true h =
+            rw (eqb-true j i h)
+            (omega (
+              arith,
+              drawn-in (source net i) (sink net i) p flow path sized (source net i),
+              ap (λ x. x * g) (once-same (source net i)),
+              mul-le-mul-right g one,
+            ))
 
     -- It is a flow still.
     pub stays-flow : Flow net (amounts net flow) → Flow net (amounts net next)

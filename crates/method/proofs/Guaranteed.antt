@@ -14,7 +14,7 @@ use lib.IntN.{ℤ}
 use lib.ListN.{getD}
 use Rattle.arith.proofs.Exists.{exists-true}
 use Rattle.length.specs.Level.{level, threshold}
-use Rattle.network.specs.Network.{Network, arcs, commodities}
+use Rattle.network.specs.Network.{Network, arcs, commodities, source}
 use Rattle.network.specs.Flow.{Flow, Keeps, AtMost}
 use Rattle.network.specs.Path.{Joined}
 use Rattle.network.specs.Resources.{place, resources, rooms, room}
@@ -40,7 +40,7 @@ use Rattle.method.proofs.Instance.{seen, iterated}
 use Rattle.method.proofs.Joining.{choice-none, none-by-any}
 use Rattle.method.proofs.Programs.{program}
 use Rattle.method.proofs.Reached.{Best, unset, kept, Valid, valid-step, chosen-at, fair}
-use Rattle.method.proofs.Table.{zero-flow, zero-carries, zero-load, zero-use}
+use Rattle.method.proofs.Table.{in-zero, zero-flow, zero-carries, zero-load, zero-use}
 
 -- T * ce ≤ ye and ye / ce ≤ yb / cb give T * cb ≤ yb.
 ratio-le : (T ce cb ye yb : ℕ) → 0 < ce → T * ce ≤ ye → ye * cb ≤ yb * ce → T * cb ≤ yb
@@ -161,6 +161,7 @@ module _ (net : Network) (q : ℕ) (sound : Sound net q) where
           joins = chosen-joins sizes;
           flow = valid .table .flows;
           total = valid .table .carries;
+          sources = λ i l. valid .table .sources i;
           capacities = λ e l.
               omega (
                 arith,
@@ -195,6 +196,7 @@ module _ (net : Network) (q : ℕ) (sound : Sound net q) where
         joins = (λ e i l j. choice-none net (sound-ends net q sound) (initial net .lengths) i l j h, λ none. refl);
         flow = zero-flow net (commodities net * arcs net);
         total = zero-carries net (commodities net * arcs net);
+        sources = λ i l. in-zero net (commodities net * arcs net) i (source net i);
         capacities = λ e l. omega (arith, zero-load net (commodities net * arcs net) e);
         limits = λ v l h. omega (arith, zero-use net (commodities net * arcs net) v);
         some-load = omega arith;

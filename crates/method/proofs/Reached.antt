@@ -150,7 +150,7 @@ module _ (net : Network) (q : ℕ) (sound : Sound net q) where
       let x = chosen-at s v c h in
       record {
         run = packing.Run.next (v .run) (iterated net q c s (fair s v c h));
-        table = table-step net q c s (x .path) (used-below s v c x) (x .commodity) (sound-ends net q sound .apart (c .commodity) (x .commodity)) (v .table);
+        table = table-step net q c s x (used-below s v c x) (sound-ends net q sound .apart (c .commodity) (x .commodity)) (v .table);
         lengths = lengths-length s v c;
         bests = bests-length s v c;
         best = best-step s v c x;

@@ -1,4 +1,5 @@
--- The flow table at every state of a run: it is a flow of total F, and the sizes of its amounts and the uses of the limited nodes are within the loads.
+-- The flow table at every state of a run: it is a flow of total F, nothing of a commodity enters its own source, and the sizes of its amounts and the uses
+-- of the limited nodes are within the loads.
 -- Assumes nothing.
 use mathlib.Core.Path.{_≡_, refl, sym, ap, _∙_}
 use mathlib.Core.Bool.{Bool, true, false, cond}
@@ -14,13 +15,14 @@ use Rattle.arith.proofs.Order.{le-or-lt}
 use Rattle.arith.proofs.Sums.{sum-cong, sum-zero}
 use Rattle.signed.specs.Signed.{ahead, back, size}
 use Rattle.network.specs.Network.{Network, arcs, commodities, tail, head, limited, source, sink}
-use Rattle.network.specs.Path.{Path}
 use Rattle.network.specs.Resources.{place, resources, rooms}
 use Rattle.network.specs.Flow.{Flow, Carries, passing, outflow, inflow, loadOf, useOf, leaving, entering}
 use Rattle.method.specs.Choice.{Choice, usedBy}
+use Rattle.method.specs.Chosen.{Chosen}
 use Rattle.method.specs.Iteration.{State, initial, draw, advance}
 use Rattle.method.specs.Answer.{amounts}
-use Rattle.method.proofs.Drawn.{drawn-sized, drawn-load, drawn-use, stays-flow, carries-more}
+use Rattle.method.proofs.Drawn.{drawn-sized, drawn-load, drawn-use, sources-stay, stays-flow, carries-more}
+use Rattle.method.proofs.Once.{distinct-once}
 use Rattle.method.proofs.Times.{Below, update-length, update-adds}
 use Rattle.method.proofs.Used.{arc-used, node-used}
 
@@ -29,6 +31,7 @@ pub record Table (net : Network) (flow : List ℤ) (loads : List ℕ) (total : �
   pub places : length loads ≡ resources net
   pub flows : Flow net (amounts net flow)
   pub carries : Carries net (amounts net flow) total
+  pub sources : (i : ℕ) → inflow net (amounts net flow i) (source net i) ≡ 0
   pub within : (e : ℕ) → e < arcs net → loadOf net (amounts net flow) e ≤ getD loads e 0
   pub limits : (v : ℕ) → limited net v ≡ true → useOf net (amounts net flow) v ≤ getD loads (place net v) 0
 
@@ -61,7 +64,7 @@ module _ (net : Network) (n : ℕ) where
   unfolding outflow ahead back
   out-zero i v = omega (arith, at-zero ahead (tail net) refl i v, at-zero back (head net) refl i v)
 
-  in-zero : (i v : ℕ) → inflow net (nothing i) v ≡ 0
+  pub in-zero : (i v : ℕ) → inflow net (nothing i) v ≡ 0
   unfolding inflow ahead back
   in-zero i v = omega (arith, at-zero ahead (head net) refl i v, at-zero back (tail net) refl i v)
 
@@ -99,16 +102,19 @@ table-start net =
       places = length-replicate (resources net) 0;
       flows = zero-flow net (commodities net * arcs net);
       carries = zero-carries net (commodities net * arcs net);
+      sources = λ i. in-zero net (commodities net * arcs net) i (source net i);
       within = λ e l. omega (arith, zero-load net (commodities net * arcs net) e);
       limits = λ v h. omega (arith, zero-use net (commodities net * arcs net) v);
     }
 
 pub table-step :
-    (net : Network) (q : ℕ) (c : Choice) (s : State) → Path net (source net (c .commodity)) (sink net (c .commodity)) (c .path) →
-    Below (resources net) (usedBy net c) → c .commodity < commodities net → (source net (c .commodity) ≡ sink net (c .commodity) → ⊥) → Table net (s .flow) (s .loads) (s .total) →
+    (net : Network) (q : ℕ) (c : Choice) (s : State) → Chosen net (s .lengths) c → Below (resources net) (usedBy net c) →
+    (source net (c .commodity) ≡ sink net (c .commodity) → ⊥) → Table net (s .flow) (s .loads) (s .total) →
     Table net (advance net q c s .flow) (advance net q c s .loads) (advance net q c s .total)
 unfolding advance
-table-step net q c s path below listed apart w =
+table-step net q c s x below apart w =
+    let path = x .path in
+    let listed = x .commodity in
     let g : ℕ = draw (rooms net) (usedBy net c) in
     let v : ℕ = source net (c .commodity) in
     let t : ℕ = sink net (c .commodity) in
@@ -117,6 +123,8 @@ table-step net q c s path below listed apart w =
       places = update-length (λ e x. x + g) (usedBy net c) (s .loads) ∙ w .places;
       flows = stays-flow net (c .commodity) g listed (c .path) path (s .flow) (w .rows) (w .flows);
       carries = carries-more net (c .commodity) g listed (c .path) path (s .flow) (w .rows) (s .total) apart (w .carries);
+      sources = λ i.
+          omega (arith, sources-stay net (c .commodity) g listed (c .path) path (s .flow) (w .rows) (distinct-once (x .distinct) v) i, w .sources i);
       within = λ e l.
           omega (
             arith,

@@ -7,8 +7,8 @@ use mathlib.Core.Bool.{true}
 use Prim.Native.Nat.{ℕ, _+_, _*_, _-_, _≤_, _<_}
 use lib.IntN.{ℤ}
 use Rattle.length.specs.Level.{threshold}
-use Rattle.network.specs.Network.{Network, arcs, commodities, capacity, limit, limited}
-use Rattle.network.specs.Flow.{Flow, Keeps, Carries, AtMost, loadOf, useOf}
+use Rattle.network.specs.Network.{Network, arcs, commodities, capacity, limit, limited, source}
+use Rattle.network.specs.Flow.{Flow, Keeps, Carries, AtMost, inflow, loadOf, useOf}
 use Rattle.network.specs.Path.{Joined}
 use Rattle.network.specs.Resources.{resources}
 use Rattle.method.specs.Answer.{Outcome, amounts, unjoined}
@@ -21,6 +21,8 @@ pub record Guarantee (net : Network) (q : ℕ) (o : Outcome) : Type 0 where
   -- The table is a flow, and carries F.
   pub flow : Flow net (amounts net (o .flow))
   pub total : Carries net (amounts net (o .flow)) (o .answer .total)
+  -- Nothing of a commodity enters its own source: what it carries is what leaves it.
+  pub sources : (i : ℕ) → i < commodities net → inflow net (amounts net (o .flow) i) (source net i) ≡ 0
   -- After its scale c(b) / Y(b) it keeps every capacity, and every limit.
   pub capacities : (e : ℕ) → e < arcs net → loadOf net (amounts net (o .flow)) e * o .answer .capacity ≤ capacity net e * o .answer .load
   pub limits :

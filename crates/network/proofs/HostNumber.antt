@@ -6,34 +6,44 @@ use native.Mathlib.Omega.{arith}
 use Rattle.network.specs.Network.{Network, arcs, commodities}
 use Rattle.network.specs.Refusal.{refusalCode, hostNumber}
 use Rattle.network.specs.Resources.{resources}
-use Rattle.network.specs.Sound.{Counts}
-use Rattle.network.specs.Verdict.{verdict, sizeConditions, itemConditions}
+use Rattle.network.specs.Sound.{Within, Counts}
+use Rattle.network.specs.Verdict.{verdict, sizeConditions, itemConditions, afterwards}
 use Rattle.network.specs.declared.Refusal.{Refusal}
 use Rattle.network.specs.declared.Refusal.the-variants.{Nodes, Arcs, Commodities, Precision, ShortTable, LooseArc, Capacity, LooseCommodity, Layout, LongFile, FullCount, Limit, Resources, Office}
 use Rattle.network.specs.declared.Verdict.{Verdict}
 use Rattle.network.specs.declared.Verdict.the-variants.{Accepted, Refused}
 use Rattle.network.proofs.Faults.{SizeFault, ItemFault, of-nodes, of-arcs, of-resources, of-commodities, of-precision, of-ends, of-capacity, of-limit, of-commodity, size-refused, item-refused}
 
--- numbers to 16, each its own case
-number-most : (w : Refusal) → refusalCode w .number ≤ 16
-number-most Nodes = omega arith
-number-most Arcs = omega arith
-number-most Commodities = omega arith
-number-most Precision = omega arith
-number-most ShortTable = omega arith
-number-most (LooseArc p) = omega arith
-number-most (Capacity p) = omega arith
-number-most (LooseCommodity p) = omega arith
-number-most (Layout p) = omega arith
-number-most LongFile = omega arith
-number-most FullCount = omega arith
-number-most (Limit p) = omega arith
-number-most Resources = omega arith
-number-most Office = omega arith
+-- numbers from 1 to 16, each its own case
+numbered : (w : Refusal) → Within 1 16 (refusalCode w .number)
+numbered Nodes = record { least = omega arith; most = omega arith }
+numbered Arcs = record { least = omega arith; most = omega arith }
+numbered Commodities = record { least = omega arith; most = omega arith }
+numbered Precision = record { least = omega arith; most = omega arith }
+numbered ShortTable = record { least = omega arith; most = omega arith }
+numbered (LooseArc p) = record { least = omega arith; most = omega arith }
+numbered (Capacity p) = record { least = omega arith; most = omega arith }
+numbered (LooseCommodity p) = record { least = omega arith; most = omega arith }
+numbered (Layout p) = record { least = omega arith; most = omega arith }
+numbered LongFile = record { least = omega arith; most = omega arith }
+numbered FullCount = record { least = omega arith; most = omega arith }
+numbered (Limit p) = record { least = omega arith; most = omega arith }
+numbered Resources = record { least = omega arith; most = omega arith }
+numbered Office = record { least = omega arith; most = omega arith }
 
 -- For a refusal of a file too: 65,536 bytes are at most as many lines.
 pub refusal-fits : (w : Refusal) → refusalCode w .place ≤ 65536 → hostNumber (Refused w) < 2 ^ 64
-refusal-fits w h = omega (arith, number-most w)
+refusal-fits w h = omega (arith, numbered w .most)
+
+-- Only what is accepted returns 0, and what returns another number leaves the tables as they were.
+pub zero-accepted : (v : Verdict) → hostNumber v ≡ 0 → v ≡ Accepted
+zero-accepted Accepted h = refl
+zero-accepted (Refused w) h = absurd (omega (arith, numbered w .least))
+
+pub other-kept : {A : Type 0} (v : Verdict) (new old : A) → (hostNumber v ≡ 0 → ⊥) → afterwards v new old ≡ old
+unfolding afterwards
+other-kept Accepted new old h = absurd (h refl)
+other-kept (Refused w) new old h = refl
 
 -- A verdict whose refusals have places that small.
 pub verdict-fits : (v : Verdict) → ((w : Refusal) → v ≡ Refused w → refusalCode w .place ≤ 65536) → hostNumber v < 2 ^ 64

@@ -61,6 +61,15 @@ unfolding ahead back twos fromTwos
 twos-read (pos n) h = rw (lt-ltb n (2 ^ 63) (omega arith))
 twos-read (negsuc n) h = rw (le-ltb (2 ^ 64 - suc n) (2 ^ 63) (omega arith)) (ap negsuc (omega arith))
 
+-- By its highest bit.
+pub reads-ahead : (u : ℕ) → u < 2 ^ 63 → fromTwos u ≡ pos u
+unfolding fromTwos
+reads-ahead u h = rw (lt-ltb u (2 ^ 63) h)
+
+pub reads-back : (u : ℕ) → 2 ^ 63 ≤ u → fromTwos u ≡ negsuc (2 ^ 64 - 1 - u)
+unfolding fromTwos
+reads-back u h = rw (le-ltb u (2 ^ 63) h)
+
 -- Moved by a draw, an amount grows in size by no more than the draw.
 pub moved-size : (b : Bool) (g : ℕ) (x : ℤ) → size (moved b g x) ≤ size x + g
 moved-size true g x = more-size x g

@@ -2,7 +2,7 @@
 ghost use mathlib.Core.Path.{_≡_};
 ghost use Prim.Native.Nat.{_+_, _^_, _<_};
 ghost use lib.IntN.{pos, _+ℤ_, _-ℤ_};
-ghost use Rattle.signed.specs.Signed.{size, twos};
+ghost use Rattle.signed.specs.Signed.{ahead, back, size, twos, fromTwos};
 
 // x and g more.
 pub fn more(x: i64, g: u64) -> i64
@@ -42,5 +42,23 @@ pub fn twos(x: i64) -> u64
         0xffff_ffff_ffff_ffff - y as u64
     } else {
         x as u64
+    }
+}
+
+// What goes forward, of an amount in two's complement.
+pub fn ahead(u: u64) -> u64
+    ensures { λ r. ⌜ r ≡ ahead (fromTwos u) ⌝ }
+{
+    if u < 0x8000_0000_0000_0000 { u } else { 0 }
+}
+
+// What goes back, of an amount in two's complement.
+pub fn back(u: u64) -> u64
+    ensures { λ r. ⌜ r ≡ back (fromTwos u) ⌝ }
+{
+    if u < 0x8000_0000_0000_0000 {
+        0
+    } else {
+        0xffff_ffff_ffff_ffff - u + 1
     }
 }

@@ -12,8 +12,7 @@ use Rattle.network.specs.Verdict.{Condition, verdict}
 use Rattle.network.specs.declared.Verdict.the-variants.{Accepted}
 use Rattle.decode.specs.Calls.{Shaped}
 use Rattle.decode.specs.Decode.{networkIn}
-use Rattle.host.specs.Deliver.{slices}
-use Rattle.host.specs.Host.{Slices, hostConditions, verdictIn}
+use Rattle.host.specs.Host.{Slices, slices, hostConditions, verdictIn}
 use Rattle.host.specs.Serve.{callConditions}
 use Rattle.host.proofs.Hosts.{an-office, has-counts, has-count, open-for, call-fits, call-counts, call-open, refused-in, accepted-in}
 use Rattle.host.proofs.Judged.{judged-of, served-refused, served-own}
@@ -44,7 +43,7 @@ serve-at c = c .before .before .before .before .before .before .before .before
 abbrev conditions : tie.After-shape → List Condition
 conditions c =
     let s = c .shape .result in
-    callConditions (s .nodes) (s .arcs) (s .resources) (s .commodities) (entry c .args .q) (entry c .args .office) (lent (entry c))
+    callConditions (s .nodes) (s .arcs) (s .resources) (s .commodities) (entry c .args .q) (entry c .args .office) (entry c .args .lacking) (lent (entry c))
 
 passed : (c : tie.After-enum-told2) → verdict (conditions (shape-at (c .before .before))) ≡ Accepted
 passed c = sym (c .before .before .check-call .ensures) ∙ c .enum-told2 .given .1
@@ -54,14 +53,14 @@ opened :
     (c : tie.After-enum-told2) →
     let i = shape-at (c .before .before) in
     let s = i .shape .result in
-    verdict (hostConditions (s .commodities) (s .arcs) (s .resources) (entry i .args .office) (lent (entry i))) ≡ Accepted
-opened c = call-open _ _ _ _ _ _ (lent (entry (shape-at (c .before .before)))) (passed c)
+    verdict (hostConditions (entry i .args .lacking) (s .commodities) (s .arcs) (s .resources) (entry i .args .office) (lent (entry i))) ≡ Accepted
+opened c = call-open _ _ _ _ _ _ _ (lent (entry (shape-at (c .before .before)))) (passed c)
 
 office-is : (c : tie.After-enum-told2) → Within 1 offices (entry (shape-at (c .before .before)) .args .office)
-office-is c = an-office _ _ _ _ (lent (entry (shape-at (c .before .before)))) (opened c)
+office-is c = an-office _ _ _ _ _ (lent (entry (shape-at (c .before .before)))) (opened c)
 
 host-number-requires : tie.Need-host-number-requires
-host-number-requires c κs = rw (c .before .before .check-call .ensures) (call-fits _ _ _ _ _ _ _)
+host-number-requires c κs = rw (c .before .before .check-call .ensures) (call-fits _ _ _ _ _ _ _ _)
 
 returns : tie.Need-returns
 returns c =
@@ -69,8 +68,8 @@ returns c =
     let i = shape-at k in
     let s = entry i in
     let w = c .before .enum-told .given .1 in
-    let e = refused-in (s .args .q) (s .args .office) (lent s) (i .shape .ensures) _ (sym (k .check-call .ensures) ∙ w) in
-    served-refused (net s) (s .args .q) (verdictIn (net s) (s .args .q) (s .args .office) (lent s)) (lent s) (c .host-number .result) (s .args .office) _ e
+    let e = refused-in (s .args .q) (s .args .office) (s .args .lacking) (lent s) (i .shape .ensures) _ (sym (k .check-call .ensures) ∙ w) in
+    served-refused (net s) (s .args .q) (verdictIn (s .args .lacking) (net s) (s .args .q) (s .args .office) (lent s)) (lent s) (c .host-number .result) (s .args .office) _ e
     (c .host-number .ensures ∙ ap hostNumber (w ∙ sym e))
 
 sub-own : tie.Need-sub-own
@@ -86,7 +85,7 @@ part-serve-end : tie.Need-part-serve-end
 part-serve-end c =
     let t = c .before .before .before in
     let o = office-is t in
-    omega (arith, o .least, o .most, has-counts _ _ _ _ (lent (entry (shape-at (t .before .before)))) (opened t))
+    omega (arith, o .least, o .most, has-counts _ _ _ _ _ (lent (entry (shape-at (t .before .before)))) (opened t))
 
 serve-requires : tie.Need-serve-requires
 serve-requires c κs =
@@ -96,8 +95,8 @@ serve-requires c κs =
     let h = i .shape .ensures in
     record {
       shaped = subst (λ n. Shaped n (now (s .args .belts)) (now (s .args .pairs)) (now (s .args .limits)) (i .shape .result)) (sym (h .nodes)) h;
-      counts = call-counts _ _ _ _ _ _ (lent s) (passed t);
-      open-for = open-for _ _ _ _ (lent s) (opened t);
+      counts = call-counts _ _ _ _ _ _ _ (lent s) (passed t);
+      open-for = open-for _ _ _ _ _ (lent s) (opened t);
     }
 
 returns-2 : tie.Need-returns-2
@@ -107,8 +106,8 @@ returns-2 c =
     let s = entry i in
     let h = i .shape .ensures in
     rw
-    (accepted-in (s .args .q) (s .args .office) (lent s) h (passed t))
-    (served-own (s .args .office) (has-count _ _ _ _ (lent s) (opened t))
+    (accepted-in (s .args .q) (s .args .office) (s .args .lacking) (lent s) h (passed t))
+    (served-own (s .args .office) (has-count _ _ _ _ _ (lent s) (opened t))
     (judged-of (ap (λ n. networkIn n (now (s .args .belts)) (now (s .args .pairs)) (now (s .args .limits))) (h .nodes)) (serve-at c .serve .ensures)))
 
 pub solve-spec : {M : Type 1} → statement M

@@ -5,8 +5,7 @@ use mathlib.Core.Path.{sym, _∙_}
 use Rattle.network.proofs.Decided.{accepted-quiet}
 use Rattle.network.proofs.First.{refused-first, accepted-first, decides, passes}
 use Rattle.network.proofs.Sizes.{sizes-kept}
-use Rattle.host.specs.Deliver.{slices}
-use Rattle.host.specs.Host.{Slices, hostConditions}
+use Rattle.host.specs.Host.{Slices, slices, hostConditions}
 use Rattle.host.proofs.Hosts.{room}
 use Rattle.host.proofs.room.check_call.Statement.{statement}
 use Rattle.host.proofs.room.check_call.Tie as tie
@@ -34,7 +33,7 @@ returns-2 c =
 
 check-office-requires : tie.Need-check-office-requires
 check-office-requires c κs =
-    room _ _ _ (lent (entry (c .before .before .before .before))) (sym (c .before .short .ensures) ∙ c .if1 .left) .2
+    room _ _ _ _ (lent (entry (c .before .before .before .before))) (sym (c .before .short .ensures) ∙ c .if1 .left) .2
 
 returns-3 : tie.Need-returns-3
 unfolding hostConditions

@@ -1,0 +1,5 @@
+pub mod Leaves
+pub mod Parted
+pub mod ReadBack
+pub mod Reading
+pub mod Rounding

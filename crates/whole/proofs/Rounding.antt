@@ -1,0 +1,70 @@
+-- Each commodity's amount rounded down: what it and the sum of all come to. Assumes nothing.
+use mathlib.Core.Path.{_≡_, ap}
+use Prim.Native.Nat.{ℕ, zero, suc, _+_, _*_, _/_, _%_, _≤_, _<_, _^_}
+use native.Mathlib.Nat.{div-add-mod', mod-lt, mul-le-mul-right, lt-of-le-of-lt}
+use native.Mathlib.Omega.{arith}
+use Rattle.arith.specs.Sum.{sum}
+use Rattle.arith.proofs.Sums.{sum-cong, sum-zero, term-le-sum}
+use Rattle.network.specs.Flow.{outflow, inflow, leaving, entering}
+use Rattle.network.specs.Network.{Network, commodities, source}
+use Rattle.method.specs.Answer.{Outcome, amounts, numbersOf}
+use Rattle.method.specs.Guarantee.{Guarantee}
+use Rattle.whole.specs.Rounded.{Rounded}
+use Rattle.whole.specs.Whole.{carried}
+
+-- Quotients and remainders of n amounts, and their sums.
+module _ (c y : ℕ) (x : ℕ → ℕ) (some : 0 < y) where
+  parted-sum : (n : ℕ) → sum n (λ i. x i * c / y) * y + sum n (λ i. x i * c % y) ≡ sum n x * c
+  unfolding sum
+  parted-sum zero = omega arith
+  parted-sum (suc n) = omega (arith, parted-sum n, div-add-mod' (x n * c) y)
+
+  remainders-below : (n : ℕ) → sum n (λ i. x i * c % y) + n ≤ n * y
+  unfolding sum
+  remainders-below zero = omega arith
+  remainders-below (suc n) = omega (arith, remainders-below n, mod-lt (x n * c) some)
+
+module _ (net : Network) (q : ℕ) (o : Outcome) (g : Guarantee net q o) where
+  abbrev amount : ℕ → ℕ
+  amount = carried net (amounts net (o .flow))
+
+  -- Nothing enters its source, so it is what leaves it.
+  pub amount-leaves : (i : ℕ) → i < commodities net → outflow net (amounts net (o .flow) i) (source net i) ≡ amount i
+  unfolding carried
+  amount-leaves i l = omega (arith, g .sources i l)
+
+  amounts-all : sum (commodities net) amount ≡ o .answer .total
+  unfolding leaving entering
+  amounts-all =
+      omega (
+        arith,
+        g .total,
+        sum-cong (commodities net) (λ i. outflow net (amounts net (o .flow) i) (source net i)) amount amount-leaves,
+        sum-cong (commodities net) (λ i. inflow net (amounts net (o .flow) i) (source net i)) (λ i. 0) (g .sources),
+        sum-zero (commodities net),
+      )
+
+  -- So it takes eight bytes, also times c(b).
+  amount-most : (i : ℕ) → i < commodities net → amount i ≤ o .answer .total
+  amount-most i l = omega (arith, term-le-sum (commodities net) amount i l, amounts-all)
+
+  pub amount-fits : (i : ℕ) → i < commodities net → amount i < 2 ^ 64
+  unfolding numbersOf
+  amount-fits i l = lt-of-le-of-lt (amount-most i l) (g .fits .answer 0)
+
+  pub scaled-fits : (i : ℕ) → i < commodities net → amount i * o .answer .capacity < 2 ^ 64
+  scaled-fits i l = lt-of-le-of-lt (mul-le-mul-right (o .answer .capacity) (amount-most i l)) (g .fits .total)
+
+  pub rounded : 1 ≤ commodities net → Rounded net o
+  rounded some =
+      let c : ℕ = o .answer .capacity in
+      let y : ℕ = o .answer .load in
+      let all-parts = parted-sum c y amount (g .some-load) (commodities net) in
+      let scaled-total = ap (λ x. x * c) amounts-all in
+      record {
+        parts = λ i. div-add-mod' (amount i * c) y;
+        below = λ i. mod-lt (amount i * c) (g .some-load);
+        all = amounts-all;
+        most = omega (arith, all-parts, scaled-total);
+        least = omega (arith, all-parts, scaled-total, remainders-below c y amount (g .some-load) (commodities net), some);
+      }

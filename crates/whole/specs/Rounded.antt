@@ -1,0 +1,24 @@
+-- What rounding each pair's amount down comes to, beside the contract of the call. Request C-15.
+use mathlib.Core.Path.{_≡_}
+use Prim.Native.Nat.{ℕ, _+_, _*_, _/_, _%_, _≤_, _<_}
+use Rattle.arith.specs.Sum.{sum}
+use Rattle.network.specs.Network.{Network, commodities}
+use Rattle.method.specs.Answer.{Outcome, amounts}
+use Rattle.whole.specs.Whole.{carried}
+
+-- The whole totes an hour of commodity i, and the remainder over Y(b).
+abbrev pub wholeOf : Network → Outcome → ℕ → ℕ
+wholeOf net o i = carried net (amounts net (o .flow)) i * o .answer .capacity / o .answer .load
+
+abbrev pub remainderOf : Network → Outcome → ℕ → ℕ
+remainderOf net o i = carried net (amounts net (o .flow)) i * o .answer .capacity % o .answer .load
+
+pub record Rounded (net : Network) (o : Outcome) : Type 0 where
+  -- Each amount after the scale is its whole and its remainder, less than one tote.
+  pub parts : (i : ℕ) → wholeOf net o i * o .answer .load + remainderOf net o i ≡ carried net (amounts net (o .flow)) i * o .answer .capacity
+  pub below : (i : ℕ) → remainderOf net o i < o .answer .load
+  -- The amounts are F together.
+  pub all : sum (commodities net) (carried net (amounts net (o .flow))) ≡ o .answer .total
+  -- So the wholes are at most V together, and more than V - k: V is F * c(b) over Y(b).
+  pub most : sum (commodities net) (wholeOf net o) * o .answer .load ≤ o .answer .total * o .answer .capacity
+  pub least : o .answer .total * o .answer .capacity < (sum (commodities net) (wholeOf net o) + commodities net) * o .answer .load
