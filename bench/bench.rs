@@ -140,6 +140,13 @@ fn solve(mut call: Call) -> Call {
     call
 }
 
+fn whole(mut call: Call) -> Call {
+    // two numbers for each pair, as many as name the pair
+    let mut totes = vec![0; call.pairs.len()];
+    lend::whole_in(&mut call, &mut totes);
+    call
+}
+
 /// Milliseconds of the quickest run, and what it gave.
 fn quickest(run: impl Fn() -> Call) -> (f64, Call) {
     let started = Instant::now();
@@ -192,11 +199,14 @@ fn show_least(q: u64, shares: Vec<(u128, String)>) {
     }
 }
 
-/// The deepest of one call on each floor: what is on the stack does not depend
-/// on the precision.
+/// The deepest of one run of each call on each floor: what is on the stack does not
+/// depend on the precision.
 fn report_stack(options: &Options) -> bool {
     let calls = floors_at(4, options.seed, options.kind).into_iter();
-    let depths = calls.map(|(_, call)| stack::depth_of(move || drop(solve(call))));
+    let depths = calls.flat_map(|(_, call)| {
+        let again = call.clone();
+        [stack::depth_of(move || drop(solve(call))), stack::depth_of(move || drop(whole(again)))]
+    });
     match depths.collect::<std::io::Result<Vec<usize>>>() {
         Ok(depths) => {
             let deepest = depths.into_iter().max().unwrap_or(0);

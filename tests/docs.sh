@@ -60,6 +60,13 @@ quotes README.md tests/reversible.expected
 quotes README.md tests/lift.expected
 quotes README.md tests/offices.expected
 quotes README.md tests/whole.expected
+# what contracts rounded to the nearest would promise, and what the plan carries
+nearest=$(awk '/^pair/ { split($NF, part, "/"); whole = $5 + (2 * part[1] >= part[2]); sum += whole; all = all (all ? " + " : "") whole }
+    END { print all " = " sum }' tests/whole.expected)
+for page in README.md docs/GUARANTEE.md; do
+    grep -qF "$nearest" "$page" || fault "$page: to the nearest it is $nearest"
+done
+grep -qF "$(sed -n 's/^the plan carries: //p' tests/whole.expected)" docs/GUARANTEE.md || fault "docs/GUARANTEE.md: the plan of examples/whole.c carries another total"
 quotes docs/COURSE.md tests/one_by_one.expected
 for fraction in $(grep -oE '[0-9]{4,}/[0-9]+' docs/COURSE.md); do
     cat examples/*.csv | tr -d '\r' | grep -qE ",${fraction/\//,}\$" || fault "docs/COURSE.md: no listing has $fraction"
@@ -80,7 +87,7 @@ done < <(shares)
 
 page=docs/READING.md
 words=" $(sed -n '/^## 0\./,/^## 1\./p' "$page" | grep -oE '`[^`]+`' | tr -d '`\\' | tr ' ,\n' '   ') "
-read_so_far=" " sum=0 sums= named=6
+read_so_far=" " sum=0 solving= whole= named=6
 while IFS='|' read -r _ file count _; do
     file=$(tr -d '` ' <<<"$file") count=$(tr -d ' ' <<<"$count")
     [ -e "crates/$file" ] || { fault "$page: no file $file"; continue; }
@@ -97,13 +104,17 @@ while IFS='|' read -r _ file count _; do
         esac
     done
     read_so_far="$read_so_far$file " sum=$((sum + count))
-    if [ "$file" = host/specs/Host.antt ]; then sums=$sum sum=0; fi
+    case $file in
+    host/specs/Host.antt) solving=$sum sum=0 ;;
+    whole/specs/Whole.antt) whole=$sum sum=0 ;;
+    esac
 done < <(grep -E '^\| `[a-z_]+/specs/[A-Za-z]+\.antt` \| [0-9]+ \|' "$page")
-grep -q "$sums lines for .vithmork_solve. (sections 1 to 5), and $sum more" <(tr '\n' ' ' <"$page") || fault "$page: the sums are $sums and $sum"
-grep -q "Of the $sums, $((sums - named)) are .* the other $named " <(tr '\n' ' ' <"$page") || fault "$page: of the $sums lines $named are added"
-for contract in host/specs/Host dimacs/specs/Result report/specs/Listed records/specs/Records; do
+sums="$solving lines for .vithmork_solve. (sections 1 to 5), $whole more for .vithmork_whole. (6), and $sum more"
+grep -q "$sums" <(tr '\n' ' ' <"$page") || fault "$page: the sums are $solving, $whole and $sum"
+grep -q "Of the $solving, $((solving - named)) are .* the other $named " <(tr '\n' ' ' <"$page") || fault "$page: of the $solving lines $named are added"
+for contract in host/specs/Host whole/specs/Whole dimacs/specs/Result report/specs/Listed records/specs/Records; do
     case $read_so_far in *" $contract.antt "*) ;; *) fault "$page: lacks $contract" ;; esac
 done
 
-echo "docs: $(wc -w <<<"$read_so_far") definition files, $sums and $sum lines; $faults faults"
+echo "docs: $(wc -w <<<"$read_so_far") definition files, $solving, $whole and $sum lines; $faults faults"
 [ "$faults" -eq 0 ]

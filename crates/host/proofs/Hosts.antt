@@ -23,10 +23,10 @@ use Rattle.network.proofs.Sizes.{sizes-kept}
 use Rattle.numbers.specs.Numbers.{count, items}
 use Rattle.packed.specs.declared.Shape.{Shape}
 use Rattle.numbers.proofs.Columns.{length-column}
-use Rattle.host.specs.Deliver.{Room, Open}
+use Rattle.host.specs.Deliver.{slices, Room, Open}
 use Rattle.decode.specs.Calls.{Shaped}
 use Rattle.decode.specs.Decode.{networkIn}
-use Rattle.host.specs.Host.{Slices, slices, countOf, short, officeConditions, hostConditions, verdictIn}
+use Rattle.host.specs.Host.{Slices, countOf, short, officeConditions, hostConditions, verdictIn}
 use Rattle.host.specs.Serve.{callConditions}
 use Rattle.host.proofs.Offices.{own, own-complete, own-count}
 
@@ -84,21 +84,21 @@ module _ (lacking : Bool) (k m r office : ℕ) (s : Slices) (h : verdict (hostCo
       }
 
 -- The refusals before an item is read have no place.
-placeless : (n m r k q office : ℕ) (lacking : Bool) (s : Slices) → Each (λ r. r .holds ≡ true → refusalCode (r .refusal) .place ≤ 65536) (callConditions n m r k q office lacking s)
+placeless : (lacking : Bool) (n m r k q office : ℕ) (s : Slices) → Each (λ r. r .holds ≡ true → refusalCode (r .refusal) .place ≤ 65536) (callConditions lacking n m r k q office s)
 unfolding sizeConditions hostConditions officeConditions
-placeless n m r k q office lacking s =
+placeless lacking n m r k q office s =
     each-append {xs = sizeConditions n m r k q} {ys = hostConditions lacking k m r office s}
     (more (λ t. omega arith) (more (λ t. omega arith) (more (λ t. omega arith) (more (λ t. omega arith) (more (λ t. omega arith) none)))))
     (more (λ t. omega arith) (more (λ t. omega arith) (more (λ t. omega arith) none)))
 
-pub call-fits : (n m r k q office : ℕ) (lacking : Bool) (s : Slices) → hostNumber (verdict (callConditions n m r k q office lacking s)) < 2 ^ 64
-call-fits n m r k q office lacking s =
-    verdict-fits (verdict (callConditions n m r k q office lacking s)) (λ w h. refusal-has (λ w. refusalCode w .place ≤ 65536) w (placeless n m r k q office lacking s) h)
+pub call-fits : (lacking : Bool) (n m r k q office : ℕ) (s : Slices) → hostNumber (verdict (callConditions lacking n m r k q office s)) < 2 ^ 64
+call-fits lacking n m r k q office s =
+    verdict-fits (verdict (callConditions lacking n m r k q office s)) (λ w h. refusal-has (λ w. refusalCode w .place ≤ 65536) w (placeless lacking n m r k q office s) h)
 
 -- None of them: counts are within their bounds, and the tables are as 5, 16 and 11 ask.
-module _ (n m r k q office : ℕ) (lacking : Bool) (s : Slices) (h : verdict (callConditions n m r k q office lacking s) ≡ Accepted) where
-  quiet : Quiet (callConditions n m r k q office lacking s)
-  quiet = accepted-quiet (callConditions n m r k q office lacking s) h
+module _ (lacking : Bool) (n m r k q office : ℕ) (s : Slices) (h : verdict (callConditions lacking n m r k q office s) ≡ Accepted) where
+  quiet : Quiet (callConditions lacking n m r k q office s)
+  quiet = accepted-quiet (callConditions lacking n m r k q office s) h
 
   pub call-counts : Counts n m r k q
   call-counts = sizes-kept n m r k q (each-left (sizeConditions n m r k q) (hostConditions lacking k m r office s) quiet)
@@ -107,12 +107,12 @@ module _ (n m r k q office : ℕ) (lacking : Bool) (s : Slices) (h : verdict (ca
   call-open = quiet-accepted (each-right (sizeConditions n m r k q) quiet)
 
 -- By the shape of the bytes.
-module _ {n : ℕ} (q office : ℕ) (lacking : Bool) {belts pairs limits : List ℕ} (t : Slices) {s : Shape} (h : Shaped n belts pairs limits s) where
+module _ {n : ℕ} (lacking : Bool) (q office : ℕ) {belts pairs limits : List ℕ} (t : Slices) {s : Shape} (h : Shaped n belts pairs limits s) where
   abbrev net : Network
   net = networkIn n belts pairs limits
 
   abbrev conditions : List Condition
-  conditions = callConditions (s .nodes) (s .arcs) (s .resources) (s .commodities) q office lacking t
+  conditions = callConditions lacking (s .nodes) (s .arcs) (s .resources) (s .commodities) q office t
 
   by-items : verdictIn lacking net q office t ≡ verdict (conditions ++ itemConditions net)
   unfolding verdictOn networkIn

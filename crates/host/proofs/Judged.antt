@@ -19,8 +19,8 @@ use Rattle.packed.specs.Packed.{put, netIn, Packed, Lent}
 use Rattle.packed.specs.declared.Shape.{Shape}
 use Rattle.packed.proofs.Columns.{arcs-is, commodities-is}
 use Rattle.method.specs.Answer.{outcome}
-use Rattle.host.specs.Deliver.{Delivered}
-use Rattle.host.specs.Host.{Slices, slices, Served}
+use Rattle.host.specs.Deliver.{slices, Delivered}
+use Rattle.host.specs.Host.{Slices, Served}
 use Rattle.host.specs.Serve.{Judged}
 use Rattle.host.proofs.Offices.{own, own-after}
 

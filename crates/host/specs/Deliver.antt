@@ -11,6 +11,10 @@ use Rattle.method.specs.Guarantee.{Guarantee}
 use Rattle.method.specs.declared.Answer.{Answer}
 use Rattle.host.specs.Host.{Slices, countOf, raised}
 
+-- The four slices, for the contracts of parts.
+abbrev pub slices : List ℕ → List ℕ → List ℕ → List ℕ → Slices
+slices flow lengths answer counts = record { flow = flow; lengths = lengths; answer = answer; counts = counts }
+
 -- Room for the amounts of k commodities on m arcs and the lengths of r resources.
 pub record Room (k m r : ℕ) (flow lengths : List ℕ) : Type 0 where
   pub for-flow : k * m ≤ count flow

@@ -25,10 +25,6 @@ pub record Slices : Type 0 where
   pub answer : List ℕ
   pub counts : List ℕ
 
--- The four of them, for the contracts of functions.
-abbrev pub slices : List ℕ → List ℕ → List ℕ → List ℕ → Slices
-slices flow lengths answer counts = record { flow = flow; lengths = lengths; answer = answer; counts = counts }
-
 -- An office's running count, in a table with one for each office in order, the first for office 1.
 abbrev pub countOf : ℕ → List ℕ → ℕ
 countOf office counts = numberAt counts (office - 1)

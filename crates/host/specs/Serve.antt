@@ -11,8 +11,8 @@ use Rattle.host.specs.Deliver.{Open}
 use Rattle.host.specs.Host.{Slices, hostConditions, Served}
 
 -- 1 to 5, 11, 15 and 16, for n nodes, m arcs, r resources, k commodities and precision q: what is looked at before an item is read.
-abbrev pub callConditions : ℕ → ℕ → ℕ → ℕ → ℕ → ℕ → Bool → Slices → List Condition
-callConditions n m r k q office lacking s = sizeConditions n m r k q ++ hostConditions lacking k m r office s
+abbrev pub callConditions : Bool → ℕ → ℕ → ℕ → ℕ → ℕ → ℕ → Slices → List Condition
+callConditions lacking n m r k q office s = sizeConditions n m r k q ++ hostConditions lacking k m r office s
 
 -- The shape is that of the bytes, within its bounds, and the tables have room for it.
 pub record Sizable (s : Shape) (q : ℕ) (belts pairs limits : List ℕ) (t : Slices) : Type 0 where

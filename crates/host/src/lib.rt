@@ -5,7 +5,8 @@ mod serve;
 
 use checks::numbers::host_number;
 use network::Verdict;
-ghost use Rattle.host.specs.Host.{slices, Hosted};
+ghost use Rattle.host.specs.Deliver.{slices};
+ghost use Rattle.host.specs.Host.{Hosted};
 
 // Solves the floor in the byte slices: 0 and the tables written, or a refusal's number * 1,000 + its place and no byte changed. A call with tables
 // of its own says whether one of them is too small (lacking), since that is refused here, in its place, and writes them once 0 is returned.
@@ -25,7 +26,7 @@ pub fn solve(
     ensures { λ r. ⌜ Hosted lacking n q office (now (belts .entry)) (now (pairs .entry)) (now (limits .entry)) (slices (now (flow .entry)) (now (lengths .entry)) (now (answer .entry)) (now (counts .entry))) (slices (now (flow .exit)) (now (lengths .exit)) (now (answer .exit)) (now (counts .exit))) r ⌝ }
 {
     let s = decode::shape(n, belts, pairs, limits);
-    let v = room::check_call(s, q, office, lacking, flow, lengths, answer, counts);
+    let v = room::check_call(lacking, s, q, office, flow, lengths, answer, counts);
     if let Verdict::Refused(_) = v {
         return host_number(v);
     }

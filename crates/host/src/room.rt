@@ -11,8 +11,9 @@ ghost use mathlib.Core.Path.{_≡_};
 ghost use Prim.Native.Nat.{_≤_};
 ghost use Rattle.bounds.specs.Bounds.{mostArcs, mostCommodities, offices};
 ghost use Rattle.network.specs.Verdict.{verdict};
+ghost use Rattle.host.specs.Deliver.{slices};
 ghost use Rattle.numbers.specs.Numbers.{count};
-ghost use Rattle.host.specs.Host.{slices, short, officeConditions};
+ghost use Rattle.host.specs.Host.{short, officeConditions};
 ghost use Rattle.host.specs.Serve.{callConditions};
 
 // A table is too small for what the call may write: one of its own, or one of those that every call has.
@@ -61,16 +62,16 @@ fn check_office(office: u64, counts: &[u8]) -> Verdict
 
 // 1 to 5, 11, 15 and 16.
 pub fn check_call(
+    lacking: bool,
     s: Shape,
     q: u64,
     office: u64,
-    lacking: bool,
     flow: &[u8],
     lengths: &[u8],
     answer: &[u8],
     counts: &[u8],
 ) -> Verdict
-    ensures { λ r. ⌜ r ≡ verdict (callConditions (s .nodes) (s .arcs) (s .resources) (s .commodities) q office lacking (slices (now (flow .entry)) (now (lengths .entry)) (now (answer .entry)) (now (counts .entry)))) ⌝ }
+    ensures { λ r. ⌜ r ≡ verdict (callConditions lacking (s .nodes) (s .arcs) (s .resources) (s .commodities) q office (slices (now (flow .entry)) (now (lengths .entry)) (now (answer .entry)) (now (counts .entry)))) ⌝ }
 {
     let sizes = check_sizes(s.nodes, s.arcs, s.resources, s.commodities, q);
     if let Verdict::Refused(_) = sizes {

@@ -7,7 +7,7 @@ use packed::NET_NUMBERS;
 use packed::Shape;
 ghost use Rattle.packed.specs.Packed.{Packed};
 ghost use Rattle.decode.specs.Decode.{networkIn};
-ghost use Rattle.host.specs.Host.{slices};
+ghost use Rattle.host.specs.Deliver.{slices};
 ghost use Rattle.host.specs.Serve.{Sizable, Judged};
 
 // The call served, with a lent slice for the network.

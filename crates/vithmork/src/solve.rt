@@ -1,6 +1,6 @@
 // The call that solves.
 ghost use mathlib.Core.Bool.{false};
-ghost use Rattle.host.specs.Host.{slices, Hosted};
+ghost use Rattle.host.specs.Host.{Hosted};
 
 // Solves the floor in the byte slices: 0 and the tables written, or a refusal's number * 1,000 + its place and no byte changed.
 #[no_mangle]
@@ -16,7 +16,10 @@ pub extern "C" fn vithmork_solve(
     answer: &mut [u8],
     counts: &mut [u8],
 ) -> u64
-    ensures { λ r. ⌜ Hosted false n q office (now (belts .entry)) (now (pairs .entry)) (now (limits .entry)) (slices (now (flow .entry)) (now (lengths .entry)) (now (answer .entry)) (now (counts .entry))) (slices (now (flow .exit)) (now (lengths .exit)) (now (answer .exit)) (now (counts .exit))) r ⌝ }
+    ensures { λ r. ⌜ Hosted false n q office (now (belts .entry)) (now (pairs .entry)) (now (limits .entry))
+        (record { flow = now (flow .entry); lengths = now (lengths .entry); answer = now (answer .entry); counts = now (counts .entry) })
+        (record { flow = now (flow .exit); lengths = now (lengths .exit); answer = now (answer .exit); counts = now (counts .exit) })
+        r ⌝ }
 {
     host::solve(
         n,

@@ -1,5 +1,4 @@
 // The call for whole totes an hour. Request C-15.
-ghost use Rattle.host.specs.Host.{slices};
 ghost use Rattle.whole.specs.Whole.{Whole};
 
 // Solves the floor as vithmork_solve does, and gives each pair's whole totes an hour and the remainder in the table totes.
@@ -17,7 +16,10 @@ pub extern "C" fn vithmork_whole(
     counts: &mut [u8],
     totes: &mut [u8],
 ) -> u64
-    ensures { λ r. ⌜ Whole n q office (now (belts .entry)) (now (pairs .entry)) (now (limits .entry)) (slices (now (flow .entry)) (now (lengths .entry)) (now (answer .entry)) (now (counts .entry))) (slices (now (flow .exit)) (now (lengths .exit)) (now (answer .exit)) (now (counts .exit))) (now (totes .entry)) (now (totes .exit)) r ⌝ }
+    ensures { λ r. ⌜ Whole n q office (now (belts .entry)) (now (pairs .entry)) (now (limits .entry))
+        (record { flow = now (flow .entry); lengths = now (lengths .entry); answer = now (answer .entry); counts = now (counts .entry) })
+        (record { flow = now (flow .exit); lengths = now (lengths .exit); answer = now (answer .exit); counts = now (counts .exit) })
+        (now (totes .entry)) (now (totes .exit)) r ⌝ }
 {
     whole::solve(
         n,

@@ -1,16 +1,19 @@
 -- Each commodity's amount rounded down: what it and the sum of all come to. Assumes nothing.
-use mathlib.Core.Path.{_≡_, ap}
+use mathlib.Core.Path.{_≡_, sym, ap, _∙_}
 use Prim.Native.Nat.{ℕ, zero, suc, _+_, _*_, _/_, _%_, _≤_, _<_, _^_}
-use native.Mathlib.Nat.{div-add-mod', mod-lt, mul-le-mul-right, lt-of-le-of-lt}
+use native.Mathlib.Nat.{add-zero, div-add-mod', mod-lt, mul-le-mul-right, lt-of-le-of-lt}
 use native.Mathlib.Omega.{arith}
+use lib.Dec.{lit≤}
+use lib.ListN.{getD}
 use Rattle.arith.specs.Sum.{sum}
 use Rattle.arith.proofs.Sums.{sum-cong, sum-zero, term-le-sum}
 use Rattle.network.specs.Flow.{outflow, inflow, leaving, entering}
 use Rattle.network.specs.Network.{Network, commodities, source}
 use Rattle.method.specs.Answer.{Outcome, amounts, numbersOf}
 use Rattle.method.specs.Guarantee.{Guarantee}
-use Rattle.whole.specs.Rounded.{Rounded}
-use Rattle.whole.specs.Whole.{carried}
+use Rattle.whole.specs.Rounded.{wholeOf, remainderOf, Rounded}
+use Rattle.whole.specs.Whole.{carried, totesOf}
+use Rattle.whole.proofs.Parted.{parted-at}
 
 -- Quotients and remainders of n amounts, and their sums.
 module _ (c y : ℕ) (x : ℕ → ℕ) (some : 0 < y) where
@@ -55,16 +58,27 @@ module _ (net : Network) (q : ℕ) (o : Outcome) (g : Guarantee net q o) where
   pub scaled-fits : (i : ℕ) → i < commodities net → amount i * o .answer .capacity < 2 ^ 64
   scaled-fits i l = lt-of-le-of-lt (mul-le-mul-right (o .answer .capacity) (amount-most i l)) (g .fits .total)
 
+  -- its two numbers
+  whole-at : (i : ℕ) → i < commodities net → wholeOf net o i ≡ amount i * o .answer .capacity / o .answer .load
+  whole-at i l =
+      ap (λ j. getD (totesOf net o) j 0) (sym (add-zero (2 * i))) ∙
+      parted-at (o .answer .capacity) (o .answer .load) amount (commodities net) i 0 l (lit≤ tt)
+
+  remainder-at : (i : ℕ) → i < commodities net → remainderOf net o i ≡ amount i * o .answer .capacity % o .answer .load
+  remainder-at i l = parted-at (o .answer .capacity) (o .answer .load) amount (commodities net) i 1 l (lit≤ tt)
+
   pub rounded : 1 ≤ commodities net → Rounded net o
   rounded some =
       let c : ℕ = o .answer .capacity in
       let y : ℕ = o .answer .load in
-      let all-parts = parted-sum c y amount (g .some-load) (commodities net) in
+      let k : ℕ = commodities net in
+      let wholes = ap (λ w. w * y) (sum-cong k (wholeOf net o) (λ i. amount i * c / y) whole-at) in
+      let all-parts = parted-sum c y amount (g .some-load) k in
       let scaled-total = ap (λ x. x * c) amounts-all in
       record {
-        parts = λ i. div-add-mod' (amount i * c) y;
-        below = λ i. mod-lt (amount i * c) (g .some-load);
+        parts = λ i l. omega (arith, div-add-mod' (amount i * c) y, ap (λ w. w * y) (whole-at i l), remainder-at i l);
+        below = λ i l. omega (arith, mod-lt (amount i * c) (g .some-load), remainder-at i l);
         all = amounts-all;
-        most = omega (arith, all-parts, scaled-total);
-        least = omega (arith, all-parts, scaled-total, remainders-below c y amount (g .some-load) (commodities net), some);
+        most = omega (arith, wholes, all-parts, scaled-total);
+        least = omega (arith, wholes, all-parts, scaled-total, remainders-below c y amount (g .some-load) k, some);
       }

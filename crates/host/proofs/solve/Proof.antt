@@ -12,7 +12,8 @@ use Rattle.network.specs.Verdict.{Condition, verdict}
 use Rattle.network.specs.declared.Verdict.the-variants.{Accepted}
 use Rattle.decode.specs.Calls.{Shaped}
 use Rattle.decode.specs.Decode.{networkIn}
-use Rattle.host.specs.Host.{Slices, slices, hostConditions, verdictIn}
+use Rattle.host.specs.Deliver.{slices}
+use Rattle.host.specs.Host.{Slices, hostConditions, verdictIn}
 use Rattle.host.specs.Serve.{callConditions}
 use Rattle.host.proofs.Hosts.{an-office, has-counts, has-count, open-for, call-fits, call-counts, call-open, refused-in, accepted-in}
 use Rattle.host.proofs.Judged.{judged-of, served-refused, served-own}
@@ -43,7 +44,7 @@ serve-at c = c .before .before .before .before .before .before .before .before
 abbrev conditions : tie.After-shape → List Condition
 conditions c =
     let s = c .shape .result in
-    callConditions (s .nodes) (s .arcs) (s .resources) (s .commodities) (entry c .args .q) (entry c .args .office) (entry c .args .lacking) (lent (entry c))
+    callConditions (entry c .args .lacking) (s .nodes) (s .arcs) (s .resources) (s .commodities) (entry c .args .q) (entry c .args .office) (lent (entry c))
 
 passed : (c : tie.After-enum-told2) → verdict (conditions (shape-at (c .before .before))) ≡ Accepted
 passed c = sym (c .before .before .check-call .ensures) ∙ c .enum-told2 .given .1
@@ -68,7 +69,7 @@ returns c =
     let i = shape-at k in
     let s = entry i in
     let w = c .before .enum-told .given .1 in
-    let e = refused-in (s .args .q) (s .args .office) (s .args .lacking) (lent s) (i .shape .ensures) _ (sym (k .check-call .ensures) ∙ w) in
+    let e = refused-in (s .args .lacking) (s .args .q) (s .args .office) (lent s) (i .shape .ensures) _ (sym (k .check-call .ensures) ∙ w) in
     served-refused (net s) (s .args .q) (verdictIn (s .args .lacking) (net s) (s .args .q) (s .args .office) (lent s)) (lent s) (c .host-number .result) (s .args .office) _ e
     (c .host-number .ensures ∙ ap hostNumber (w ∙ sym e))
 
@@ -106,7 +107,7 @@ returns-2 c =
     let s = entry i in
     let h = i .shape .ensures in
     rw
-    (accepted-in (s .args .q) (s .args .office) (s .args .lacking) (lent s) h (passed t))
+    (accepted-in (s .args .lacking) (s .args .q) (s .args .office) (lent s) h (passed t))
     (served-own (s .args .office) (has-count _ _ _ _ _ (lent s) (opened t))
     (judged-of (ap (λ n. networkIn n (now (s .args .belts)) (now (s .args .pairs)) (now (s .args .limits))) (h .nodes)) (serve-at c .serve .ensures)))
 
