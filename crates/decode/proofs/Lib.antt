@@ -1,2 +1,3 @@
 pub mod Decoded
+pub mod Items
 pub mod Shapes

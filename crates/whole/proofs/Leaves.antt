@@ -1,9 +1,8 @@
 -- What leaves a node by the bytes, as one sum over the arcs. Assumes nothing.
 use mathlib.Core.Path.{_≡_, refl, sym, _∙_}
 use mathlib.Core.Bool.{cond}
-use mathlib.Core.List.{List}
+use mathlib.Core.List.{List, []}
 use Prim.Native.Nat.{ℕ, suc, _+_, _*_, _≤_, _<_}
-use native.Mathlib.Nat.{add-zero}
 use native.Mathlib.Numerals.{add-one}
 use native.Mathlib.Omega.{arith}
 use lib.Dec.{eqb}
@@ -12,8 +11,7 @@ use Rattle.arith.proofs.Sums.{sum-cong, sum-add, sum-part}
 use Rattle.signed.specs.Signed.{ahead, back}
 use Rattle.network.specs.Flow.{passing, outflow}
 use Rattle.numbers.specs.Numbers.{items, numberAt}
-use Rattle.numbers.proofs.Columns.{length-column, getD-column}
-use Rattle.decode.specs.Decode.{networkIn}
+use Rattle.decode.proofs.Items.{arcs-in, tail-in, head-in}
 use Rattle.whole.specs.Read.{amountsIn, leavesIn}
 
 module _ (belts flow : List ℕ) (from v : ℕ) where
@@ -23,11 +21,10 @@ module _ (belts flow : List ℕ) (from v : ℕ) where
       cond (eqb (numberAt belts (4 * e)) v) (ahead (amountsIn flow from e)) 0 + cond (eqb (numberAt belts (4 * e + 1)) v) (back (amountsIn flow from e)) 0
 
   pub leaves-sum : leavesIn belts flow from v ≡ sum (items 4 belts) over
-  unfolding outflow passing networkIn
+  unfolding outflow passing
   leaves-sum =
-      rw (length-column belts 4 0 (items 4 belts))
-      (sym (sum-add (items 4 belts) _ _) ∙
-      sum-cong (items 4 belts) _ over (λ e l. rw (getD-column belts 4 0 (items 4 belts) e l, getD-column belts 4 1 (items 4 belts) e l, add-zero (4 * e)) refl))
+      rw (arcs-in 0 belts [] [])
+      (sym (sum-add (items 4 belts) _ _) ∙ sum-cong (items 4 belts) _ over (λ e l. rw (tail-in 0 belts [] [] e l, head-in 0 belts [] [] e l) refl))
 
   -- The first arcs' sum, and one more, are no more than all.
   pub one-more : (e : ℕ) → e < items 4 belts → sum e over + over e ≤ leavesIn belts flow from v

@@ -2,19 +2,18 @@
 use mathlib.Core.Path.{_≡_, refl, sym, ap, ap₂, _∙_}
 use mathlib.Core.List.{List, []}
 use Prim.Native.Nat.{ℕ, _+_, _*_, _≤_, _<_}
-use native.Mathlib.Nat.{add-zero}
 use native.Mathlib.Omega.{arith}
 use lib.Dec.{lit≤}
 use lib.IntN.{ℤ}
 use Rattle.bounds.specs.Bounds.{answerNumbers}
 use Rattle.signed.specs.Signed.{fromTwos}
 use Rattle.network.specs.Flow.{outflow}
-use Rattle.network.specs.Network.{Network, arcs, commodities, source}
+use Rattle.network.specs.Network.{Network, arcs, commodities}
 use Rattle.network.specs.declared.Verdict.{Verdict}
 use Rattle.network.specs.declared.Verdict.the-variants.{Accepted}
 use Rattle.numbers.specs.Numbers.{count, items, numberAt}
-use Rattle.numbers.proofs.Columns.{length-column, getD-column}
 use Rattle.decode.specs.Decode.{networkIn}
+use Rattle.decode.proofs.Items.{arcs-in, commodities-in, source-in}
 use Rattle.method.specs.Answer.{amounts, numbersOf, outcome}
 use Rattle.method.proofs.Drawn.{out-same}
 use Rattle.host.specs.Host.{Slices, Served}
@@ -24,24 +23,10 @@ use Rattle.whole.specs.Whole.{carried, parted, totesOf}
 use Rattle.whole.proofs.Parted.{parted-cong}
 use Rattle.whole.proofs.Rounding.{amount-leaves, amount-fits, scaled-fits}
 
--- By the bytes there are as many arcs and commodities, and each has its source.
-module _ (n : ℕ) (belts pairs limits : List ℕ) where
-  arcs-in : arcs (networkIn n belts pairs limits) ≡ items 4 belts
-  unfolding networkIn
-  arcs-in = length-column belts 4 0 (items 4 belts)
-
-  pub commodities-in : commodities (networkIn n belts pairs limits) ≡ items 2 pairs
-  unfolding networkIn
-  commodities-in = length-column pairs 2 0 (items 2 pairs)
-
-  source-in : (i : ℕ) → i < items 2 pairs → source (networkIn n belts pairs limits) i ≡ numberAt pairs (2 * i)
-  unfolding networkIn
-  source-in i l = getD-column pairs 2 0 (items 2 pairs) i l ∙ ap (numberAt pairs) (add-zero (2 * i))
-
-  -- What leaves a node does not ask for more than the belts.
-  leaves-in : (f : ℕ → ℤ) (v : ℕ) → outflow (networkIn 0 belts [] []) f v ≡ outflow (networkIn n belts pairs limits) f v
-  unfolding networkIn outflow
-  leaves-in f v = refl
+-- What leaves a node does not ask for more than the belts.
+leaves-in : (n : ℕ) (belts pairs limits : List ℕ) (f : ℕ → ℤ) (v : ℕ) → outflow (networkIn 0 belts [] []) f v ≡ outflow (networkIn n belts pairs limits) f v
+unfolding networkIn outflow
+leaves-in n belts pairs limits f v = refl
 
 module _ (n : ℕ) (belts pairs limits : List ℕ) {q office r : ℕ} {v : Verdict} {old new : Slices} (h : Served (networkIn n belts pairs limits) q office v old new r)
     (a : v ≡ Accepted) where

@@ -1,7 +1,7 @@
 -- Each commodity's amount rounded down: what it and the sum of all come to. Assumes nothing.
 use mathlib.Core.Path.{_≡_, sym, ap, _∙_}
 use Prim.Native.Nat.{ℕ, zero, suc, _+_, _*_, _/_, _%_, _≤_, _<_, _^_}
-use native.Mathlib.Nat.{add-zero, div-add-mod', mod-lt, mul-le-mul-right, lt-of-le-of-lt}
+use native.Mathlib.Nat.{add-zero, div-add-mod', div-le-self, mod-le, mod-lt, mul-le-mul-right, lt-of-le-of-lt}
 use native.Mathlib.Omega.{arith}
 use lib.Dec.{lit≤}
 use lib.ListN.{getD}
@@ -9,7 +9,7 @@ use Rattle.arith.specs.Sum.{sum}
 use Rattle.arith.proofs.Sums.{sum-cong, sum-zero, term-le-sum}
 use Rattle.network.specs.Flow.{outflow, inflow, leaving, entering}
 use Rattle.network.specs.Network.{Network, commodities, source}
-use Rattle.method.specs.Answer.{Outcome, amounts, numbersOf}
+use Rattle.method.specs.Answer.{Outcome, amounts, numbersOf, unjoined}
 use Rattle.method.specs.Guarantee.{Guarantee}
 use Rattle.whole.specs.Rounded.{wholeOf, remainderOf, Rounded}
 use Rattle.whole.specs.Whole.{carried, totesOf}
@@ -67,6 +67,17 @@ module _ (net : Network) (q : ℕ) (o : Outcome) (g : Guarantee net q o) where
   remainder-at : (i : ℕ) → i < commodities net → remainderOf net o i ≡ amount i * o .answer .capacity % o .answer .load
   remainder-at i l = parted-at (o .answer .capacity) (o .answer .load) amount (commodities net) i 1 l (lit≤ tt)
 
+  nothing : (i : ℕ) → i < commodities net → amount i ≡ 0 → (wholeOf net o i ≡ 0) × (remainderOf net o i ≡ 0)
+  nothing i l e =
+      let none = ap (λ x. x * o .answer .capacity) e in (
+        omega (arith, whole-at i l, none, div-le-self (amount i * o .answer .capacity) (o .answer .load)),
+        omega (arith, remainder-at i l, none, mod-le (amount i * o .answer .capacity) (o .answer .load)),
+      )
+
+  without : o ≡ unjoined net → (i : ℕ) → i < commodities net → amount i ≡ 0
+  unfolding unjoined
+  without e i l = omega (arith, amount-most i l, ap (λ p. p .answer .total) e)
+
   pub rounded : 1 ≤ commodities net → Rounded net o
   rounded some =
       let c : ℕ = o .answer .capacity in
@@ -78,6 +89,8 @@ module _ (net : Network) (q : ℕ) (o : Outcome) (g : Guarantee net q o) where
       record {
         parts = λ i l. omega (arith, div-add-mod' (amount i * c) y, ap (λ w. w * y) (whole-at i l), remainder-at i l);
         below = λ i l. omega (arith, mod-lt (amount i * c) (g .some-load), remainder-at i l);
+        idle = nothing;
+        none-joined = without;
         all = amounts-all;
         most = omega (arith, wholes, all-parts, scaled-total);
         least = omega (arith, wholes, all-parts, scaled-total, remainders-below c y amount (g .some-load) k, some);

@@ -4,7 +4,7 @@ use Prim.Native.Nat.{ℕ, _+_, _*_, _≤_, _<_}
 use lib.ListN.{getD}
 use Rattle.arith.specs.Sum.{sum}
 use Rattle.network.specs.Network.{Network, commodities}
-use Rattle.method.specs.Answer.{Outcome, amounts}
+use Rattle.method.specs.Answer.{Outcome, amounts, unjoined}
 use Rattle.whole.specs.Whole.{carried, totesOf}
 
 -- The whole totes an hour of commodity i, and the remainder over Y(b).
@@ -19,6 +19,10 @@ pub record Rounded (net : Network) (o : Outcome) : Type 0 where
   pub parts :
       (i : ℕ) → i < commodities net → carried net (amounts net (o .flow)) i * o .answer .capacity ≡ wholeOf net o i * o .answer .load + remainderOf net o i
   pub below : (i : ℕ) → i < commodities net → remainderOf net o i < o .answer .load
+  -- A commodity that carries nothing has 0 and 0, and where none is joined, each carries nothing.
+  pub idle :
+      (i : ℕ) → i < commodities net → carried net (amounts net (o .flow)) i ≡ 0 → (wholeOf net o i ≡ 0) × (remainderOf net o i ≡ 0)
+  pub none-joined : o ≡ unjoined net → (i : ℕ) → i < commodities net → carried net (amounts net (o .flow)) i ≡ 0
   -- The amounts are F together.
   pub all : sum (commodities net) (carried net (amounts net (o .flow))) ≡ o .answer .total
   -- So the wholes are at most V together, and more than V - k: V is F * c(b) over Y(b).
