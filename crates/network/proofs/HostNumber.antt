@@ -1,4 +1,5 @@
--- The number that a host call returns fits: the place of a refusal is at most 256, since items are looked at only within bounds.
+-- The number that a host call returns fits: the place of a refusal is at most 256, since items are looked at only within bounds. And it tells
+-- whether the call was accepted, which a call that goes on from there asks.
 -- Assumes nothing.
 use mathlib.Core.Path.{_≡_, refl}
 use Prim.Native.Nat.{ℕ, _≤_, _<_, _^_}

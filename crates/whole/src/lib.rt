@@ -8,7 +8,7 @@ ghost use Rattle.host.specs.Deliver.{slices};
 ghost use Rattle.whole.specs.Read.{sentIn, Readable};
 ghost use Rattle.whole.specs.Whole.{parted, Whole};
 
-// Pair i's two numbers: what there is of whole loads, and what is left.
+// Pair i's two numbers: as many whole totes as there are loads in its scaled amount, and what is left, so that nothing is lost between the two.
 fn put_pair(totes: &mut [u8], i: usize, scaled: u64, load: u64)
     requires { ⌜ (2 * i + 1 < count (now totes)) × (0 < load) ⌝ }
     ensures { λ _. ⌜ now (totes .exit) ≡ putAt (putAt (now (totes .entry)) (2 * i) (scaled / load)) (2 * i + 1) (scaled % load) ⌝ }
