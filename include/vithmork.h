@@ -20,9 +20,9 @@ extern "C" {
  * or returns: a host then has to be looked at anew. The second rises with what
  * is new beside that, the third with what is put right. */
 #define VITHMORK_VERSION_MAJOR 4
-#define VITHMORK_VERSION_MINOR 1
+#define VITHMORK_VERSION_MINOR 2
 #define VITHMORK_VERSION_PATCH 0
-#define VITHMORK_VERSION "4.1.0"
+#define VITHMORK_VERSION "4.2.0"
 
 /* Bounds. What lies outside them is refused, so a host need not test first. */
 enum {
@@ -40,7 +40,9 @@ enum {
     VITHMORK_MIN_PRECISION = 4,
     VITHMORK_MAX_PRECISION = 16,
     VITHMORK_MIN_OFFICE = 1,
-    VITHMORK_MAX_OFFICE = 8
+    VITHMORK_MAX_OFFICE = 8,
+    VITHMORK_MIN_FLOORS = 1,
+    VITHMORK_MAX_FLOORS = 16
 };
 
 /* Sizes in bytes. m and k are the whole items in the slices of belts and pairs, r
@@ -53,6 +55,8 @@ enum {
 #define VITHMORK_ANSWER_NUMBERS ((size_t)7)
 #define VITHMORK_COUNTS_NUMBERS ((size_t)VITHMORK_MAX_OFFICE)
 #define VITHMORK_TOTES_NUMBERS(k) ((size_t)(k) * (size_t)2)
+#define VITHMORK_FLOOR_NUMBERS ((size_t)7)
+#define VITHMORK_FLOOR_ANSWER_NUMBERS (VITHMORK_ANSWER_NUMBERS + (size_t)1)
 #define VITHMORK_BELTS_BYTES(m) ((size_t)(m) * VITHMORK_BELT_NUMBERS * VITHMORK_NUMBER_BYTES)
 #define VITHMORK_PAIRS_BYTES(k) ((size_t)(k) * VITHMORK_PAIR_NUMBERS * VITHMORK_NUMBER_BYTES)
 #define VITHMORK_LIMITS_BYTES(n) ((size_t)(n) * VITHMORK_NUMBER_BYTES)
@@ -61,6 +65,9 @@ enum {
 #define VITHMORK_ANSWER_BYTES (VITHMORK_ANSWER_NUMBERS * VITHMORK_NUMBER_BYTES)
 #define VITHMORK_COUNTS_BYTES (VITHMORK_COUNTS_NUMBERS * VITHMORK_NUMBER_BYTES)
 #define VITHMORK_TOTES_BYTES(k) (VITHMORK_TOTES_NUMBERS(k) * VITHMORK_NUMBER_BYTES)
+#define VITHMORK_FLOORS_BYTES(f) ((size_t)(f) * VITHMORK_FLOOR_NUMBERS * VITHMORK_NUMBER_BYTES)
+#define VITHMORK_ANSWERS_BYTES(f) \
+    ((size_t)(f) * VITHMORK_FLOOR_ANSWER_NUMBERS * VITHMORK_NUMBER_BYTES)
 
 /* Places of the answer table, from 0. The scale is CAPACITY / LOAD: the total
  * carried is DRAWN times the scale, and what a pair sends over a belt is its
@@ -76,6 +83,18 @@ enum {
     VITHMORK_BOUND_CHOICE = 6    /* which of them, from 1, gave the bound; 0 if none */
 };
 
+/* Places of an item of the list of floors, from 0. Behind the first two stands how many
+ * numbers, not items or bytes, of each lent slice are the floor's own. */
+enum {
+    VITHMORK_FLOOR_STATIONS = 0,  /* n */
+    VITHMORK_FLOOR_PRECISION = 1, /* q */
+    VITHMORK_FLOOR_BELTS = 2,     /* 4m */
+    VITHMORK_FLOOR_PAIRS = 3,     /* 2k */
+    VITHMORK_FLOOR_LIMITS = 4,    /* n, or fewer where the last have none */
+    VITHMORK_FLOOR_FLOW = 5,      /* k * m, or more */
+    VITHMORK_FLOOR_LENGTHS = 6    /* r, or more */
+};
+
 /* Refusals. 9 and 10 speak of files, and these calls never return them. */
 enum {
     VITHMORK_ACCEPTED = 0,
@@ -83,11 +102,13 @@ enum {
     VITHMORK_REFUSED_BELTS = 2,       /* too few or too many complete belts */
     VITHMORK_REFUSED_PAIRS = 3,       /* likewise pairs */
     VITHMORK_REFUSED_PRECISION = 4,   /* q out of bounds */
-    VITHMORK_REFUSED_SHORT_TABLE = 5, /* a table to write is too small, totes among them */
+    VITHMORK_REFUSED_SHORT_TABLE = 5, /* a table to write is too small, totes and a site's
+                                         answers among them */
     VITHMORK_REFUSED_LOOSE_BELT = 6,  /* an end outside 1 to n, or both equal; place: the belt */
     VITHMORK_REFUSED_CAPACITY = 7,    /* out of bounds; place: the belt */
     VITHMORK_REFUSED_LOOSE_PAIR = 8,  /* as 6; place: the pair */
     VITHMORK_REFUSED_FULL_COUNT = 11, /* the office's running count above 2^63 */
+    VITHMORK_REFUSED_FLOORS = 13,     /* too few or too many complete floors of a site */
     VITHMORK_REFUSED_LIMIT = 14,      /* above VITHMORK_MAX_LIMIT; place: the station */
     VITHMORK_REFUSED_BELTS_AND_LIMITS = 15, /* more than 256 of them together */
     VITHMORK_REFUSED_OFFICE = 16      /* office out of bounds */
@@ -176,6 +197,43 @@ uint64_t vithmork_whole(uint64_t n, uint64_t q, uint64_t office,
                         uint8_t *counts, size_t counts_len,
                         uint8_t *totes, size_t totes_len);
 
+/* Solves the floors of a site as if each were sent by vithmork_solve, one after the other
+ * in the list's order: every table and count is left as those calls would leave it. All
+ * that is said there holds of each floor and its parts, and of threads. The arguments:
+ *
+ *   office  pays for all floors
+ *   floors  1 to 16 items: n, q, and how many numbers of belts, pairs, limits, flow and
+ *           lengths are the floor's own (places above). Parts follow each other in floor
+ *           order: one begins where that of the floor before ended, turned down or not,
+ *           and stops at the last whole number of its slice. A size beyond that,
+ *           however large, takes what is left, and later floors have none of the slice
+ *   belts, pairs, limits, flow, lengths
+ *           those of all floors, in each part as for one. An incomplete last item of a
+ *           part is not read, and the next floor's part begins behind it
+ *   answers written: eight numbers for each floor, what its own call would return and
+ *           its answer's seven
+ *   counts  one table for all floors: the office's count goes on from floor to floor,
+ *           and where it passes 2^63 the later floors are refused for it
+ *
+ * Returns 0, also where floors were turned down: such a floor has its refusal as the
+ * first of its eight numbers, keeps the other seven and its parts of flow and lengths,
+ * and the rest go on. The call itself refuses a list of no floors or more than 16 as 13,
+ * and then room for fewer than eight numbers a floor as 5, before it looks at any of
+ * them; this changes no byte. A short table of counts and a bad office are no refusal of
+ * the site: each floor's own answer says so.
+ *
+ * No two floors share a byte of what is written; the counts table is shared, and goes on
+ * from floor to floor. The slices must not overlap here either. The call takes as long
+ * as those of its floors together. */
+uint64_t vithmork_site(uint64_t office, const uint8_t *floors, size_t floors_len,
+                       const uint8_t *belts, size_t belts_len,
+                       const uint8_t *pairs, size_t pairs_len,
+                       const uint8_t *limits, size_t limits_len,
+                       uint8_t *flow, size_t flow_len,
+                       uint8_t *lengths, size_t lengths_len,
+                       uint8_t *answers, size_t answers_len,
+                       uint8_t *counts, size_t counts_len);
+
 /* The pointer to lend with a length of 0: not null, and never read or written. */
 #define VITHMORK_ABSENT ((uint8_t *)"")
 
@@ -207,6 +265,7 @@ static inline const char *vithmork_word(unsigned number)
     case VITHMORK_REFUSED_CAPACITY: return "capacity";
     case VITHMORK_REFUSED_LOOSE_PAIR: return "loose pair";
     case VITHMORK_REFUSED_FULL_COUNT: return "full count";
+    case VITHMORK_REFUSED_FLOORS: return "floors";
     case VITHMORK_REFUSED_LIMIT: return "limit";
     case VITHMORK_REFUSED_BELTS_AND_LIMITS: return "belts and limits";
     case VITHMORK_REFUSED_OFFICE: return "office";
@@ -289,6 +348,55 @@ static inline size_t vithmork_limited(const uint8_t *limits, size_t limits_len, 
         if (vithmork_get(limits, i) != 0)
             limited++;
     return limited;
+}
+
+/* Floor f, from 0, of a site's list, with the sizes of its parts in numbers. */
+static inline void vithmork_put_floor(uint8_t *floors, size_t f, uint64_t n, uint64_t q,
+                                      uint64_t belts, uint64_t pairs, uint64_t limits,
+                                      uint64_t flow, uint64_t lengths)
+{
+    uint8_t *item = floors + VITHMORK_FLOORS_BYTES(f);
+    vithmork_put(item, VITHMORK_FLOOR_STATIONS, n);
+    vithmork_put(item, VITHMORK_FLOOR_PRECISION, q);
+    vithmork_put(item, VITHMORK_FLOOR_BELTS, belts);
+    vithmork_put(item, VITHMORK_FLOOR_PAIRS, pairs);
+    vithmork_put(item, VITHMORK_FLOOR_LIMITS, limits);
+    vithmork_put(item, VITHMORK_FLOOR_FLOW, flow);
+    vithmork_put(item, VITHMORK_FLOOR_LENGTHS, lengths);
+}
+
+/* The same for a floor of m belts, k pairs, so many numbers of limits and r lengths,
+ * each of whose parts is just large enough. */
+static inline void vithmork_put_fitted_floor(uint8_t *floors, size_t f, uint64_t n, uint64_t q,
+                                             uint64_t m, uint64_t k, uint64_t limits,
+                                             uint64_t r)
+{
+    vithmork_put_floor(floors, f, n, q, m * VITHMORK_BELT_NUMBERS, k * VITHMORK_PAIR_NUMBERS,
+                       limits, k * m, r);
+}
+
+/* How many bytes of a slice stand before floor f's part of it; the slice is named by its
+ * place in an item. flow + vithmork_floor_begin(floors, f, VITHMORK_FLOOR_FLOW) is the
+ * floor's own flow, for all that reads one. Parts before it must lie in the slice: sizes
+ * beyond its end are added up here, and not cut. */
+static inline size_t vithmork_floor_begin(const uint8_t *floors, size_t f, size_t place)
+{
+    size_t numbers = 0;
+    for (size_t i = 0; i < f; i++)
+        numbers += (size_t)vithmork_get(floors, i * VITHMORK_FLOOR_NUMBERS + place);
+    return numbers * VITHMORK_NUMBER_BYTES;
+}
+
+/* What vithmork_site wrote of floor f: what its own call would return, and its answer
+ * for all that reads one, which means nothing unless that is 0. */
+static inline uint64_t vithmork_floor_returned(const uint8_t *answers, size_t f)
+{
+    return vithmork_get(answers, f * VITHMORK_FLOOR_ANSWER_NUMBERS);
+}
+
+static inline const uint8_t *vithmork_floor_answer(const uint8_t *answers, size_t f)
+{
+    return answers + VITHMORK_ANSWERS_BYTES(f) + VITHMORK_NUMBER_BYTES;
 }
 
 /* The running count of an office, which is numbered from 1: read, and set. */

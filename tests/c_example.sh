@@ -2,8 +2,9 @@
 # Compiles the header as C99 and as C++17, compares what each C example prints with
 # tests/NAME.expected, which is what the second solver says it should print
 # (tests/second), meets every refusal from C (tests/refusals.c), holds the whole totes of
-# pairs to their amounts (tests/totes.c) and tries what the header adds to the calls
-# (tests/helpers.c). The header's times are those of docs/SPEED.md.
+# pairs to their amounts (tests/totes.c) and sites to their floors sent singly
+# (tests/site.c), and tries what the header adds to the calls (tests/helpers.c). The
+# header's times are those of docs/SPEED.md.
 set -eu
 cd "$(dirname "$0")/.."
 tests/second/archive.sh
@@ -24,6 +25,8 @@ cc -std=c99 "${strict[@]}" -o "$made/refusals" tests/refusals.c "$archive"
 "$made/refusals"
 cc -std=c99 "${strict[@]}" -o "$made/totes" tests/totes.c "$archive"
 "$made/totes"
+cc -std=c99 "${strict[@]}" -o "$made/sites" tests/site.c "$archive"
+"$made/sites"
 cc -std=c99 "${strict[@]}" -o "$made/helpers" tests/helpers.c "$archive"
 "$made/helpers"
 c++ -x c++ -std=c++17 "${strict[@]}" -o "$made/helpers" tests/helpers.c -x none "$archive"
@@ -41,4 +44,4 @@ if ! tr -s '\n *' ' ' <include/vithmork.h | grep -qF "the slowest took $cost"; t
     echo "c_example: docs/SPEED.md has other times than the header: $cost"
     exit 1
 fi
-echo "c_example: the header is C99 and C++17, the examples print what they should, and refusals and totes read as they should"
+echo "c_example: the header is C99 and C++17, the examples print what they should, and refusals, totes and sites read as they should"

@@ -60,6 +60,7 @@ quotes README.md tests/reversible.expected
 quotes README.md tests/lift.expected
 quotes README.md tests/offices.expected
 quotes README.md tests/whole.expected
+quotes README.md tests/site.expected
 # what contracts rounded to the nearest would promise, and what the plan carries
 nearest=$(awk '/^pair/ { split($NF, part, "/"); whole = $5 + (2 * part[1] >= part[2]); sum += whole; all = all (all ? " + " : "") whole }
     END { print all " = " sum }' tests/whole.expected)

@@ -15,7 +15,7 @@ typedef struct {
 } floor_lent;
 
 /* All bytes, so that two outcomes compare as memory does. The totes have room for a
- * pair more. */
+ * pair more, the answers for the floor and one behind it. */
 typedef struct {
     uint8_t returned[VITHMORK_NUMBER_BYTES];
     uint8_t flow[VITHMORK_FLOW_BYTES(PAIRS, BELTS)];
@@ -23,6 +23,7 @@ typedef struct {
     uint8_t answer[VITHMORK_ANSWER_BYTES];
     uint8_t counts[VITHMORK_COUNTS_BYTES];
     uint8_t totes[VITHMORK_TOTES_BYTES(PAIRS + 1)];
+    uint8_t answers[VITHMORK_ANSWERS_BYTES(2)];
 } outcome;
 
 /* Numbers from 1 to most. */
@@ -85,4 +86,22 @@ static inline void by_whole(const floor_lent *f, size_t totes_len, outcome *o)
                                 VITHMORK_LIMITS_BYTES(f->n), o->flow, sizeof o->flow,
                                 o->lengths, sizeof o->lengths, o->answer, sizeof o->answer,
                                 o->counts, sizeof o->counts, o->totes, totes_len));
+}
+
+/* A site of two floors: this one, and behind it one that nothing is left for, which is
+ * turned down. The floor's own answer is put where the other calls have it. */
+static inline void by_site(const floor_lent *f, outcome *o)
+{
+    uint8_t floors[VITHMORK_FLOORS_BYTES(2)];
+    lend(f, o);
+    for (size_t i = 0; i < 2; i++)
+        vithmork_put_floor(floors, i, f->n, f->q, f->m * VITHMORK_BELT_NUMBERS,
+                           f->k * VITHMORK_PAIR_NUMBERS, f->n, f->k * f->m, f->m + f->n);
+    vithmork_put(o->returned, 0,
+                 vithmork_site(f->office, floors, sizeof floors, f->belts,
+                               VITHMORK_BELTS_BYTES(f->m), f->pairs, VITHMORK_PAIRS_BYTES(f->k),
+                               f->limits, VITHMORK_LIMITS_BYTES(f->n), o->flow, sizeof o->flow,
+                               o->lengths, sizeof o->lengths, o->answers, sizeof o->answers,
+                               o->counts, sizeof o->counts));
+    memcpy(o->answer, vithmork_floor_answer(o->answers, 0), sizeof o->answer);
 }

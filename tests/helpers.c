@@ -1,12 +1,12 @@
 /* What the header adds to the calls: versions, absent slices, marks, signed
- * amounts, limits, counts, totes, a station's use and a pair's own total. Compiled as
- * C99 and as C++17; exits with 1 if something is otherwise. */
+ * amounts, limits, counts, totes, floors of a site, a station's use and a pair's own
+ * total. Compiled as C99 and as C++17; exits with 1 if something is otherwise. */
 #include "vithmork.h"
 
 #include <stdio.h>
 #include <string.h>
 
-enum { STATIONS = 4, BELTS = 6, LIMITED = 2, PAIRS = 3, PRECISION = 16, OFFICE = 6 };
+enum { STATIONS = 4, BELTS = 6, LIMITED = 2, PAIRS = 3, PRECISION = 16, OFFICE = 6, FLOORS = 3 };
 
 static uint8_t belts[VITHMORK_BELTS_BYTES(BELTS)];
 static uint8_t pairs[VITHMORK_PAIRS_BYTES(PAIRS)];
@@ -16,6 +16,8 @@ static uint8_t lengths[VITHMORK_LENGTH_BYTES(BELTS + LIMITED)];
 static uint8_t answer[VITHMORK_ANSWER_BYTES];
 static uint8_t counts[VITHMORK_COUNTS_BYTES];
 static uint8_t totes[VITHMORK_TOTES_BYTES(PAIRS)];
+static uint8_t floors[VITHMORK_FLOORS_BYTES(FLOORS)];
+static uint8_t answers[VITHMORK_ANSWERS_BYTES(FLOORS)];
 
 static int failed;
 
@@ -113,6 +115,34 @@ static void toted(void)
     }
 }
 
+/* Seven numbers for each floor, each of them at its own place, and eight answers. */
+static void listed(void)
+{
+    expect("the bytes of three floors", sizeof floors, 168);
+    expect("the bytes of their answers", sizeof answers, 192);
+    for (size_t f = 0; f < FLOORS; f++)
+        vithmork_put_floor(floors, f, 10 * f, 10 * f + 1, 10 * f + 2, 10 * f + 3, 10 * f + 4,
+                           10 * f + 5, 10 * f + 6);
+    for (size_t f = 0; f < FLOORS; f++)
+        for (size_t place = 0; place < VITHMORK_FLOOR_NUMBERS; place++)
+            expect("a number of a floor",
+                   vithmork_get(floors, f * VITHMORK_FLOOR_NUMBERS + place), 10 * f + place);
+    expect("the first belts", vithmork_floor_begin(floors, 0, VITHMORK_FLOOR_BELTS), 0);
+    expect("the second belts", vithmork_floor_begin(floors, 1, VITHMORK_FLOOR_BELTS), 8 * 2);
+    expect("the third belts", vithmork_floor_begin(floors, 2, VITHMORK_FLOOR_BELTS), 8 * 14);
+    expect("the third flow", vithmork_floor_begin(floors, 2, VITHMORK_FLOOR_FLOW), 8 * 20);
+    for (size_t place = 0; place < FLOORS * VITHMORK_FLOOR_ANSWER_NUMBERS; place++)
+        vithmork_put(answers, place, UINT64_MAX - place);
+    for (size_t f = 0; f < FLOORS; f++) {
+        expect("what a floor returned", vithmork_floor_returned(answers, f), UINT64_MAX - 8 * f);
+        expect("what a floor's answer begins with",
+               vithmork_get(vithmork_floor_answer(answers, f), 0), UINT64_MAX - 8 * f - 1);
+        expect("what it ends with",
+               vithmork_get(vithmork_floor_answer(answers, f), VITHMORK_BOUND_CHOICE),
+               UINT64_MAX - 8 * f - 7);
+    }
+}
+
 /* Scaled by 3 over 4, with its sign. */
 static void scaled(void)
 {
@@ -189,6 +219,37 @@ static void in_whole_totes(void)
     }
 }
 
+/* The same plan as a site's second floor, behind one that has no parts, and a third as
+ * large for which nothing is left. */
+static void of_a_site(void)
+{
+    static uint8_t again[sizeof flow], lengths_again[sizeof lengths];
+    uint64_t before = vithmork_count(counts, OFFICE);
+    vithmork_put_floor(floors, 0, STATIONS, PRECISION, 0, 0, 0, 0, 0);
+    for (size_t f = 1; f < FLOORS; f++)
+        vithmork_put_fitted_floor(floors, f, STATIONS, PRECISION, BELTS, PAIRS, STATIONS,
+                                  BELTS + LIMITED);
+    expect("the call for a site",
+           vithmork_site(OFFICE, floors, sizeof floors, belts, sizeof belts, pairs, sizeof pairs,
+                         limits, sizeof limits, again, sizeof again, lengths_again,
+                         sizeof lengths_again, answers, sizeof answers, counts, sizeof counts),
+           VITHMORK_ACCEPTED);
+    expect("a floor of no parts", vithmork_refused(vithmork_floor_returned(answers, 0)).number,
+           VITHMORK_REFUSED_BELTS);
+    expect("the floor behind it", vithmork_floor_returned(answers, 1), VITHMORK_ACCEPTED);
+    expect("its flow", memcmp(again, flow, sizeof flow) == 0, 1);
+    expect("its lengths", memcmp(lengths_again, lengths, sizeof lengths) == 0, 1);
+    expect("its answer", memcmp(vithmork_floor_answer(answers, 1), answer, sizeof answer) == 0, 1);
+    expect("the end of its flow", vithmork_floor_begin(floors, 2, VITHMORK_FLOOR_FLOW),
+           sizeof flow);
+    expect("the end of its belts", vithmork_floor_begin(floors, 2, VITHMORK_FLOOR_BELTS),
+           sizeof belts);
+    expect("a floor behind the slices' ends",
+           vithmork_refused(vithmork_floor_returned(answers, 2)).number, VITHMORK_REFUSED_BELTS);
+    expect("the count of the site's office", vithmork_count(counts, OFFICE),
+           before + vithmork_get(answer, VITHMORK_CHOICES));
+}
+
 static void absent(void)
 {
     uint8_t *none = VITHMORK_ABSENT;
@@ -202,10 +263,17 @@ static void absent(void)
                                        sizeof pairs, none, 0, flow, sizeof flow, lengths,
                                        sizeof lengths, answer, sizeof answer, counts,
                                        sizeof counts, none, 0);
+    uint64_t of_floors = vithmork_site(OFFICE, none, 0, belts, sizeof belts, pairs, sizeof pairs,
+                                       none, 0, flow, sizeof flow, lengths, sizeof lengths,
+                                       answers, sizeof answers, counts, sizeof counts);
+    uint64_t of_parts = vithmork_site(OFFICE, floors, sizeof floors, none, 0, none, 0, none, 0,
+                                      none, 0, none, 0, answers, sizeof answers, none, 0);
     expect("an absent slice's pointer", none != NULL, 1);
     expect("no belts", vithmork_refused(of_belts).number, VITHMORK_REFUSED_BELTS);
     expect("no tables", vithmork_refused(of_tables).number, VITHMORK_REFUSED_SHORT_TABLE);
     expect("no totes", vithmork_refused(of_totes).number, VITHMORK_REFUSED_SHORT_TABLE);
+    expect("no floors", vithmork_refused(of_floors).number, VITHMORK_REFUSED_FLOORS);
+    expect("floors of nothing", of_parts, VITHMORK_ACCEPTED);
 }
 
 int main(void)
@@ -217,10 +285,12 @@ int main(void)
     limited();
     counted();
     toted();
+    listed();
     scaled();
     by_hand();
     of_a_plan();
     in_whole_totes();
+    of_a_site();
     absent();
     return failed;
 }

@@ -1,7 +1,8 @@
 /* Every refusal that the calls know, as a C program meets it: number, place and
  * word, and no byte changed; and of the counts, what an accepted call changes. Each
- * case is tried on both calls, and once more with too few totes, which shows where 5
- * stands in the order. Exits with 1 if one is otherwise. */
+ * case is tried on all three calls, by the last as a site's only floor, and once more
+ * with too few totes, which shows where 5 stands in the order. Exits with 1 if one is
+ * otherwise. */
 #include "vithmork.h"
 
 #include <stdio.h>
@@ -69,11 +70,48 @@ static uint64_t whole(lent *l)
                           l->totes_len == 0 ? VITHMORK_ABSENT : l->totes, l->totes_len);
 }
 
+/* As a site of so many floors. The first has all of each slice; what it returned is
+ * returned, unless the site was turned down itself. */
+static uint64_t site_of(lent *l, size_t floors_len)
+{
+    uint8_t floors[VITHMORK_FLOORS_BYTES(VITHMORK_MAX_FLOORS + 1)];
+    uint8_t answers[VITHMORK_ANSWERS_BYTES(1)];
+    uint8_t *answer = answers + VITHMORK_NUMBER_BYTES;
+    uint64_t returned;
+    memset(floors, 9, sizeof floors);
+    memset(answers, 9, sizeof answers);
+    memcpy(answer, l->answer, sizeof l->answer);
+    vithmork_put_floor(floors, 0, l->n, l->q, UINT64_MAX, UINT64_MAX, UINT64_MAX, UINT64_MAX,
+                       UINT64_MAX);
+    returned = vithmork_site(l->office, floors, floors_len, l->belts, l->belts_len, l->pairs,
+                             l->pairs_len, l->limits, l->limits_len, l->flow, l->flow_len,
+                             l->lengths, l->lengths_len, answers,
+                             VITHMORK_NUMBER_BYTES + l->answer_len, l->counts, l->counts_len);
+    memcpy(l->answer, answer, sizeof l->answer);
+    return returned != VITHMORK_ACCEPTED ? returned : vithmork_floor_returned(answers, 0);
+}
+
+static uint64_t site(lent *l)
+{
+    return site_of(l, VITHMORK_FLOORS_BYTES(1));
+}
+
+/* The greatest list that has no floor yet, and the least that has too many. */
+static uint64_t site_of_none(lent *l)
+{
+    return site_of(l, VITHMORK_FLOORS_BYTES(1) - 1);
+}
+
+static uint64_t site_of_many(lent *l)
+{
+    return site_of(l, VITHMORK_FLOORS_BYTES(VITHMORK_MAX_FLOORS + 1));
+}
+
 typedef uint64_t call(lent *l);
 
 static const char *name(call *made)
 {
-    return made == solve ? "vithmork_solve" : "vithmork_whole";
+    return made == solve ? "vithmork_solve" : made == whole ? "vithmork_whole" : "vithmork_site";
 }
 
 static int failed;
@@ -113,6 +151,7 @@ static void expect(lent l, unsigned number, unsigned place, const char *word)
 {
     meet(solve, l, number, place, word);
     meet(whole, l, number, place, word);
+    meet(site, l, number, place, word);
     short_totes(l, before_tables(number) ? number : VITHMORK_REFUSED_SHORT_TABLE);
 }
 
@@ -135,6 +174,7 @@ static void expect_raised(lent l)
 {
     meet_raised(solve, l);
     meet_raised(whole, l);
+    meet_raised(site, l);
 }
 
 /* Every count is this, and what stands where an office 9 would have its own. */
@@ -183,6 +223,20 @@ static void no_office(uint64_t office)
     expect(l, VITHMORK_REFUSED_OFFICE, 0, "office");
 }
 
+/* A list of no floors or too many, whatever else is lent: refused before short answers,
+ * which come before all that is wrong with a floor. */
+static void no_site(void)
+{
+    lent l = sound();
+    meet(site_of_none, l, VITHMORK_REFUSED_FLOORS, 0, "floors");
+    meet(site_of_many, l, VITHMORK_REFUSED_FLOORS, 0, "floors");
+    l.answer_len--;
+    meet(site_of_none, l, VITHMORK_REFUSED_FLOORS, 0, "floors");
+    meet(site_of_many, l, VITHMORK_REFUSED_FLOORS, 0, "floors");
+    l.n = VITHMORK_MAX_STATIONS + 1;
+    meet(site, l, VITHMORK_REFUSED_SHORT_TABLE, 0, "short table");
+}
+
 int main(void)
 {
     lent l = sound();
@@ -191,6 +245,10 @@ int main(void)
     l = sound();
     if (whole(&l) != VITHMORK_ACCEPTED)
         failed = 1;
+    l = sound();
+    if (site(&l) != VITHMORK_ACCEPTED)
+        failed = 1;
+    no_site();
     short_totes(sound(), VITHMORK_REFUSED_SHORT_TABLE);
     l = sound();
     l.n = VITHMORK_MAX_STATIONS + 1;

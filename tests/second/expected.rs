@@ -4,9 +4,11 @@
 // Of the shared modules only a part is used here.
 #![allow(dead_code)]
 
+mod call;
 mod contracts;
 mod method;
 mod network;
+mod site_page;
 mod solver;
 
 use network::{network, Arc, Network, Solution};
@@ -34,14 +36,23 @@ fn main() -> ExitCode {
         "one_by_one" => print_one_by_one,
         "reversible" => print_reversible,
         "whole" => contracts::print,
+        "site" => {
+            site_page::print(&text(&name));
+            return ExitCode::SUCCESS;
+        }
         _ => {
-            eprintln!("expected: name one of floor, lift, offices, one_by_one, reversible, whole");
+            eprint!("expected: name one of floor, lift, offices, one_by_one, reversible, ");
+            eprintln!("site, whole");
             return ExitCode::from(2);
         }
     };
-    let file = std::fs::read_to_string(format!("examples/{name}.c"));
-    print(&example(file.expect("the example can be read")));
+    print(&example(text(&name)));
     ExitCode::SUCCESS
+}
+
+fn text(name: &str) -> String {
+    let file = std::fs::read_to_string(format!("examples/{name}.c"));
+    file.expect("the example can be read")
 }
 
 fn example(source: String) -> Example {

@@ -52,6 +52,7 @@ requote README.md '    ' "$old/reversible.expected" tests/reversible.expected
 requote README.md '    ' "$old/lift.expected" tests/lift.expected
 requote README.md '    ' "$old/offices.expected" tests/offices.expected
 requote README.md '    ' "$old/whole.expected" tests/whole.expected
+requote README.md '    ' "$old/site.expected" tests/site.expected
 requote docs/COURSE.md '' "$old/one_by_one.expected" tests/one_by_one.expected
 requote docs/GUARANTEE.md '' "$old/slips" "$old/slips.new"
 echo "remake: all made again, with $times changes"

@@ -43,6 +43,14 @@ offices = 8
 abbrev pub answerNumbers : ℕ
 answerNumbers = 7
 
+-- "no networks or more than 16" (request C-14)
+abbrev pub mostNetworks : ℕ
+mostNetworks = 16
+
+-- "an item of six numbers a floor", and how many limits (requests C-14 and C-17)
+abbrev pub floorNumbers : ℕ
+floorNumbers = 7
+
 -- "its number × 1,000 + its place"
 abbrev pub placeNumbers : ℕ
 placeNumbers = 1000

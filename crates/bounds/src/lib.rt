@@ -31,5 +31,10 @@ pub const OFFICES: usize = 8;
 // How many numbers an answer has.
 pub const ANSWER_NUMBERS: usize = 7;
 
+// The networks of one site's call, at least 1, and how many numbers tell of each (requests C-14 and C-17).
+pub const MOST_NETWORKS: usize = 16;
+
+pub const FLOOR_NUMBERS: usize = 7;
+
 // What a refusal's number is multiplied by in a host call's result: places are below it.
 pub const PLACE_NUMBERS: u64 = 1000;

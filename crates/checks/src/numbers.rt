@@ -44,6 +44,10 @@ pub fn refusal_code(r: Refusal) -> Code
             number: 11,
             place: 0,
         },
+        Refusal::Networks => Code {
+            number: 13,
+            place: 0,
+        },
         Refusal::Limit(place) => Code { number: 14, place },
         Refusal::Resources => Code {
             number: 15,

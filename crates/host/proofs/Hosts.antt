@@ -7,17 +7,19 @@ use native.Mathlib.Omega.{arith}
 use lib.Dec.{ltb}
 use borrow.Author.Tests.{ltb-false}
 use Rattle.bounds.specs.Bounds.{mostRunning, offices, answerNumbers}
-use Rattle.network.specs.Network.{Network}
+use Rattle.network.specs.Network.{Network, arcs, commodities}
 use Rattle.network.specs.Refusal.{refusalCode, hostNumber}
+use Rattle.network.specs.Resources.{resources}
 use Rattle.network.specs.Sound.{Within, Counts}
 use Rattle.network.specs.Verdict.{Condition, verdict, outside, sizeConditions, itemConditions, verdictOn}
 use Rattle.network.specs.declared.Refusal.{Refusal}
+use Rattle.network.specs.declared.Verdict.{Verdict}
 use Rattle.network.specs.declared.Verdict.the-variants.{Accepted, Refused}
 use Rattle.network.proofs.Bounds.{within}
 use Rattle.network.proofs.Decided.{Quiet, accepted-quiet, quiet-accepted, refusal-has}
 use Rattle.network.proofs.Each.{Each, none, more, each-append, each-left, each-right}
 use Rattle.network.proofs.First.{first-refuses, first-accepts}
-use Rattle.network.proofs.HostNumber.{verdict-fits}
+use Rattle.network.proofs.HostNumber.{verdict-fits, items-fit}
 use Rattle.network.proofs.Or.{or-false-left, or-false-right}
 use Rattle.network.proofs.Sizes.{sizes-kept}
 use Rattle.numbers.specs.Numbers.{count, items}
@@ -105,6 +107,20 @@ module _ (lacking : Bool) (n m r k q office : ℕ) (s : Slices) (h : verdict (ca
 
   pub call-open : verdict (hostConditions lacking k m r office s) ≡ Accepted
   call-open = quiet-accepted (each-right (sizeConditions n m r k q) quiet)
+
+-- What a call returns takes eight bytes, whatever is refused first.
+first-fits :
+    (cs ds : List Condition) (v : Verdict) → verdict cs ≡ v → hostNumber v < 2 ^ 64 → (v ≡ Accepted → hostNumber (verdict ds) < 2 ^ 64) → hostNumber (verdict (cs ++ ds)) < 2 ^ 64
+first-fits cs ds Accepted e b later = rw (first-accepts cs ds e) (later refl)
+first-fits cs ds (Refused w) e b later = rw (first-refuses cs ds w e) b
+
+pub result-fits : (lacking : Bool) (net : Network) (q office : ℕ) (s : Slices) → hostNumber (verdictIn lacking net q office s) < 2 ^ 64
+unfolding verdictOn
+result-fits lacking net q office s =
+    let k = callConditions lacking (net .nodes) (arcs net) (resources net) (commodities net) q office s in
+    rw (← append-assoc (sizeConditions (net .nodes) (arcs net) (resources net) (commodities net) q) (hostConditions lacking (commodities net) (arcs net) (resources net) office s) (itemConditions net))
+    (first-fits k (itemConditions net) (verdict k) refl (call-fits lacking (net .nodes) (arcs net) (resources net) (commodities net) q office s)
+    (λ a. items-fit net q (call-counts lacking (net .nodes) (arcs net) (resources net) (commodities net) q office s a)))
 
 -- By the shape of the bytes.
 module _ {n : ℕ} (lacking : Bool) (q office : ℕ) {belts pairs limits : List ℕ} (t : Slices) {s : Shape} (h : Shaped n belts pairs limits s) where

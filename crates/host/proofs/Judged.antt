@@ -20,9 +20,9 @@ use Rattle.packed.specs.declared.Shape.{Shape}
 use Rattle.packed.proofs.Columns.{arcs-is, commodities-is}
 use Rattle.method.specs.Answer.{outcome}
 use Rattle.host.specs.Deliver.{slices, Delivered}
-use Rattle.host.specs.Host.{Slices, Served}
+use Rattle.host.specs.Host.{Slices, solved, Served}
 use Rattle.host.specs.Serve.{Judged}
-use Rattle.host.proofs.Offices.{own, own-after}
+use Rattle.host.proofs.Offices.{own, own-raised, own-kept}
 
 module _ {s : Shape} {xs : List ℕ} (p : Packed s xs) (q : ℕ) (k : Counts (s .nodes) (s .arcs) (s .resources) (s .commodities) q)
     (r : s .resources ≡ resources (netIn s xs)) where
@@ -48,10 +48,7 @@ module _ (net : Network) (q : ℕ) (v : Verdict) (old : Slices) (r : ℕ) where
   served-refused office w e h =
       record {
         returned = h;
-        flow = rw e refl;
-        lengths = rw e refl;
-        answer = rw e refl;
-        counts = rw e refl;
+        left = rw e refl;
         guarantee = λ a. absurd (no-refusal (sym a ∙ e));
       }
 
@@ -60,24 +57,23 @@ module _ (net : Network) (q : ℕ) (v : Verdict) (old : Slices) (r : ℕ) where
   served-accepted new e h d =
       record {
         returned = rw e h;
-        flow = rw e (d .flow);
-        lengths = rw e (d .lengths);
-        answer = rw e (d .answer);
-        counts = rw e (d .counts);
+        left = rw e (d .left);
         guarantee = λ a. d .guarantee;
       }
 
 -- Served with the office's own count lent by itself, and put back: served.
-pub served-own :
-    {net : Network} {q : ℕ} {v : Verdict} (office : ℕ) {flow flow' lengths lengths' answer answer' counts count' : List ℕ} {r : ℕ} (h : office - 1 < count counts) →
-    Served net q 1 v (slices flow lengths answer (own office counts h)) (slices flow' lengths' answer' count') r →
-    Served net q office v (slices flow lengths answer counts) (slices flow' lengths' answer' (put (8 * (office - 1)) 8 counts count')) r
-served-own {net} {q} {v} office {counts = counts} h s =
-    record {
-      returned = s .returned;
-      flow = s .flow;
-      lengths = s .lengths;
-      answer = s .answer;
-      counts = ap (put (8 * (office - 1)) 8 counts) (s .counts) ∙ own-after office counts h v (outcome net q .answer .count);
-      guarantee = s .guarantee;
-    }
+module _ (office : ℕ) (s : Slices) (h : office - 1 < count (s .counts)) where
+  abbrev lent : Slices
+  lent = slices (s .flow) (s .lengths) (s .answer) (own office (s .counts) h)
+
+  abbrev back : Slices → Slices
+  back t = slices (t .flow) (t .lengths) (t .answer) (put (8 * (office - 1)) 8 (s .counts) (t .counts))
+
+  put-back : (net : Network) (q : ℕ) (v : Verdict) → back (afterwards v (solved net q 1 lent) lent) ≡ afterwards v (solved net q office s) s
+  unfolding afterwards
+  put-back net q Accepted =
+      let t = solved net q office s in ap (slices (t .flow) (t .lengths) (t .answer)) (own-raised office (s .counts) h (outcome net q .answer .count))
+  put-back net q (Refused w) = ap (slices (s .flow) (s .lengths) (s .answer)) (own-kept office (s .counts) h)
+
+  pub served-own : {net : Network} {q : ℕ} {v : Verdict} {t : Slices} {r : ℕ} → Served net q 1 v lent t r → Served net q office v s (back t) r
+  served-own {net} {q} {v} k = record { returned = k .returned; left = ap back (k .left) ∙ put-back net q v; guarantee = k .guarantee }

@@ -1,4 +1,5 @@
 pub mod Counting
+pub mod Equal
 pub mod Hosts
 pub mod Judged
 pub mod Offices

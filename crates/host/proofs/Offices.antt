@@ -7,9 +7,6 @@ use native.Mathlib.Nat.{le-of-eq}
 use native.Mathlib.Omega.{arith}
 use lib.ListN.{length, take, drop, drop-of-length-le}
 use lib.Seq.{take-all, drop-drop}
-use Rattle.network.specs.Verdict.{afterwards}
-use Rattle.network.specs.declared.Verdict.{Verdict}
-use Rattle.network.specs.declared.Verdict.the-variants.{Accepted, Refused}
 use Rattle.numbers.specs.Digits.{fromBytes}
 use Rattle.numbers.specs.Numbers.{count, numberAt, putAt}
 use Rattle.packed.specs.Packed.{part, put}
@@ -39,10 +36,8 @@ module _ (office : ℕ) (counts : List ℕ) (h : office - 1 < count counts) wher
   unfolding putAt
   own-put x = rw (drop-of-length-le own {i = 8} (le-of-eq eight), append-nil, drop-drop, ends)
 
-  own-raised : (x : ℕ) → put (8 * (office - 1)) 8 counts (raised 1 x own) ≡ raised office x counts
+  pub own-raised : (x : ℕ) → put (8 * (office - 1)) 8 counts (raised 1 x own) ≡ raised office x counts
   own-raised x = ap (λ y. put (8 * (office - 1)) 8 counts (putAt own 0 (y + x))) own-count ∙ own-put (countOf office counts + x)
 
-  pub own-after : (v : Verdict) (x : ℕ) → put (8 * (office - 1)) 8 counts (afterwards v (raised 1 x own) own) ≡ afterwards v (raised office x counts) counts
-  unfolding afterwards
-  own-after Accepted x = own-raised x
-  own-after (Refused w) x = put-same (8 * (office - 1)) (8 * (office - 1) + 8 - 8 * (office - 1)) counts
+  pub own-kept : put (8 * (office - 1)) 8 counts own ≡ counts
+  own-kept = put-same (8 * (office - 1)) (8 * (office - 1) + 8 - 8 * (office - 1)) counts

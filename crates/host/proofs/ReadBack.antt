@@ -1,11 +1,11 @@
 -- What a host reads back from the tables of an accepted call is the outcome's numbers, none of them cut. Assumes nothing.
-use mathlib.Core.Path.{_≡_, sym, ap, _∙_}
+use mathlib.Core.Path.{_≡_, refl, sym, ap, _∙_}
 use mathlib.Core.Bool.{Bool, false}
 use mathlib.Core.List.{List, map}
 use Prim.Native.Nat.{ℕ, _+_, _*_, _-_, _≤_, _<_}
 use native.Mathlib.Nat.{mul-le-mul-right}
 use native.Mathlib.Omega.{arith}
-use lib.ListN.{length, getD}
+use lib.ListN.{length, getD, length-map}
 use Rattle.bounds.specs.Bounds.{answerNumbers}
 use Rattle.signed.specs.Signed.{twos, fromTwos}
 use Rattle.network.specs.Network.{Network, arcs, commodities}
@@ -13,30 +13,28 @@ use Rattle.network.specs.Resources.{resources}
 use Rattle.network.specs.Sound.{Sound}
 use Rattle.network.specs.Verdict.{verdict, afterwards}
 use Rattle.network.specs.declared.Verdict.{Verdict}
-use Rattle.network.specs.declared.Verdict.the-variants.{Accepted}
+use Rattle.network.specs.declared.Verdict.the-variants.{Accepted, Refused}
 use Rattle.network.proofs.Accepted.{accepted-sound}
 use Rattle.network.proofs.HostNumber.{zero-accepted, other-kept}
 use Rattle.numbers.specs.Numbers.{count, numberAt, written}
 use Rattle.numbers.proofs.Puts.{numberAt-putAt, numberAt-putAt-other}
 use Rattle.numbers.proofs.Signed.{signed-read}
-use Rattle.numbers.proofs.Tables.{numberAt-written}
+use Rattle.numbers.proofs.Tables.{length-written, numberAt-written}
 use Rattle.method.specs.Answer.{amounts, numbersOf, outcome}
 use Rattle.method.specs.Fits.{Words}
+use Rattle.method.specs.Guarantee.{Guarantee}
 use Rattle.host.specs.Deliver.{Room}
-use Rattle.host.specs.Host.{Slices, countOf, raised, hostConditions, verdictIn, Served}
+use Rattle.host.specs.Host.{Slices, countOf, raised, hostConditions, verdictIn, solved, Served}
 use Rattle.host.proofs.Counting.{count-small}
 use Rattle.host.proofs.Hosts.{lacks-none, has-count, not-full, open-for}
 
--- What an accepted call leaves of a table, and a number written into it.
+-- What an accepted call leaves, and a number written into a table.
 pub taken-up : {A : Type 0} {v : Verdict} → v ≡ Accepted → (x y : A) → afterwards v x y ≡ x
 unfolding afterwards
 taken-up a x y = ap (λ v. afterwards v x y) a
 
-accepted-table : {v : Verdict} (old xs : List ℕ) {new : List ℕ} → v ≡ Accepted → new ≡ afterwards v (written old xs) old → new ≡ written old xs
-accepted-table old xs a e = e ∙ taken-up a (written old xs) old
-
-read-back : {v : Verdict} (old xs : List ℕ) {new : List ℕ} → v ≡ Accepted → new ≡ afterwards v (written old xs) old → Words xs → (i : ℕ) → i < length xs → numberAt new i ≡ getD xs i 0
-read-back old xs a e w i l = ap (λ s. numberAt s i) (accepted-table old xs a e) ∙ numberAt-written old xs i l (w i)
+read-back : (old xs : List ℕ) {new : List ℕ} → new ≡ written old xs → Words xs → (i : ℕ) → i < length xs → numberAt new i ≡ getD xs i 0
+read-back old xs e w i l = ap (λ s. numberAt s i) e ∙ numberAt-written old xs i l (w i)
 
 -- A call that returned 0 was accepted; what another leaves of a table of its own is that table as it was.
 pub answered : {net : Network} {q office r : ℕ} {v : Verdict} {old new : Slices} → Served net q office v old new r → r ≡ 0 → v ≡ Accepted
@@ -52,23 +50,26 @@ within i k e m h l = omega (arith, mul-le-mul-right m h)
 
 -- The tables.
 module _ {net : Network} {q office r : ℕ} {v : Verdict} {old new : Slices} (h : Served net q office v old new r) (a : v ≡ Accepted) where
+  pub left : new ≡ solved net q office old
+  left = h .left ∙ taken-up a (solved net q office old) old
+
   pub amount-read : (i e : ℕ) → i < commodities net → e < arcs net →
       fromTwos (numberAt (new .flow) (i * arcs net + e)) ≡ amounts net (outcome net q .flow) i e
   unfolding amounts
   amount-read i e b l =
       let f = h .guarantee a .fits in
-      ap (λ s. fromTwos (numberAt s (i * arcs net + e))) (accepted-table (old .flow) (map twos (outcome net q .flow)) a (h .flow)) ∙
+      ap (λ s. fromTwos (numberAt s (i * arcs net + e))) (ap (λ s. s .flow) left) ∙
       signed-read (old .flow) (outcome net q .flow) (i * arcs net + e) (rw (f .amounts-count) (within i (commodities net) e (arcs net) b l))
       (f .flow (i * arcs net + e))
 
   pub length-read : (e : ℕ) → e < resources net → numberAt (new .lengths) e ≡ getD (outcome net q .lengths) e 0
   length-read e l =
       let f = h .guarantee a .fits in
-      read-back (old .lengths) (outcome net q .lengths) a (h .lengths) (f .lengths) e (rw (f .lengths-count) l)
+      read-back (old .lengths) (outcome net q .lengths) (ap (λ s. s .lengths) left) (f .lengths) e (rw (f .lengths-count) l)
 
   pub answer-read : (j : ℕ) → j < answerNumbers → numberAt (new .answer) j ≡ getD (numbersOf (outcome net q .answer)) j 0
   unfolding numbersOf
-  answer-read j l = read-back (old .answer) (numbersOf (outcome net q .answer)) a (h .answer) (h .guarantee a .fits .answer) j l
+  answer-read j l = read-back (old .answer) (numbersOf (outcome net q .answer)) (ap (λ s. s .answer) left) (h .guarantee a .fits .answer) j l
 
 module _ (lacking : Bool) (net : Network) (q office : ℕ) (old : Slices) (a : verdictIn lacking net q office old ≡ Accepted) where
   pub accepted : Sound net q × (verdict (hostConditions lacking (commodities net) (arcs net) (resources net) office old) ≡ Accepted)
@@ -83,7 +84,7 @@ module _ (lacking : Bool) (net : Network) (q office : ℕ) (old : Slices) (a : v
   -- The office's count is raised, and no other number of the table has changed.
   module _ {new : Slices} {r : ℕ} (h : Served net q office (verdictIn lacking net q office old) old new r) where
     raises : new .counts ≡ raised office (outcome net q .answer .count) (old .counts)
-    raises = h .counts ∙ taken-up a (raised office (outcome net q .answer .count) (old .counts)) (old .counts)
+    raises = ap (λ s. s .counts) (left h a)
 
     there : office - 1 < count (old .counts)
     there = has-count lacking (commodities net) (arcs net) (resources net) office old (accepted .1)
@@ -101,3 +102,25 @@ module _ (lacking : Bool) (net : Network) (q office : ℕ) (old : Slices) (a : v
     pub others-read : (i : ℕ) → (i ≡ office - 1 → ⊥) → numberAt (new .counts) i ≡ numberAt (old .counts) i
     others-read i ne =
         ap (λ s. numberAt s i) raises ∙ numberAt-putAt-other (old .counts) (office - 1) (countOf office (old .counts) + outcome net q .answer .count) there i ne
+
+-- No call changes the length of a table, whatever its verdict.
+module _ (lacking : Bool) (net : Network) (q office : ℕ) (old : Slices) (g : verdictIn lacking net q office old ≡ Accepted → Guarantee net q (outcome net q)) where
+  abbrev after : Verdict → Slices
+  after v = afterwards v (solved net q office old) old
+
+  lengths-after : (v : Verdict) → verdictIn lacking net q office old ≡ v →
+      (length (after v .flow) ≡ length (old .flow)) × (length (after v .lengths) ≡ length (old .lengths)) × (length (after v .answer) ≡ length (old .answer))
+  unfolding afterwards numbersOf
+  lengths-after Accepted a =
+      let f = g a .fits in
+      let room = had-room lacking net q office old a in (
+        length-written (old .flow) (map twos (outcome net q .flow)) (omega (arith, length-map (outcome net q .flow) twos, f .amounts-count, room .0 .for-flow)),
+        length-written (old .lengths) (outcome net q .lengths) (omega (arith, f .lengths-count, room .0 .for-lengths)),
+        length-written (old .answer) (numbersOf (outcome net q .answer)) (room .1),
+      )
+  lengths-after (Refused w) a = (refl, refl, refl)
+
+  pub lengths-kept :
+      let t = after (verdictIn lacking net q office old) in
+      (length (t .flow) ≡ length (old .flow)) × (length (t .lengths) ≡ length (old .lengths)) × (length (t .answer) ≡ length (old .answer))
+  lengths-kept = lengths-after (verdictIn lacking net q office old) refl

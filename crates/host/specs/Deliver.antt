@@ -6,10 +6,10 @@ use Rattle.bounds.specs.Bounds.{mostRunning, answerNumbers}
 use Rattle.signed.specs.Signed.{twos}
 use Rattle.network.specs.Network.{Network}
 use Rattle.numbers.specs.Numbers.{count, written}
-use Rattle.method.specs.Answer.{outcome, numbersOf}
+use Rattle.method.specs.Answer.{outcome}
 use Rattle.method.specs.Guarantee.{Guarantee}
 use Rattle.method.specs.declared.Answer.{Answer}
-use Rattle.host.specs.Host.{Slices, countOf, raised}
+use Rattle.host.specs.Host.{Slices, countOf, solved}
 
 -- The four slices, for the contracts of parts.
 abbrev pub slices : List ℕ → List ℕ → List ℕ → List ℕ → Slices
@@ -36,8 +36,5 @@ pub record TablesWritten (net : Network) (q : ℕ) (a : Answer) (flow lengths ne
 
 -- The outcome's numbers are written.
 pub record Delivered (net : Network) (q : ℕ) (old new : Slices) : Type 0 where
-  pub flow : new .flow ≡ written (old .flow) (map twos (outcome net q .flow))
-  pub lengths : new .lengths ≡ written (old .lengths) (outcome net q .lengths)
-  pub answer : new .answer ≡ written (old .answer) (numbersOf (outcome net q .answer))
-  pub counts : new .counts ≡ raised 1 (outcome net q .answer .count) (old .counts)
+  pub left : new ≡ solved net q 1 old
   pub guarantee : Guarantee net q (outcome net q)

@@ -53,14 +53,21 @@ hostConditions lacking k m r office s = when (short lacking k m r s) ShortTable 
 abbrev pub verdictIn : Bool → Network → ℕ → ℕ → Slices → Verdict
 verdictIn lacking net q office s = verdictOn net q (hostConditions lacking (commodities net) (arcs net) (resources net) office s)
 
--- What a call with the verdict v on the slices old leaves: its result; in each table the outcome's numbers first, amounts in two's complement, and
--- later bytes as they were; the office's count raised by the iterations; and where it is accepted, all that holds of the outcome.
+-- What an accepted call makes of the slices: in each table the outcome's numbers first, amounts in two's complement, and later bytes as they were;
+-- the office's count raised by the iterations.
+abbrev pub solved : Network → ℕ → ℕ → Slices → Slices
+solved net q office s =
+    record {
+      flow = written (s .flow) (map twos (outcome net q .flow));
+      lengths = written (s .lengths) (outcome net q .lengths);
+      answer = written (s .answer) (numbersOf (outcome net q .answer));
+      counts = raised office (outcome net q .answer .count) (s .counts);
+    }
+
+-- What a call with the verdict v on the slices old leaves: its result and its slices; and where it is accepted, all that holds of the outcome.
 pub record Served (net : Network) (q office : ℕ) (v : Verdict) (old new : Slices) (result : ℕ) : Type 0 where
   pub returned : result ≡ hostNumber v
-  pub flow : new .flow ≡ afterwards v (written (old .flow) (map twos (outcome net q .flow))) (old .flow)
-  pub lengths : new .lengths ≡ afterwards v (written (old .lengths) (outcome net q .lengths)) (old .lengths)
-  pub answer : new .answer ≡ afterwards v (written (old .answer) (numbersOf (outcome net q .answer))) (old .answer)
-  pub counts : new .counts ≡ afterwards v (raised office (outcome net q .answer .count) (old .counts)) (old .counts)
+  pub left : new ≡ afterwards v (solved net q office old) old
   pub guarantee : v ≡ Accepted → Guarantee net q (outcome net q)
 
 -- What every call that solves promises; one that writes nothing else lacks no table, and promises no more.

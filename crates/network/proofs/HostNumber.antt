@@ -10,7 +10,7 @@ use Rattle.network.specs.Resources.{resources}
 use Rattle.network.specs.Sound.{Within, Counts}
 use Rattle.network.specs.Verdict.{verdict, sizeConditions, itemConditions, afterwards}
 use Rattle.network.specs.declared.Refusal.{Refusal}
-use Rattle.network.specs.declared.Refusal.the-variants.{Nodes, Arcs, Commodities, Precision, ShortTable, LooseArc, Capacity, LooseCommodity, Layout, LongFile, FullCount, Limit, Resources, Office}
+use Rattle.network.specs.declared.Refusal.the-variants.{Nodes, Arcs, Commodities, Precision, ShortTable, LooseArc, Capacity, LooseCommodity, Layout, LongFile, FullCount, Networks, Limit, Resources, Office}
 use Rattle.network.specs.declared.Verdict.{Verdict}
 use Rattle.network.specs.declared.Verdict.the-variants.{Accepted, Refused}
 use Rattle.network.proofs.Faults.{SizeFault, ItemFault, of-nodes, of-arcs, of-resources, of-commodities, of-precision, of-ends, of-capacity, of-limit, of-commodity, size-refused, item-refused}
@@ -28,6 +28,7 @@ numbered (LooseCommodity p) = record { least = omega arith; most = omega arith }
 numbered (Layout p) = record { least = omega arith; most = omega arith }
 numbered LongFile = record { least = omega arith; most = omega arith }
 numbered FullCount = record { least = omega arith; most = omega arith }
+numbered Networks = record { least = omega arith; most = omega arith }
 numbered (Limit p) = record { least = omega arith; most = omega arith }
 numbered Resources = record { least = omega arith; most = omega arith }
 numbered Office = record { least = omega arith; most = omega arith }

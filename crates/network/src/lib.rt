@@ -12,6 +12,7 @@ pub enum Refusal {
     Layout(u64),
     LongFile,
     FullCount,
+    Networks,
     Limit(u64),
     Resources,
     Office,

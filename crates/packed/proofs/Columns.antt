@@ -27,14 +27,16 @@ module _ (a n : ℕ) (xs : List ℕ) where
     pub put-length : length (put a n xs ys) ≡ length xs
     put-length = same-len-mid a (a + n - a) xs ys (same ∙ sym (part-length h))
 
-    -- the columns behind it stay,
-    pub part-behind : (b k : ℕ) → a + n ≤ b → part b k (put a n xs ys) ≡ part b k xs
-    part-behind b k past =
+    -- what is behind it stays,
+    pub drop-behind : (b : ℕ) → a + n ≤ b → drop b (put a n xs ys) ≡ drop b xs
+    drop-behind b past =
         let whole : a + n + (b - (a + n)) ≡ b = omega arith in
         let split : (l : List ℕ) → drop (b - (a + n)) (drop (a + n) l) ≡ drop b l = λ l. drop-drop (b - (a + n)) (a + n) l ∙ ap (λ i. drop i l) whole in
-        ap (take (b + k - b))
-        (sym (split (put a n xs ys)) ∙
-        (ap (drop (b - (a + n))) (drop-put a (a + n) xs ys (omega arith) h (same ∙ omega arith)) ∙ split xs))
+        sym (split (put a n xs ys)) ∙ (ap (drop (b - (a + n))) (drop-put a (a + n) xs ys (omega arith) h (same ∙ omega arith)) ∙ split xs)
+
+    -- the columns there too,
+    pub part-behind : (b k : ℕ) → a + n ≤ b → part b k (put a n xs ys) ≡ part b k xs
+    part-behind b k past = ap (take (b + k - b)) (drop-behind b past)
 
   -- and so do those before it.
   pub part-before : (b k : ℕ) (ys : List ℕ) → a ≤ length xs → b + k ≤ a → part b k (put a n xs ys) ≡ part b k xs

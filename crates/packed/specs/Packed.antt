@@ -1,22 +1,15 @@
 -- The network that one slice of numbers holds. A column that is added later is added here, and to the functions that fill the slice.
 -- Assumes nothing.
 use mathlib.Core.Path.{_≡_}
-use mathlib.Core.List.{List, _++_}
-use Prim.Native.Nat.{ℕ, _+_, _-_, _≤_}
-use lib.ListN.{length, take, drop}
+use mathlib.Core.List.{List}
+use Prim.Native.Nat.{ℕ, _≤_}
+use lib.ListN.{length}
 use Rattle.bounds.specs.Bounds.{mostNodes, mostArcs, mostCommodities}
 use Rattle.network.specs.Network.{Network}
 use Rattle.network.specs.Resources.{resources}
 use Rattle.network.specs.Sound.{Sound}
 use Rattle.packed.specs.declared.Shape.{Shape}
-
--- The n numbers from place a on: how the checker shows a part a .. a + n of a slice.
-abbrev pub part : ℕ → ℕ → List ℕ → List ℕ
-part a n xs = take (a + n - a) (drop a xs)
-
--- The slice with ys in the place of those n numbers: how it shows a part that was lent and has come back.
-abbrev pub put : ℕ → ℕ → List ℕ → List ℕ → List ℕ
-put a n xs ys = take a xs ++ (ys ++ drop (a + n - a) (drop a xs))
+pub use Rattle.packed.specs.Part.{part, put}
 
 -- Where the columns begin, as src/lib.rt names them, and how many numbers they take.
 abbrev pub tailsFrom : ℕ

@@ -108,7 +108,7 @@ returns-2 c =
     let h = i .shape .ensures in
     rw
     (accepted-in (s .args .lacking) (s .args .q) (s .args .office) (lent s) h (passed t))
-    (served-own (s .args .office) (has-count _ _ _ _ _ (lent s) (opened t))
+    (served-own (s .args .office) (lent s) (has-count _ _ _ _ _ (lent s) (opened t))
     (judged-of (ap (λ n. networkIn n (now (s .args .belts)) (now (s .args .pairs)) (now (s .args .limits))) (h .nodes)) (serve-at c .serve .ensures)))
 
 pub solve-spec : {M : Type 1} → statement M

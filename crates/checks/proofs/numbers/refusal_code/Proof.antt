@@ -9,7 +9,7 @@ pub refusal-code-spec : {M : Type 1} → statement M
 refusal-code-spec =
     tie.close (tie.spec (λ c. search needs) (λ c. search needs) (λ c. search needs) (λ c. search needs) (λ c. search needs)
     (λ c. search needs) (λ c. search needs) (λ c. search needs) (λ c. search needs) (λ c. search needs) (λ c. search needs)
-    (λ c. search needs) (λ c. search needs) (λ c. search needs)
+    (λ c. search needs) (λ c. search needs) (λ c. search needs) (λ c. search needs)
     (λ c. sym (ap refusalCode (c .enum-told .given .1)))
     (λ c. sym (ap refusalCode (c .enum-told2 .given .1)))
     (λ c. sym (ap refusalCode (c .enum-told3 .given .1)))
@@ -21,6 +21,7 @@ refusal-code-spec =
     (λ c. sym (ap refusalCode (c .before .r4 .given .1)))
     (λ c. sym (ap refusalCode (c .enum-told6 .given .1)))
     (λ c. sym (ap refusalCode (c .enum-told7 .given .1)))
-    (λ c. sym (ap refusalCode (c .before .r5 .given .1)))
     (λ c. sym (ap refusalCode (c .enum-told8 .given .1)))
-    (λ c. sym (ap refusalCode (c .enum-told9 .given .1))))
+    (λ c. sym (ap refusalCode (c .before .r5 .given .1)))
+    (λ c. sym (ap refusalCode (c .enum-told9 .given .1)))
+    (λ c. sym (ap refusalCode (c .enum-told10 .given .1))))

@@ -7,6 +7,7 @@ use Rattle.numbers.specs.Numbers.{written}
 use Rattle.method.specs.Answer.{numbersOf}
 use Rattle.host.specs.Host.{raised}
 use Rattle.host.proofs.Counting.{count-small}
+use Rattle.host.proofs.Equal.{same-slices}
 use Rattle.host.proofs.deliver.deliver.Statement.{statement}
 use Rattle.host.proofs.deliver.deliver.Tie as tie
 
@@ -38,10 +39,9 @@ returns c =
     let k = c .before .before in let a = answer-at k in let t = tables-at a in
     let s = entry t in let r = t .write-tables .ensures in
     record {
-      flow = r .flows;
-      lengths = r .bests;
-      answer = a .put-answer .ensures ∙ ap (λ a. written (now (s .args .answer)) (numbersOf a)) (r .answers);
-      counts = k .raise-count .ensures ∙ ap (λ a. raised 1 (a .count) (now (s .args .running))) (r .answers);
+      left =
+          same-slices (r .flows) (r .bests) (a .put-answer .ensures ∙ ap (λ a. written (now (s .args .answer)) (numbersOf a)) (r .answers))
+          (k .raise-count .ensures ∙ ap (λ a. raised 1 (a .count) (now (s .args .running))) (r .answers));
       guarantee = r .guarantee;
     }
 

@@ -1,0 +1,9 @@
+pub mod Begins
+pub mod Eight
+pub mod Floor
+pub mod Floors
+pub mod Listed
+pub mod Shared
+pub mod Singly
+pub mod Sites
+pub mod Turns

@@ -1,0 +1,4 @@
+pub mod Parts
+pub mod Singly
+pub mod Site
+pub mod Turns
