@@ -10,6 +10,7 @@ mod fast;
 mod figures;
 mod floors;
 mod guarded;
+mod joined;
 mod library;
 mod limited;
 mod limits;
@@ -19,6 +20,7 @@ mod method;
 mod network;
 mod offices;
 mod outside;
+mod parts;
 mod programs;
 mod random;
 mod rare;
@@ -26,6 +28,8 @@ mod reversible;
 mod search;
 mod shapes;
 mod shares;
+mod site;
+mod sites;
 mod solver;
 mod tally;
 mod ties;
@@ -55,6 +59,7 @@ struct Amounts {
     plain: u64,
     marked: marked::Amounts,
     limited: limited::Amounts,
+    sites: sites::Amounts,
 }
 
 const WHOLE: Amounts = Amounts {
@@ -67,6 +72,7 @@ const WHOLE: Amounts = Amounts {
     plain: 4,
     marked: marked::Amounts { ties: 650, cancelling: 650, small: 9_750, medium: 39, full: 2 },
     limited: limited::Amounts { ties: 650, cancelling: 325, small: 9_750, medium: 39, full: 3 },
+    sites: sites::Amounts { damaged: 1, random: 5_200, full: 16 },
 };
 const QUICK: Amounts = Amounts {
     levels: 51,
@@ -78,6 +84,7 @@ const QUICK: Amounts = Amounts {
     plain: 0,
     marked: marked::Amounts { ties: 65, cancelling: 65, small: 390, medium: 13, full: 0 },
     limited: limited::Amounts { ties: 65, cancelling: 65, small: 390, medium: 13, full: 0 },
+    sites: sites::Amounts { damaged: 29, random: 260, full: 0 },
 };
 
 struct Options {
@@ -118,6 +125,7 @@ fn main() -> ExitCode {
     marked::compare(&mut tally, &amounts.marked, amounts.plain, seed + 5);
     limited::compare(&mut tally, &amounts.limited, amounts.plain, seed + 10);
     totes::compare(&mut tally, seed + 17);
+    sites::compare(&mut tally, &amounts.sites, seed + 19);
     tally.close()
 }
 
@@ -138,11 +146,13 @@ fn timed(name: &str, tally: &mut Tally, part: impl FnOnce(&mut Tally)) {
     let (before, started) = (*tally, Instant::now());
     part(tally);
     println!(
-        "{name}: {} solved, {} unjoined, {} refused, {} of them for whole totes, in {:.1} s",
+        "{name}: {} solved, {} unjoined, {} refused, {} of them for whole totes and {} for sites, \
+         in {:.1} s",
         tally.solved - before.solved,
         tally.unjoined - before.unjoined,
         tally.refused - before.refused,
         tally.whole - before.whole,
+        tally.sites - before.sites,
         started.elapsed().as_secs_f64()
     );
 }

@@ -76,6 +76,11 @@ pub fn cases() -> Vec<Case> {
     cases
 }
 
+/// Each fault alone.
+pub fn alone() -> Vec<Case> {
+    faults().iter().map(|fault| case(&[fault])).collect()
+}
+
 /// Calls with at most one fault, and what is returned if a table that another call has
 /// beside these is too short as well.
 pub fn beside_short(table: &str) -> Vec<Case> {

@@ -2,7 +2,8 @@
 //! what it writes outside them shows, and so does a wish for aligned numbers.
 
 use crate::call::Call;
-use crate::library::{solve, whole, Lent};
+use crate::library::{site, solve, whole, Lent};
+use crate::site::Site;
 use crate::whole::Whole;
 
 const BEFORE: usize = 33;
@@ -43,36 +44,55 @@ impl Guarded {
 /// the slices outside which it wrote.
 pub fn call_library(call: &Call) -> Result<(u64, Call), String> {
     let run = |lent: Lent, _: &mut [u8]| solve(call.n, call.q, call.office, lent);
-    let (returned, after, _) = guarded(call, &[], run)?;
-    Ok((returned, after))
+    let (returned, lent, _) = guarded(slices(call), ("totes", &[]), run)?;
+    Ok((returned, left(call, lent)))
 }
 
 /// The same of the call of request C-15.
 pub fn call_whole(Whole { call, totes }: &Whole) -> Result<(u64, Whole), String> {
     let run = |lent: Lent, totes: &mut [u8]| whole(call.n, call.q, call.office, lent, totes);
-    let (returned, call, totes) = guarded(call, totes, run)?;
-    Ok((returned, Whole { call, totes }))
+    let (returned, lent, totes) = guarded(slices(call), ("totes", totes), run)?;
+    Ok((returned, Whole { call: left(call, lent), totes }))
 }
 
+/// And of that of request C-14.
+pub fn call_site(whole: &Site) -> Result<(u64, Site), String> {
+    let Site { office, floors, belts, pairs, limits, flow, length, answers, counts } = whole;
+    let run = |lent: Lent, floors: &mut [u8]| site(*office, floors, lent);
+    let given: [&[u8]; 7] = [belts, pairs, limits, flow, length, answers, counts];
+    let (returned, lent, floors) = guarded(given, ("floors", floors), run)?;
+    let [belts, pairs, limits, flow, length, answers, counts] = lent;
+    let office = *office;
+    let after = Site { office, floors, belts, pairs, limits, flow, length, answers, counts };
+    Ok((returned, after))
+}
+
+fn slices(call: &Call) -> [&[u8]; 7] {
+    let Call { belts, pairs, limits, flow, length, answer, counts, .. } = call;
+    [belts, pairs, limits, flow, length, answer, counts]
+}
+
+fn left(call: &Call, slices: [Vec<u8>; 7]) -> Call {
+    let Call { n, q, office, .. } = *call;
+    let [belts, pairs, limits, flow, length, answer, counts] = slices;
+    Call { n, q, office, belts, pairs, limits, flow, length, answer, counts }
+}
+
+/// Of the seven slices that all calls have, and one that a call has beside them.
 fn guarded(
-    call: &Call,
-    totes: &[u8],
+    seven: [&[u8]; 7],
+    (name, own): (&str, &[u8]),
     run: impl FnOnce(Lent, &mut [u8]) -> u64,
-) -> Result<(u64, Call, Vec<u8>), String> {
-    let Call { n, q, office, belts, pairs, limits, flow, length, answer, counts } = call;
-    let given: [&[u8]; 8] = [belts, pairs, limits, flow, length, answer, counts, totes];
-    let mut lent = given.map(Guarded::around);
-    let [belts, pairs, limits, flow, length, answer, counts, totes] =
-        lent.each_mut().map(Guarded::slice);
-    let returned = run(Lent { belts, pairs, limits, flow, length, answer, counts }, totes);
-    let names = ["belts", "pairs", "limits", "flow", "length", "answer", "counts", "totes"];
-    let spilled: Vec<&str> =
-        lent.iter().zip(names).filter(|(g, _)| !g.intact()).map(|(_, name)| name).collect();
+) -> Result<(u64, [Vec<u8>; 7], Vec<u8>), String> {
+    let (mut lent, mut own) = (seven.map(Guarded::around), Guarded::around(own));
+    let [belts, pairs, limits, flow, length, answer, counts] = lent.each_mut().map(Guarded::slice);
+    let lend = Lent { belts, pairs, limits, flow, length, answer, counts };
+    let returned = run(lend, own.slice());
+    let names = ["belts", "pairs", "limits", "flow", "length", "answer", "counts", name];
+    let all = lent.iter().chain([&own]).zip(names);
+    let spilled: Vec<&str> = all.filter(|(g, _)| !g.intact()).map(|(_, name)| name).collect();
     if !spilled.is_empty() {
         return Err(format!("wrote outside {}", spilled.join(", ")));
     }
-    let [belts, pairs, limits, flow, length, answer, counts, totes] = lent.map(Guarded::contents);
-    let (n, q, office) = (*n, *q, *office);
-    let after = Call { n, q, office, belts, pairs, limits, flow, length, answer, counts };
-    Ok((returned, after, totes))
+    Ok((returned, lent.map(Guarded::contents), own.contents()))
 }

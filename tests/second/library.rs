@@ -1,8 +1,8 @@
 //! The calls into the static library, and the only unsafe code here.
 
-/// What a call lends. Slices that are borrowed so overlap nowhere. The three that
-/// the library only reads are lent as if it might write, so that a caller may
-/// look whether it did.
+/// What a call lends. Slices that are borrowed so overlap nowhere. Those that the
+/// library only reads are lent as if it might write, so that a caller may look whether
+/// it did.
 pub struct Lent<'a> {
     pub belts: &'a mut [u8],
     pub pairs: &'a mut [u8],
@@ -13,16 +13,15 @@ pub struct Lent<'a> {
     pub counts: &'a mut [u8],
 }
 
-/// A function for each call that solves: all of them take the same, and then the
-/// tables of their own.
+/// A function for each call that solves: after numbers, and lists of their own, all of
+/// them take the same, and then the tables of their own.
 macro_rules! calls {
-    ($($name:ident, $symbol:ident ($($own:ident),*);)*) => {
+    ($($name:ident, $symbol:ident ($($number:ident),*; $($list:ident),*; $($own:ident),*);)*) => {
         #[link(name = "vithmork", kind = "static")]
         extern "C" {
             $(fn $symbol(
-                n: u64,
-                q: u64,
-                office: u64,
+                $($number: u64,)*
+                $($list: *const u8, _: usize,)*
                 belts: *const u8,
                 belts_len: usize,
                 pairs: *const u8,
@@ -41,14 +40,18 @@ macro_rules! calls {
             ) -> u64;)*
         }
 
-        $(pub fn $name(n: u64, q: u64, office: u64, lent: Lent $(, $own: &mut [u8])*) -> u64 {
+        $(pub fn $name(
+            $($number: u64,)*
+            $($list: &mut [u8],)*
+            lent: Lent,
+            $($own: &mut [u8]),*
+        ) -> u64 {
             // SAFETY: the library asks of its caller only that each pointer and count be
             // a slice of its own, and borrowed slices are.
             unsafe {
                 $symbol(
-                    n,
-                    q,
-                    office,
+                    $($number,)*
+                    $($list.as_mut_ptr().cast_const(), $list.len(),)*
                     lent.belts.as_mut_ptr().cast_const(),
                     lent.belts.len(),
                     lent.pairs.as_mut_ptr().cast_const(),
@@ -71,6 +74,7 @@ macro_rules! calls {
 }
 
 calls! {
-    solve, vithmork_solve();
-    whole, vithmork_whole(totes);
+    solve, vithmork_solve(n, q, office;;);
+    whole, vithmork_whole(n, q, office;; totes);
+    site, vithmork_site(office; floors;);
 }

@@ -20,6 +20,7 @@ mod random;
 mod reversible;
 mod search;
 mod shapes;
+mod site;
 mod whole;
 
 use call::{numbers, Call};

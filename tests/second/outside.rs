@@ -2,12 +2,13 @@
 //! a run of the method: document 01's flow and capacities with the signs of request
 //! C-12 and the limits of C-17, and the promises of total, bound and counts, with those of
 //! C-20 and C-24, and of whole totes (C-15). Of the second solver it shares the load mark T
-//! alone.
+//! and how a site (C-14) is cut into floors, no more.
 
-use crate::call::{get, numbers, Call, NUMBER};
+use crate::call::{get, numbers, put, Call, NUMBER};
 use crate::method::threshold;
 use crate::network::{Arc, Commodity, Network};
 use crate::shares::{reaches, shares};
+use crate::site::{Site, ANSWERED};
 use crate::whole::Whole;
 
 /// Longer than any path, and the sum of two still fits.
@@ -47,6 +48,22 @@ pub fn check_totes(before: &Whole, after: &Whole) -> Result<(), &'static str> {
     let later = before.totes[written..] == after.totes[written..];
     holds(later, "later places of the totes are changed")?;
     plan.check_totes(&numbers(&after.totes[..written]))
+}
+
+/// The same of each floor that a site has solved, and that their choices together raise
+/// the office's count.
+pub fn check_site(before: &Site, after: &Site) -> Result<(), &'static str> {
+    let mut counts = before.counts.clone();
+    let returned = after.answers.chunks_exact(ANSWERED).map(|eight| get(eight, 0));
+    let floors = before.cut().0.into_iter().zip(after.cut().0).zip(returned);
+    for ((before, after), _) in floors.filter(|(_, returned)| *returned == 0) {
+        holds((1..=8).contains(&before.office), "accepted for no office")?;
+        let before = Call { counts: counts.clone(), ..before };
+        let count = get(&counts, before.own()) + get(&after.answer, 5);
+        put(&mut counts, before.own(), count);
+        check(&before, &Call { counts: counts.clone(), ..after })?;
+    }
+    holds(counts == after.counts, "the floors' choices do not sum to what a count was raised by")
 }
 
 /// The office's own count is raised, and every other byte of the table is as it was.

@@ -7,6 +7,7 @@ use crate::guarded;
 use crate::network::{Arc, Commodity, Network, Solution};
 use crate::outside;
 use crate::random::Random;
+use crate::site::{Site, FLOOR, MOST_FLOORS};
 use crate::totes;
 use crate::whole::Whole;
 use std::process::ExitCode;
@@ -23,8 +24,11 @@ pub struct Tally {
     pub solved: u64,
     pub unjoined: u64,
     pub refused: u64,
-    /// Of all these, those for whole totes.
+    /// Of all these, those for whole totes and those for sites.
     pub whole: u64,
+    pub sites: u64,
+    /// Of the sites that were gone through.
+    floors: u64,
     differences: usize,
 }
 
@@ -87,6 +91,30 @@ impl Tally {
         found.map_or(whole.clone(), |(_, after)| after)
     }
 
+    /// The call of request C-14. A site that was gone through counts as solved, whatever
+    /// became of its floors.
+    pub fn compare_site(&mut self, name: &str, site: &Site, wanted: (u64, Site)) -> Site {
+        self.sites += 1;
+        if wanted.0 == 0 {
+            self.solved += 1;
+            self.floors += site.number_of_floors() as u64;
+        } else {
+            self.refused += 1;
+        }
+        let found = match self.forms {
+            true => Ok(site.answered(fast::solve)),
+            false => guarded::call_site(site),
+        };
+        let verdict = found.as_ref().map_err(String::clone).and_then(|(returned, after)| {
+            same_number(wanted.0, *returned)?;
+            let mut slices = site_slices(&wanted.1, after).into_iter();
+            slices.try_for_each(|(name, wanted, found)| same_bytes(name, wanted, found))?;
+            checked_floors(site, *returned, after)
+        });
+        self.judge(name, Some(site), verdict);
+        found.map_or(site.clone(), |(_, after)| after)
+    }
+
     fn count(&mut self, returned: u64, after: &Call) {
         match returned {
             0 if get(&after.answer, 5) == 0 => self.unjoined += 1,
@@ -95,20 +123,21 @@ impl Tally {
         }
     }
 
-    pub fn judge(&mut self, name: &str, call: Option<&Call>, verdict: Result<(), String>) {
+    pub fn judge(&mut self, name: &str, call: Option<&dyn Shown>, verdict: Result<(), String>) {
         let Err(difference) = verdict else { return };
         self.differences += 1;
         if self.differences <= SHOWN {
             println!("DIFFERENT {name}: {difference}");
-            call.inspect(|call| describe(call));
+            call.inspect(|call| call.describe());
         }
     }
 
     pub fn close(&self) -> ExitCode {
-        let Tally { solved, unjoined, refused, whole, differences, .. } = self;
+        let Tally { solved, unjoined, refused, whole, sites, floors, differences, .. } = self;
         println!(
             "compare: {} calls ({solved} solved, {unjoined} unjoined, {refused} refused; {whole} \
-             of them for whole totes), {differences} differences",
+             of them for whole totes, {sites} for sites of {floors} floors), {differences} \
+             differences",
             self.calls()
         );
         ExitCode::from(u8::from(*differences > 0))
@@ -131,9 +160,13 @@ pub fn holds(fact: bool, otherwise: &str) -> Result<(), String> {
 }
 
 fn first_difference(wanted: (u64, &Call), found: (u64, &Call)) -> Result<(), String> {
-    holds(wanted.0 == found.0, &format!("returned {}, not {}", found.0, wanted.0))?;
+    same_number(wanted.0, found.0)?;
     let mut slices = slices(wanted.1, found.1).into_iter();
     slices.try_for_each(|(name, wanted, found)| same_bytes(name, wanted, found))
+}
+
+fn same_number(wanted: u64, found: u64) -> Result<(), String> {
+    holds(wanted == found, &format!("returned {found}, not {wanted}"))
 }
 
 fn same_bytes(name: &str, wanted: &[u8], found: &[u8]) -> Result<(), String> {
@@ -158,6 +191,13 @@ fn checked_totes(whole: &Whole, returned: u64, after: &Whole) -> Result<(), Stri
     }
 }
 
+fn checked_floors(site: &Site, returned: u64, after: &Site) -> Result<(), String> {
+    match returned {
+        0 => outside::check_site(site, after).map_err(String::from),
+        _ => Ok(()),
+    }
+}
+
 fn slices<'a>(a: &'a Call, b: &'a Call) -> [(&'static str, &'a [u8], &'a [u8]); 7] {
     [
         ("belts", &a.belts, &b.belts),
@@ -170,19 +210,50 @@ fn slices<'a>(a: &'a Call, b: &'a Call) -> [(&'static str, &'a [u8], &'a [u8]); 
     ]
 }
 
+fn site_slices<'a>(a: &'a Site, b: &'a Site) -> [(&'static str, &'a [u8], &'a [u8]); 8] {
+    [
+        ("floors", &a.floors, &b.floors),
+        ("belts", &a.belts, &b.belts),
+        ("pairs", &a.pairs, &b.pairs),
+        ("limits", &a.limits, &b.limits),
+        ("flow", &a.flow, &b.flow),
+        ("length", &a.length, &b.length),
+        ("answers", &a.answers, &b.answers),
+        ("counts", &a.counts, &b.counts),
+    ]
+}
+
+pub trait Shown {
+    fn describe(&self);
+}
+
 /// Enough to make the call again.
-fn describe(call: &Call) {
-    let net = call.network();
-    let belt = |arc: &Arc| match arc.mark {
-        0 => format!(" {}-{}:{}", arc.tail, arc.head, arc.capacity),
-        mark => format!(" {}-{}:{}*{mark}", arc.tail, arc.head, arc.capacity),
-    };
-    let pair = |pair: &Commodity| format!(" {}-{}", pair.source, pair.sink);
-    let belts: String = net.arcs.iter().take(256).map(belt).collect();
-    let pairs: String = net.commodities.iter().take(32).map(pair).collect();
-    println!("  n {} q {} office {}", call.n, call.q, call.office);
-    println!("  {} belts{belts}", net.arcs.len());
-    println!("  {} pairs{pairs}", net.commodities.len());
-    println!("  limits {:?}", net.limits);
-    println!("  counts {:?}", numbers(&call.counts));
+impl Shown for Call {
+    fn describe(&self) {
+        let net = self.network();
+        let belt = |arc: &Arc| match arc.mark {
+            0 => format!(" {}-{}:{}", arc.tail, arc.head, arc.capacity),
+            mark => format!(" {}-{}:{}*{mark}", arc.tail, arc.head, arc.capacity),
+        };
+        let pair = |pair: &Commodity| format!(" {}-{}", pair.source, pair.sink);
+        let belts: String = net.arcs.iter().take(256).map(belt).collect();
+        let pairs: String = net.commodities.iter().take(32).map(pair).collect();
+        println!("  n {} q {} office {}", self.n, self.q, self.office);
+        println!("  {} belts{belts}", net.arcs.len());
+        println!("  {} pairs{pairs}", net.commodities.len());
+        println!("  limits {:?}", net.limits);
+        println!("  counts {:?}", numbers(&self.counts));
+    }
+}
+
+/// The floors themselves are too long to be shown: seed and name lead to them.
+impl Shown for Site {
+    fn describe(&self) {
+        let sizes = site_slices(self, self).map(|(name, slice, _)| (name, slice.len()));
+        println!("  office {} bytes {sizes:?}", self.office);
+        for item in self.floors.chunks(FLOOR).take(MOST_FLOORS + 1) {
+            println!("  floor {:?}", numbers(item));
+        }
+        println!("  counts {:?}", numbers(&self.counts));
+    }
 }

@@ -121,7 +121,7 @@ fn sizes(needed: usize) -> impl Iterator<Item = (usize, u64)> {
     short.into_iter().chain(enough.map(|more| (needed + more, 0)))
 }
 
-fn of_any_kind(net: Network, random: &mut Random) -> Network {
+pub fn of_any_kind(net: Network, random: &mut Random) -> Network {
     let (stations, share) = (random.pick(&STATIONS), random.pick(&SHARES));
     marked(limited(net, stations, random), share, random)
 }

@@ -20,7 +20,7 @@ use Rattle.packed.specs.declared.Shape.{Shape}
 use Rattle.packed.proofs.Columns.{arcs-is, commodities-is}
 use Rattle.method.specs.Answer.{outcome}
 use Rattle.host.specs.Deliver.{slices, Delivered}
-use Rattle.host.specs.Host.{Slices, solved, Served}
+use Rattle.host.specs.Host.{Slices, solved, called, Served}
 use Rattle.host.specs.Serve.{Judged}
 use Rattle.host.proofs.Offices.{own, own-raised, own-kept}
 
@@ -69,7 +69,7 @@ module _ (office : ℕ) (s : Slices) (h : office - 1 < count (s .counts)) where
   abbrev back : Slices → Slices
   back t = slices (t .flow) (t .lengths) (t .answer) (put (8 * (office - 1)) 8 (s .counts) (t .counts))
 
-  put-back : (net : Network) (q : ℕ) (v : Verdict) → back (afterwards v (solved net q 1 lent) lent) ≡ afterwards v (solved net q office s) s
+  put-back : (net : Network) (q : ℕ) (v : Verdict) → back (called net q 1 v lent) ≡ called net q office v s
   unfolding afterwards
   put-back net q Accepted =
       let t = solved net q office s in ap (slices (t .flow) (t .lengths) (t .answer)) (own-raised office (s .counts) h (outcome net q .answer .count))

@@ -24,7 +24,7 @@ use Rattle.method.specs.Answer.{amounts, numbersOf, outcome}
 use Rattle.method.specs.Fits.{Words}
 use Rattle.method.specs.Guarantee.{Guarantee}
 use Rattle.host.specs.Deliver.{Room}
-use Rattle.host.specs.Host.{Slices, countOf, raised, hostConditions, verdictIn, solved, Served}
+use Rattle.host.specs.Host.{Slices, countOf, raised, hostConditions, verdictIn, solved, called, Served}
 use Rattle.host.proofs.Counting.{count-small}
 use Rattle.host.proofs.Hosts.{lacks-none, has-count, not-full, open-for}
 
@@ -105,11 +105,9 @@ module _ (lacking : Bool) (net : Network) (q office : ℕ) (old : Slices) (a : v
 
 -- No call changes the length of a table, whatever its verdict.
 module _ (lacking : Bool) (net : Network) (q office : ℕ) (old : Slices) (g : verdictIn lacking net q office old ≡ Accepted → Guarantee net q (outcome net q)) where
-  abbrev after : Verdict → Slices
-  after v = afterwards v (solved net q office old) old
-
   lengths-after : (v : Verdict) → verdictIn lacking net q office old ≡ v →
-      (length (after v .flow) ≡ length (old .flow)) × (length (after v .lengths) ≡ length (old .lengths)) × (length (after v .answer) ≡ length (old .answer))
+      let t = called net q office v old in
+      (length (t .flow) ≡ length (old .flow)) × (length (t .lengths) ≡ length (old .lengths)) × (length (t .answer) ≡ length (old .answer))
   unfolding afterwards numbersOf
   lengths-after Accepted a =
       let f = g a .fits in
@@ -121,6 +119,6 @@ module _ (lacking : Bool) (net : Network) (q office : ℕ) (old : Slices) (g : v
   lengths-after (Refused w) a = (refl, refl, refl)
 
   pub lengths-kept :
-      let t = after (verdictIn lacking net q office old) in
+      let t = called net q office (verdictIn lacking net q office old) old in
       (length (t .flow) ≡ length (old .flow)) × (length (t .lengths) ≡ length (old .lengths)) × (length (t .answer) ≡ length (old .answer))
   lengths-kept = lengths-after (verdictIn lacking net q office old) refl

@@ -64,10 +64,14 @@ solved net q office s =
       counts = raised office (outcome net q .answer .count) (s .counts);
     }
 
--- What a call with the verdict v on the slices old leaves: its result and its slices; and where it is accepted, all that holds of the outcome.
+-- What a call with the verdict v makes of them: a refused one, nothing.
+abbrev pub called : Network → ℕ → ℕ → Verdict → Slices → Slices
+called net q office v s = afterwards v (solved net q office s) s
+
+-- What such a call leaves: its result and its slices; and where it is accepted, all that holds of the outcome.
 pub record Served (net : Network) (q office : ℕ) (v : Verdict) (old new : Slices) (result : ℕ) : Type 0 where
   pub returned : result ≡ hostNumber v
-  pub left : new ≡ afterwards v (solved net q office old) old
+  pub left : new ≡ called net q office v old
   pub guarantee : v ≡ Accepted → Guarantee net q (outcome net q)
 
 -- What every call that solves promises; one that writes nothing else lacks no table, and promises no more.

@@ -4,9 +4,9 @@ use mathlib.Core.List.{List, _++_}
 use Prim.Native.Nat.{ℕ, _+_, _-_, _≤_, _<_}
 use native.Mathlib.Omega.{arith}
 use borrow.Rule.Slice.PartMut.{same-len-mid, mid-len, drop-put, postOf}
-use lib.ListN.{length, getD, take, drop, length-take, length-drop, take-append-drop}
+use lib.ListN.{length, getD, take, drop, length-drop, take-append-drop}
 use lib.Seq.{length-take-le, take-at, drop-at, take-append-le, drop-append-le, drop-drop, getD-take, getD-drop}
-use Rattle.network.specs.Network.{arcs, commodities, tail, head, capacity, source, sink}
+use Rattle.network.specs.Network.{arcs, commodities}
 use Rattle.packed.specs.Packed.{part, put, tailsFrom, headsFrom, capacitiesFrom, sourcesFrom, sinksFrom, marksFrom, limitsFrom, netIn, Packed}
 use Rattle.packed.specs.declared.Shape.{Shape}
 

@@ -1,5 +1,5 @@
 -- A slice of which each floor has a part, replaced floor by floor: a floor's part is touched by its own turn alone. Assumes nothing.
-use mathlib.Core.Path.{_≡_, sym, ap, _∙_}
+use mathlib.Core.Path.{_≡_, ap, _∙_}
 use mathlib.Core.List.{List}
 use Prim.Native.Nat.{ℕ, suc, _+_, _/_, _≤_, _<_}
 use native.Mathlib.Nat.{le-of-eq}

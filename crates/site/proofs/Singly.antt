@@ -2,13 +2,12 @@
 use mathlib.Core.Path.{_≡_, refl, sym, ap, subst, _∙_}
 use mathlib.Core.Bool.{false}
 use mathlib.Core.List.{List, _++_}
-use Prim.Native.Nat.{ℕ, zero, suc, _+_, _*_, _≤_, _<_, _^_}
-use native.Mathlib.Nat.{le-of-eq}
+use Prim.Native.Nat.{ℕ, suc, _+_, _*_, _≤_, _<_}
 use native.Mathlib.Omega.{arith}
 use lib.ListN.{length, drop, length-append}
 use Rattle.network.specs.Network.{Network}
 use Rattle.network.specs.Refusal.{hostNumber}
-use Rattle.network.specs.Verdict.{verdict, afterwards}
+use Rattle.network.specs.Verdict.{verdict}
 use Rattle.network.specs.declared.Verdict.the-variants.{Accepted}
 use Rattle.numbers.specs.Digits.{toBytes}
 use Rattle.numbers.specs.Numbers.{count, numberAt}
@@ -16,7 +15,7 @@ use Rattle.numbers.proofs.Digits.{length-digits}
 use Rattle.packed.specs.Part.{part, put}
 use Rattle.packed.proofs.Columns.{part-length}
 use Rattle.network.proofs.HostNumber.{zero-accepted}
-use Rattle.host.specs.Host.{Slices, verdictIn, solved, Served, Hosted}
+use Rattle.host.specs.Host.{Slices, verdictIn, called, Served, Hosted}
 use Rattle.host.proofs.Equal.{same-slices}
 use Rattle.host.proofs.Hosts.{result-fits}
 use Rattle.host.proofs.ReadBack.{taken-up, lengths-kept}
@@ -47,7 +46,7 @@ module _ (t : Site) (old : Slices) (room : 8 * networks t ≤ count (old .answer
   result i = hostNumber (verdictOf t i (sent t old i))
 
   abbrev ownCall : ℕ → Slices
-  ownCall i = afterwards (verdictOf t i (sent t old i)) (solved (networkOf t i) (precisionOf t i) (t .office) (lent i)) (lent i)
+  ownCall i = called (networkOf t i) (precisionOf t i) (t .office) (verdictOf t i (sent t old i)) (lent i)
 
   kept : (i : ℕ) → i < k →
       (length (ownCall i .flow) ≡ length (lent i .flow)) × (length (ownCall i .lengths) ≡ length (lent i .lengths)) × (length (ownCall i .answer) ≡ length (lent i .answer))

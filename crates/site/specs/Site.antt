@@ -18,7 +18,7 @@ use Rattle.packed.specs.Part.{part, put}
 use Rattle.decode.specs.Decode.{networkIn}
 use Rattle.method.specs.Answer.{outcome}
 use Rattle.method.specs.Guarantee.{Guarantee}
-use Rattle.host.specs.Host.{Slices, verdictIn, solved}
+use Rattle.host.specs.Host.{Slices, verdictIn, called}
 use Rattle.site.specs.Parts.{told, own, putOwn}
 
 -- What the call reads: the office, the list of floors, and the slices of which each floor has a part.
@@ -39,8 +39,8 @@ networkOf t i = networkIn (told (t .floors) i 0) (own (t .floors) 2 i (t .belts)
 abbrev pub precisionOf : Site → ℕ → ℕ
 precisionOf t i = told (t .floors) i 1
 
--- What is lent of the slices s to floor i's own call: its parts; of the table of answers, which stands in the answer's place, the last seven of its
--- eight numbers; and all counts.
+-- What is lent of the slices s to floor i's own call: its parts; of its 64 bytes in the table of answers, which stands in the answer's place, all but
+-- the first number; and all counts.
 abbrev pub lentTo : Site → ℕ → Slices → Slices
 lentTo t i s =
     record {
@@ -50,7 +50,7 @@ lentTo t i s =
       counts = s .counts;
     }
 
--- The slices once all that has come back and what that call returned stands first of the eight.
+-- The slices once all that has come back, and what that call returned is the first number.
 abbrev pub handedBack : Site → ℕ → Slices → Slices → ℕ → Slices
 handedBack t i s own-call result =
     record {
@@ -67,7 +67,7 @@ verdictOf t i s = verdictIn false (networkOf t i) (precisionOf t i) (t .office) 
 abbrev pub floorSent : Site → ℕ → Slices → Slices
 floorSent t i s =
     let v = verdictOf t i s in
-    handedBack t i s (afterwards v (solved (networkOf t i) (precisionOf t i) (t .office) (lentTo t i s)) (lentTo t i s)) (hostNumber v)
+    handedBack t i s (called (networkOf t i) (precisionOf t i) (t .office) v (lentTo t i s)) (hostNumber v)
 
 -- The slices after the first i floors, sent singly in their order.
 unfoldable pub sent : Site → Slices → ℕ → Slices

@@ -2,8 +2,7 @@
 -- left of k. Assumes nothing.
 use borrow.Author.Needs.{needs}
 use denote.Ref.{now}
-use mathlib.Core.Path.{_≡_, refl, subst, _∙_}
-use mathlib.Core.List.{List}
+use mathlib.Core.Path.{_≡_, refl, _∙_}
 use Prim.Native.Nat.{_-_, _≤_}
 use native.Mathlib.Omega.{arith}
 use lib.ListN.{length}
@@ -11,7 +10,6 @@ use Rattle.bounds.specs.Bounds.{floorNumbers}
 use Rattle.numbers.specs.Numbers.{items}
 use Rattle.host.specs.Deliver.{slices}
 use Rattle.host.specs.Host.{Slices}
-use Rattle.site.specs.Site.{Site}
 use Rattle.site.specs.Turns.{site, FloorsServed}
 use Rattle.site.proofs.Floors.{none-yet, one-more}
 use Rattle.site.proofs.solve_floors.Statement.{statement}
