@@ -147,6 +147,11 @@ fn whole(mut call: Call) -> Call {
     call
 }
 
+fn site(mut call: Call) -> Call {
+    lend::site_in(&mut call);
+    call
+}
+
 /// Milliseconds of the quickest run, and what it gave.
 fn quickest(run: impl Fn() -> Call) -> (f64, Call) {
     let started = Instant::now();
@@ -204,8 +209,10 @@ fn show_least(q: u64, shares: Vec<(u128, String)>) {
 fn report_stack(options: &Options) -> bool {
     let calls = floors_at(4, options.seed, options.kind).into_iter();
     let depths = calls.flat_map(|(_, call)| {
-        let again = call.clone();
-        [stack::depth_of(move || drop(solve(call))), stack::depth_of(move || drop(whole(again)))]
+        [solve, whole, site].map(|run| {
+            let call = call.clone();
+            stack::depth_of(move || drop(run(call)))
+        })
     });
     match depths.collect::<std::io::Result<Vec<usize>>>() {
         Ok(depths) => {
