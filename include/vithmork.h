@@ -387,8 +387,8 @@ static inline size_t vithmork_floor_begin(const uint8_t *floors, size_t f, size_
     return numbers * VITHMORK_NUMBER_BYTES;
 }
 
-/* What vithmork_site wrote of floor f: what its own call would return, and its answer
- * for all that reads one, which means nothing unless that is 0. */
+/* What vithmork_site wrote of floor f: what its own call would return; and its answer, for
+ * all that reads one. Unless that is 0, the answer is what stood there before. */
 static inline uint64_t vithmork_floor_returned(const uint8_t *answers, size_t f)
 {
     return vithmork_get(answers, f * VITHMORK_FLOOR_ANSWER_NUMBERS);

@@ -88,7 +88,7 @@ done < <(shares)
 
 page=docs/READING.md
 words=" $(sed -n '/^## 0\./,/^## 1\./p' "$page" | grep -oE '`[^`]+`' | tr -d '`\\' | tr ' ,\n' '   ') "
-read_so_far=" " sum=0 solving= whole= named=6
+read_so_far=" " sum=0 solving= whole= site= named=6
 while IFS='|' read -r _ file count _; do
     file=$(tr -d '` ' <<<"$file") count=$(tr -d ' ' <<<"$count")
     [ -e "crates/$file" ] || { fault "$page: no file $file"; continue; }
@@ -108,14 +108,15 @@ while IFS='|' read -r _ file count _; do
     case $file in
     host/specs/Host.antt) solving=$sum sum=0 ;;
     whole/specs/Whole.antt) whole=$sum sum=0 ;;
+    site/specs/Site.antt) site=$sum sum=0 ;;
     esac
 done < <(grep -E '^\| `[a-z_]+/specs/[A-Za-z]+\.antt` \| [0-9]+ \|' "$page")
-sums="$solving lines for .vithmork_solve. (sections 1 to 5), $whole more for .vithmork_whole. (6), and $sum more"
-grep -q "$sums" <(tr '\n' ' ' <"$page") || fault "$page: the sums are $solving, $whole and $sum"
+sums="$solving lines for .vithmork_solve. (sections 1 to 5), $whole more for .vithmork_whole. (6), $site more for .vithmork_site. (7), and $sum more"
+grep -q "$sums" <(tr '\n' ' ' <"$page") || fault "$page: the sums are $solving, $whole, $site and $sum"
 grep -q "Of the $solving, $((solving - named)) are .* the other $named " <(tr '\n' ' ' <"$page") || fault "$page: of the $solving lines $named are added"
-for contract in host/specs/Host whole/specs/Whole dimacs/specs/Result report/specs/Listed records/specs/Records; do
+for contract in host/specs/Host whole/specs/Whole site/specs/Site dimacs/specs/Result report/specs/Listed records/specs/Records; do
     case $read_so_far in *" $contract.antt "*) ;; *) fault "$page: lacks $contract" ;; esac
 done
 
-echo "docs: $(wc -w <<<"$read_so_far") definition files, $solving, $whole and $sum lines; $faults faults"
+echo "docs: $(wc -w <<<"$read_so_far") definition files, $solving, $whole, $site and $sum lines; $faults faults"
 [ "$faults" -eq 0 ]

@@ -1,5 +1,6 @@
 pub mod Begins
 pub mod Eight
+pub mod Fitting
 pub mod Floor
 pub mod Floors
 pub mod Listed

@@ -14,7 +14,7 @@ pub struct Span {
     pub size: usize,
 }
 
-// A floor's part of each slice that its floors share.
+// A floor's part of each slice that the floors share.
 pub struct Parts {
     pub belts: Span,
     pub pairs: Span,
@@ -62,7 +62,7 @@ fn part_of(floors: &[u8], j: usize, i: usize, s: &[u8]) -> Span
     }
 }
 
-// Floor i's parts.
+// Floor i's parts. Their sizes stand behind n and q in its item.
 pub fn of_floor(
     floors: &[u8],
     i: usize,

@@ -2,7 +2,6 @@
 use borrow.Author.Needs.{needs}
 use denote.Ref.{now}
 use mathlib.Core.Path.{_≡_, ap, _∙_}
-use mathlib.Core.List.{List}
 use Prim.Native.Nat.{ℕ, _+_, _*_, _≤_, _<_}
 use native.Mathlib.Omega.{arith}
 use lib.Dec.{lit≤}
@@ -15,10 +14,8 @@ use Rattle.packed.proofs.Columns.{part-length, put-length}
 use Rattle.host.specs.Deliver.{slices}
 use Rattle.host.specs.Host.{Slices}
 use Rattle.site.specs.Site.{Site}
-use Rattle.site.specs.Turns.{site, spanOf}
-use Rattle.site.specs.declared.parts.Parts.{Parts}
-use Rattle.site.specs.declared.parts.Span.{Span}
-use Rattle.site.proofs.Begins.{span-most}
+use Rattle.site.specs.Turns.{site}
+use Rattle.site.proofs.Fitting.{Fitting, fitting}
 use Rattle.site.proofs.Floor.{floor-served}
 use Rattle.site.proofs.solve_floor.Statement.{statement}
 use Rattle.site.proofs.solve_floor.Tie as tie
@@ -43,36 +40,23 @@ told-at c = c .before .before .before .before .before .before .before .before
 abbrev solved-at : tie.After-write-arg → tie.After-solve
 solved-at c = c .before .before .before .before .before .before .before .before .before
 
--- a part ends within its slice
 module _ (c : tie.After-of-floor) where
-  fits : (part : Parts → Span) (j : ℕ) (s : List ℕ) → part (c .of-floor .result) ≡ spanOf (now (entry c .args .floors)) j (count s) (entry c .args .i) →
-      part (c .of-floor .result) .from + part (c .of-floor .result) .size ≤ length s
-  fits part j s e = omega (arith, ap (λ p. p .from) e, ap (λ p. p .size) e, span-most (now (entry c .args .floors)) j (entry c .args .i) s)
+  abbrev first : tie.Start
+  first = entry c
 
-  belts-fit : c .of-floor .result .belts .from + c .of-floor .result .belts .size ≤ length (now (entry c .args .belts))
-  belts-fit = fits (λ p. p .belts) 2 (now (entry c .args .belts)) (ap (λ p. p .belts) (c .of-floor .ensures))
+  -- the parts end within their slices
+  fit : Fitting (c .of-floor .result) (now (first .args .belts)) (now (first .args .pairs)) (now (first .args .limits)) (now (first .args .flow)) (now (first .args .lengths))
+  fit = fitting (now (first .args .floors)) (first .args .i) _ _ _ _ _ (c .of-floor .ensures)
 
-  pairs-fit : c .of-floor .result .pairs .from + c .of-floor .result .pairs .size ≤ length (now (entry c .args .pairs))
-  pairs-fit = fits (λ p. p .pairs) 3 (now (entry c .args .pairs)) (ap (λ p. p .pairs) (c .of-floor .ensures))
-
-  limits-fit : c .of-floor .result .limits .from + c .of-floor .result .limits .size ≤ length (now (entry c .args .limits))
-  limits-fit = fits (λ p. p .limits) 4 (now (entry c .args .limits)) (ap (λ p. p .limits) (c .of-floor .ensures))
-
-  flow-fit : c .of-floor .result .flow .from + c .of-floor .result .flow .size ≤ length (now (entry c .args .flow))
-  flow-fit = fits (λ p. p .flow) 5 (now (entry c .args .flow)) (ap (λ p. p .flow) (c .of-floor .ensures))
-
-  lengths-fit : c .of-floor .result .lengths .from + c .of-floor .result .lengths .size ≤ length (now (entry c .args .lengths))
-  lengths-fit = fits (λ p. p .lengths) 6 (now (entry c .args .lengths)) (ap (λ p. p .lengths) (c .of-floor .ensures))
-
-  few : entry c .args .i < 16
-  few = let p = entry c .pre in omega (arith, p .0, p .1 .few)
+  few : first .args .i < 16
+  few = omega (arith, first .pre .0, first .pre .1 .few)
 
   -- the floor's item and its eight numbers are there
-  item : (j : ℕ) → j < floorNumbers → floorNumbers * entry c .args .i + j < count (now (entry c .args .floors))
-  item j h = member-below (now (entry c .args .floors)) floorNumbers j (entry c .args .i) h (entry c .pre .0)
+  item : (j : ℕ) → j < floorNumbers → floorNumbers * first .args .i + j < count (now (first .args .floors))
+  item j h = member-below (now (first .args .floors)) floorNumbers j (first .args .i) h (first .pre .0)
 
-  eight-fit : 64 * entry c .args .i + 64 ≤ length (now (entry c .args .answers))
-  eight-fit = let p = entry c .pre in omega (arith, p .0, p .1 .room)
+  eight-fit : 64 * first .args .i + 64 ≤ length (now (first .args .answers))
+  eight-fit = omega (arith, first .pre .0, first .pre .1 .room)
 
 -- the seven have come back
 seven : (c : tie.After-solve) → length (c .solve .last .1 .1 .1 .1 .1 .1 .1 .1 .0) ≡ 56
@@ -101,17 +85,17 @@ returns c =
     let q = told-at v in
     let p = parts-at q in
     let s = entry p in
-    let first : floorNumbers * s .args .i ≡ floorNumbers * s .args .i + 0 = omega arith in
-    floor-served (what s) (s .args .i) (lent s) (eight-fit p) (q .before .read .ensures ∙ ap (numberAt (now (s .args .floors))) first) (q .read2 .ensures) (p .of-floor .ensures) (v .solve .ensures) (w .write .ensures)
+    let member : floorNumbers * s .args .i ≡ floorNumbers * s .args .i + 0 = omega arith in
+    floor-served (what s) (s .args .i) (lent s) (eight-fit p) (q .before .read .ensures ∙ ap (numberAt (now (s .args .floors))) member) (q .read2 .ensures) (p .of-floor .ensures) (v .solve .ensures) (w .write .ensures)
 
 pub solve-floor-spec : {M : Type 1} → statement M
 solve-floor-spec =
     tie.close (tie.spec (λ c κs. search needs)
-    (λ c. let p = c .before in omega (arith, belts-fit p, entry p .good .1 .1 .1 .0 .0))
-    (λ c. let p = c .before .before in omega (arith, pairs-fit p, entry p .good .1 .1 .1 .1 .0 .0))
-    (λ c. let p = c .before .before .before in omega (arith, limits-fit p, entry p .good .1 .1 .1 .1 .1 .0 .0))
-    (λ c. let p = c .before .before .before .before in omega (arith, flow-fit p, entry p .good .1 .1 .1 .1 .1 .1 .0 .0))
-    (λ c. let p = c .before .before .before .before .before in omega (arith, lengths-fit p, entry p .good .1 .1 .1 .1 .1 .1 .1 .0 .0))
+    (λ c. let p = c .before in omega (arith, fit p .of-belts, entry p .good .1 .1 .1 .0 .0))
+    (λ c. let p = c .before .before in omega (arith, fit p .of-pairs, entry p .good .1 .1 .1 .1 .0 .0))
+    (λ c. let p = c .before .before .before in omega (arith, fit p .of-limits, entry p .good .1 .1 .1 .1 .1 .0 .0))
+    (λ c. let p = c .before .before .before .before in omega (arith, fit p .of-flow, entry p .good .1 .1 .1 .1 .1 .1 .0 .0))
+    (λ c. let p = c .before .before .before .before .before in omega (arith, fit p .of-lengths, entry p .good .1 .1 .1 .1 .1 .1 .1 .0 .0))
     (λ c. omega (arith, few (c .before .before .before .before .before)))
     (λ c κs. omega (arith, item (c .before .before .before .before .before) 0 (lit≤ tt)))
     (λ c. omega (arith, few (c .before .before .before .before .before .before)))
@@ -119,11 +103,11 @@ solve-floor-spec =
     (λ c κs. item (c .before .before .before .before .before .before) 1 (lit≤ tt))
     (λ c. omega (arith, few (parts-at c)))
     (λ c. omega (arith, few (parts-at c)))
-    (λ c. omega arith) (λ c. search needs) (λ c. omega (arith, belts-fit (parts-at c)))
-    (λ c. omega arith) (λ c. search needs) (λ c. omega (arith, pairs-fit (parts-at (c .before))))
-    (λ c. omega arith) (λ c. search needs) (λ c. omega (arith, limits-fit (parts-at (c .before .before))))
-    (λ c. omega arith) (λ c. search needs) (λ c. omega (arith, flow-fit (parts-at (c .before .before .before))))
-    (λ c. omega arith) (λ c. search needs) (λ c. omega (arith, lengths-fit (parts-at (c .before .before .before .before))))
+    (λ c. omega arith) (λ c. search needs) (λ c. omega (arith, fit (parts-at c) .of-belts))
+    (λ c. omega arith) (λ c. search needs) (λ c. omega (arith, fit (parts-at (c .before)) .of-pairs))
+    (λ c. omega arith) (λ c. search needs) (λ c. omega (arith, fit (parts-at (c .before .before)) .of-limits))
+    (λ c. omega arith) (λ c. search needs) (λ c. omega (arith, fit (parts-at (c .before .before .before)) .of-flow))
+    (λ c. omega arith) (λ c. search needs) (λ c. omega (arith, fit (parts-at (c .before .before .before .before)) .of-lengths))
     (λ c. omega (arith, few (parts-at (c .before .before .before .before .before))))
     (λ c. omega arith) (λ c. search needs) (λ c. omega (arith, eight-fit (parts-at (c .before .before .before .before .before))))
     (λ c κs. search needs) (λ c. omega (arith, few (parts-at (told-at (solved-at c))))) write-requires (λ c. search needs) (λ c. search needs)
