@@ -1,30 +1,29 @@
 -- What a host reads back from the tables of an accepted call is the outcome's numbers, none of them cut. Assumes nothing.
-use mathlib.Core.Path.{_≡_, refl, sym, ap, _∙_}
+use mathlib.Core.Path.{_≡_, sym, ap, _∙_}
 use mathlib.Core.Bool.{Bool, false}
-use mathlib.Core.List.{List, map}
+use mathlib.Core.List.{List}
 use Prim.Native.Nat.{ℕ, _+_, _*_, _-_, _≤_, _<_}
 use native.Mathlib.Nat.{mul-le-mul-right}
 use native.Mathlib.Omega.{arith}
-use lib.ListN.{length, getD, length-map}
+use lib.ListN.{length, getD}
 use Rattle.bounds.specs.Bounds.{answerNumbers}
-use Rattle.signed.specs.Signed.{twos, fromTwos}
+use Rattle.signed.specs.Signed.{fromTwos}
 use Rattle.network.specs.Network.{Network, arcs, commodities}
 use Rattle.network.specs.Resources.{resources}
 use Rattle.network.specs.Sound.{Sound}
 use Rattle.network.specs.Verdict.{verdict, afterwards}
 use Rattle.network.specs.declared.Verdict.{Verdict}
-use Rattle.network.specs.declared.Verdict.the-variants.{Accepted, Refused}
+use Rattle.network.specs.declared.Verdict.the-variants.{Accepted}
 use Rattle.network.proofs.Accepted.{accepted-sound}
 use Rattle.network.proofs.HostNumber.{zero-accepted, other-kept}
 use Rattle.numbers.specs.Numbers.{count, numberAt, written}
 use Rattle.numbers.proofs.Puts.{numberAt-putAt, numberAt-putAt-other}
 use Rattle.numbers.proofs.Signed.{signed-read}
-use Rattle.numbers.proofs.Tables.{length-written, numberAt-written}
+use Rattle.numbers.proofs.Tables.{numberAt-written}
 use Rattle.method.specs.Answer.{amounts, numbersOf, outcome}
 use Rattle.method.specs.Fits.{Words}
-use Rattle.method.specs.Guarantee.{Guarantee}
 use Rattle.host.specs.Deliver.{Room}
-use Rattle.host.specs.Host.{Slices, countOf, raised, hostConditions, verdictIn, solved, called, Served}
+use Rattle.host.specs.Host.{Slices, countOf, raised, hostConditions, verdictIn, solved, Served}
 use Rattle.host.proofs.Counting.{count-small}
 use Rattle.host.proofs.Hosts.{lacks-none, has-count, not-full, open-for}
 
@@ -102,23 +101,3 @@ module _ (lacking : Bool) (net : Network) (q office : ℕ) (old : Slices) (a : v
     pub others-read : (i : ℕ) → (i ≡ office - 1 → ⊥) → numberAt (new .counts) i ≡ numberAt (old .counts) i
     others-read i ne =
         ap (λ s. numberAt s i) raises ∙ numberAt-putAt-other (old .counts) (office - 1) (countOf office (old .counts) + outcome net q .answer .count) there i ne
-
--- No call changes the length of a table, whatever its verdict.
-module _ (lacking : Bool) (net : Network) (q office : ℕ) (old : Slices) (g : verdictIn lacking net q office old ≡ Accepted → Guarantee net q (outcome net q)) where
-  lengths-after : (v : Verdict) → verdictIn lacking net q office old ≡ v →
-      let t = called net q office v old in
-      (length (t .flow) ≡ length (old .flow)) × (length (t .lengths) ≡ length (old .lengths)) × (length (t .answer) ≡ length (old .answer))
-  unfolding afterwards numbersOf
-  lengths-after Accepted a =
-      let f = g a .fits in
-      let room = had-room lacking net q office old a in (
-        length-written (old .flow) (map twos (outcome net q .flow)) (omega (arith, length-map (outcome net q .flow) twos, f .amounts-count, room .0 .for-flow)),
-        length-written (old .lengths) (outcome net q .lengths) (omega (arith, f .lengths-count, room .0 .for-lengths)),
-        length-written (old .answer) (numbersOf (outcome net q .answer)) (room .1),
-      )
-  lengths-after (Refused w) a = (refl, refl, refl)
-
-  pub lengths-kept :
-      let t = called net q office (verdictIn lacking net q office old) old in
-      (length (t .flow) ≡ length (old .flow)) × (length (t .lengths) ≡ length (old .lengths)) × (length (t .answer) ≡ length (old .answer))
-  lengths-kept = lengths-after (verdictIn lacking net q office old) refl

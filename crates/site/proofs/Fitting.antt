@@ -8,15 +8,15 @@ use Rattle.site.specs.declared.parts.Parts.{Parts}
 use Rattle.site.specs.declared.parts.Span.{Span}
 use Rattle.site.proofs.Begins.{span-most}
 
-abbrev Within : Span → List ℕ → Type 0
-Within p s = p .from + p .size ≤ length s
+abbrev Ends : Span → List ℕ → Type 0
+Ends p s = p .from + p .size ≤ length s
 
 pub record Fitting (p : Parts) (belts pairs limits flow lengths : List ℕ) : Type 0 where
-  pub of-belts : Within (p .belts) belts
-  pub of-pairs : Within (p .pairs) pairs
-  pub of-limits : Within (p .limits) limits
-  pub of-flow : Within (p .flow) flow
-  pub of-lengths : Within (p .lengths) lengths
+  pub of-belts : Ends (p .belts) belts
+  pub of-pairs : Ends (p .pairs) pairs
+  pub of-limits : Ends (p .limits) limits
+  pub of-flow : Ends (p .flow) flow
+  pub of-lengths : Ends (p .lengths) lengths
 
 pub fitting :
     (floors : List ℕ) (i : ℕ) (belts pairs limits flow lengths : List ℕ) {p : Parts} → p ≡ partsOf floors i belts pairs limits flow lengths →

@@ -7,4 +7,3 @@ pub mod Listed
 pub mod Shared
 pub mod Singly
 pub mod Sites
-pub mod Turns

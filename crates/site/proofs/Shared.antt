@@ -8,10 +8,10 @@ use lib.ListN.{length, drop}
 use Rattle.numbers.specs.Numbers.{count}
 use Rattle.packed.specs.Part.{part, put}
 use Rattle.packed.proofs.Columns.{part-length}
+use Rattle.packed.proofs.Replaced.{length-kept, part-early, part-late, drop-kept}
 use Rattle.site.specs.Parts.{own, putOwn}
 use Rattle.site.specs.Turns.{spanOf}
 use Rattle.site.proofs.Begins.{span-most, span-next}
-use Rattle.site.proofs.Turns.{length-kept, part-early, part-late, drop-kept}
 
 module _ (floors : List ℕ) (j k : ℕ) (xs ys : ℕ → List ℕ)
     (same : (i : ℕ) → i < k → length (ys i) ≡ length (own floors j i (xs i)))

@@ -14,11 +14,13 @@ use Rattle.numbers.specs.Numbers.{count, numberAt}
 use Rattle.numbers.proofs.Digits.{length-digits}
 use Rattle.packed.specs.Part.{part, put}
 use Rattle.packed.proofs.Columns.{part-length}
+use Rattle.packed.proofs.Replaced.{length-kept, part-early, part-late, drop-kept}
 use Rattle.network.proofs.HostNumber.{zero-accepted}
 use Rattle.host.specs.Host.{Slices, verdictIn, called, Served, Hosted}
 use Rattle.host.proofs.Equal.{same-slices}
 use Rattle.host.proofs.Hosts.{result-fits}
-use Rattle.host.proofs.ReadBack.{taken-up, lengths-kept}
+use Rattle.host.proofs.Lengths.{lengths-kept}
+use Rattle.host.proofs.ReadBack.{taken-up}
 use Rattle.site.specs.Parts.{told, own, putOwn}
 use Rattle.site.specs.Singly.{ownIn, Singly}
 use Rattle.site.specs.Site.{Site, networks, networkOf, precisionOf, lentTo, verdictOf, sent, listConditions, Sited}
@@ -26,7 +28,6 @@ use Rattle.site.specs.Turns.{Guaranteed}
 use Rattle.site.proofs.Eight.{seven-of, returned-read, answer-left}
 use Rattle.site.proofs.Listed.{listed}
 use Rattle.site.proofs.Shared.{own-early, own-late, own-behind}
-use Rattle.site.proofs.Turns.{length-kept, part-early, part-late, drop-kept}
 
 -- The contract of a floor's own call, with each slice in another form.
 moved :

@@ -2,18 +2,17 @@
 use mathlib.Core.Path.{_≡_}
 use mathlib.Core.Bool.{false}
 use mathlib.Core.List.{List}
-use Prim.Native.Nat.{ℕ, suc, _+_, _*_, _<_}
+use Prim.Native.Nat.{ℕ, suc, _*_, _<_}
 use lib.ListN.{drop}
 use Rattle.numbers.specs.Numbers.{count, numberAt}
-use Rattle.packed.specs.Part.{part}
+use Rattle.host.specs.Deliver.{slices}
 use Rattle.host.specs.Host.{Slices, Hosted}
 use Rattle.site.specs.Parts.{told, begins, own}
-use Rattle.site.specs.Site.{Site, networks}
+use Rattle.site.specs.Site.{Site, networks, lentTo}
 
 -- Floor i's parts of the slices at the start or the end of the site's call, and the counts at the start or the end of its own.
 abbrev pub ownIn : Site → ℕ → Slices → List ℕ → Slices
-ownIn t i s counts =
-    record { flow = own (t .floors) 5 i (s .flow); lengths = own (t .floors) 6 i (s .lengths); answer = part (64 * i + 8) 56 (s .answer); counts = counts }
+ownIn t i s counts = lentTo t i (slices (s .flow) (s .lengths) (s .answer) counts)
 
 -- Each floor's parts before and after the site's call are related as the contract of its own call says, with all that this promises of an accepted
 -- floor; what that returned stands first of its eight. Only the counts go from one floor to the next, and bytes behind the last part are kept.
