@@ -3,8 +3,8 @@
 # tests/NAME.expected, which is what the second solver says it should print
 # (tests/second), meets every refusal from C (tests/refusals.c), holds the whole totes of
 # pairs to their amounts (tests/totes.c) and sites to their floors sent singly
-# (tests/site.c), and tries what the header adds to the calls (tests/helpers.c). The
-# header's times are those of docs/SPEED.md.
+# (tests/site.c), and tries what the header adds to the calls (tests/helpers.c), and the
+# floor that README has in two ways. The header's times are those of docs/SPEED.md.
 set -eu
 cd "$(dirname "$0")/.."
 tests/second/archive.sh
@@ -31,6 +31,15 @@ cc -std=c99 "${strict[@]}" -o "$made/helpers" tests/helpers.c "$archive"
 "$made/helpers"
 c++ -x c++ -std=c++17 "${strict[@]}" -o "$made/helpers" tests/helpers.c -x none "$archive"
 "$made/helpers"
+
+# README's floor in two ways: the file's column is examples/cross.max, and the column of C, solved, gives that file's listing.
+columns=$(sed -n '/^    in a file  *from C$/,/^    \.\/list/p' README.md)
+cut -c5-32 <<<"$columns" | sed 's/ *$//' | grep '^[pna] ' | diff <(grep -v '^c' examples/cross.max) -
+mkdir -p "$made/beside"
+grep -o 'vithmork_put_.*;' <<<"$columns" >"$made/beside/column.h"
+grep -oE '`vithmork_put_[^`]*`' README.md | sed 's/`\(.*\)`/\1;/' >"$made/beside/table.h"
+cc -std=c99 "${strict[@]}" -I"$made/beside" -o "$made/beside/program" tests/beside.c "$archive"
+"$made/beside/program" | diff <(sed -n 2,3p examples/cross.csv) -
 
 # slowest Q: the greatest time of the library, in ms, of the page's table for that precision
 slowest() {

@@ -1,8 +1,7 @@
 #!/usr/bin/env bash
-# The pages agree with the tree: links lead to files; a name with its file in brackets stands in that file; and docs/READING.md has every
-# definition file that the contracts rest on, after those that it uses, with its number of lines and the sums. Listings and output that a page
-# quotes are those that other tests hold to the programs. The shares in docs/GUARANTEE.md are worked out again. The notes of docs/changes say what
-# was so when they were written: README leads to each.
+# The pages agree with the tree: links lead to files and headings; a name with its file in brackets stands in that file; docs/METHOD.md has every section of
+# document 01 that is cited, every request that has landed and every refusal; and docs/READING.md has every definition file that the contracts rest on, after those
+# that it uses. What pages say of figures is for tests/figures.sh. The notes of docs/changes say what was so when they were written: README leads to each.
 set -u
 cd "$(dirname "$0")/.." || exit 2
 faults=0
@@ -10,9 +9,6 @@ fault() { echo "docs: $*"; faults=$((faults + 1)); }
 
 # the kit's words that a definition file imports, without the places of their arguments
 kit() { sed -nE '/Rattle·/d; s/^use [A-Za-z.]+\.\{(.*)\}.*/\1/p' "$1" | tr ',' '\n' | sed 's/^ *//; s/^_//; s/_$//'; }
-
-# code lines of a definition file
-lines() { grep -vcE '^[[:space:]]*(--|use |$)' "$1"; }
 
 # definition files that a file uses, but for the types declared in code
 uses() { sed -nE '/\.declared\./d; s/^use Rattle·([a-z_]+)(·specs)?\.(specs|proofs)\.([A-Za-z]+)\..*/\1\/\3\/\4.antt/p' "$1"; }
@@ -28,7 +24,19 @@ mentions() {
         done
 }
 
+# what leads to the headings of a page: lower case, blanks as dashes, nothing else but letters and digits
+anchors() { sed -nE 's/^#+ //p' "$1" | tr 'A-Z ' 'a-z-' | tr -cd 'a-z0-9\n-'; }
+# whether a page has a heading of these words
+heading() { grep -qxE -- "##+ $2" "$1"; }
+# a file on one line, without what leads a line of a comment
+unbroken() { sed -E 's@^[[:space:]]*(--|//[!/]?|#|\*)[[:space:]]?@@' "$1" | tr '\n' ' '; }
+
 for page in README.md docs/*.md; do
+    while IFS='#' read -r file anchor; do
+        target=$(dirname "$page")/$file
+        [ -n "$file" ] || target=$page
+        anchors "$target" | grep -qxF -- "$anchor" || fault "$page: $target has no heading for #$anchor"
+    done < <(grep -oE '\]\([^):]*#[^)]+\)' "$page" | sed 's/^](//; s/)$//')
     for link in $(grep -oE '\]\([^)#:]+\)' "$page" | sed 's/^](//; s/)$//'); do
         [ -e "$(dirname "$page")/$link" ] || fault "$page: no file $link"
     done
@@ -48,75 +56,52 @@ for note in docs/changes/*.md; do
     grep -qF "]($note)" README.md || fault "README.md: does not lead to $note"
 done
 
-# every line of a file stands in the page, by itself
-quotes() {
-    while IFS= read -r line; do
-        sed 's/^    //' "$1" | grep -qxF -- "$line" || fault "$1: lacks the line $line of $2"
-    done < <(tr -d '\r' <"$2")
-}
-quotes README.md examples/two_docks.csv
-quotes README.md tests/floor.expected
-quotes README.md tests/reversible.expected
-quotes README.md tests/lift.expected
-quotes README.md tests/offices.expected
-quotes README.md tests/whole.expected
-quotes README.md tests/site.expected
-# what contracts rounded to the nearest would promise, and what the plan carries
-nearest=$(awk '/^pair/ { split($NF, part, "/"); whole = $5 + (2 * part[1] >= part[2]); sum += whole; all = all (all ? " + " : "") whole }
-    END { print all " = " sum }' tests/whole.expected)
-for page in README.md docs/GUARANTEE.md; do
-    grep -qF "$nearest" "$page" || fault "$page: to the nearest it is $nearest"
-done
-grep -qF "$(sed -n 's/^the plan carries: //p' tests/whole.expected)" docs/GUARANTEE.md || fault "docs/GUARANTEE.md: the plan of examples/whole.c carries another total"
-quotes docs/COURSE.md tests/one_by_one.expected
-for fraction in $(grep -oE '[0-9]{4,}/[0-9]+' docs/COURSE.md); do
-    cat examples/*.csv | tr -d '\r' | grep -qE ",${fraction/\//,}\$" || fault "docs/COURSE.md: no listing has $fraction"
-done
+# Pages say what document 01 is by a link, and the class's own word for the greatest load ratio is met once.
+bare=$(grep -nE '[Dd]ocument 01|the mission' README.md docs/*.md | grep -v -e '^docs/METHOD.md:' -e 'METHOD\.md')
+[ -z "$bare" ] || fault "without a link: $bare"
+[ "$(git grep -iE 'utili[sz]ation' | wc -l)" -eq 1 ] && grep -q 'often called utili[s]ation' docs/COURSE.md || fault "the class's word belongs into docs/COURSE.md, once"
 
-# the shares of the bound at each q, cut after the fourth place
-shares() {
-    awk 'function row(name, a, b, c, d, q, x) {
-            printf "| %s |", name
-            for (q = 4; q <= 16; q++) { x = int(10000 * (a * q + b) / (c * q + d)); printf " %d.%04d |", int(x / 10000), x % 10000 }
-            print ""
-        }
-        BEGIN { row("1 - 2/q", 1, -2, 1, 0); row("1 - 7/(4q)", 4, -7, 4, 0); row("(8q - 9)/(8q + 5)", 8, -9, 8, 5) }'
-}
-while IFS= read -r line; do
-    grep -qxF -- "$line" docs/GUARANTEE.md || fault "docs/GUARANTEE.md: lacks the shares $line"
-done < <(shares)
+page=docs/METHOD.md
+while read -r title; do
+    heading "$page" "$title" || fault "$page: lacks the section $title of document 01"
+done < <(git ls-files README.md bench crates docs examples include tests | grep -vE '^tests/listing/|\.(csv|max|svg)$' | while read -r file; do
+    unbroken "$file" | grep -oE "01('s [a-z]+)?, \"[A-Z][^\"]*\"" | cut -d'"' -f2
+done | sort -u)
+while read -r title; do
+    heading "$page" "$title" || fault "docs/READING.md: $page has no section $title"
+done < <(grep -E '^\| `[a-z_]+/specs/' docs/READING.md | awk -F'|' '{ print $(NF - 1) }' | grep -oE '"[^"]+"' | tr -d '"' | sort -u)
+for note in docs/changes/*.md; do
+    grep -qF "$(basename "$note" .md)" "$page" || fault "$page: does not tell of $(basename "$note" .md)"
+done
+# the trade's words are the header's
+while read -r name word; do
+    number=$(sed -nE "s/^ *$name = ([0-9]+).*/\1/p" include/vithmork.h)
+    grep -qF "| $number | $word |" "$page" || fault "$page: lacks the refusal $number, $word"
+done < <(sed -nE 's/^ *case (VITHMORK_REFUSED_[A-Z_]+): return "(.*)";/\1 \2/p' include/vithmork.h)
+for picture in docs/pictures/*.svg; do
+    cat README.md docs/*.md | grep -qE "\]\((docs/)?pictures/$(basename "$picture")\)" || fault "no page shows $picture"
+done
 
 page=docs/READING.md
 words=" $(sed -n '/^## 0\./,/^## 1\./p' "$page" | grep -oE '`[^`]+`' | tr -d '`\\' | tr ' ,\n' '   ') "
-read_so_far=" " sum=0 solving= whole= site= named=6
-while IFS='|' read -r _ file count _; do
-    file=$(tr -d '` ' <<<"$file") count=$(tr -d ' ' <<<"$count")
+read_so_far=" "
+while IFS='|' read -r _ file _; do
+    file=$(tr -d '` ' <<<"$file")
     [ -e "crates/$file" ] || { fault "$page: no file $file"; continue; }
-    [ "$(lines "crates/$file")" -eq "$count" ] || fault "$page: $file has $(lines "crates/$file") lines, not $count"
     while read -r word; do
         case $words in *" $word "*) ;; *) fault "$page: section 0 lacks $word, which $file uses" ;; esac
     done < <(kit "crates/$file")
-    # lines that name bounds and say what fits; six more stand in Run and Guarantee
-    case $file in bounds/specs/Bounds.antt | method/specs/Fits.antt) named=$((named + count)) ;; esac
     for used in $(uses "crates/$file"); do
         case $read_so_far in
         *" $used "*) ;;
         *) [ "$used" = length/specs/Levels.antt ] || fault "$page: $file uses $used, which does not stand above it" ;;
         esac
     done
-    read_so_far="$read_so_far$file " sum=$((sum + count))
-    case $file in
-    host/specs/Host.antt) solving=$sum sum=0 ;;
-    whole/specs/Whole.antt) whole=$sum sum=0 ;;
-    site/specs/Site.antt) site=$sum sum=0 ;;
-    esac
+    read_so_far="$read_so_far$file "
 done < <(grep -E '^\| `[a-z_]+/specs/[A-Za-z]+\.antt` \| [0-9]+ \|' "$page")
-sums="$solving lines for .vithmork_solve. (sections 1 to 5), $whole more for .vithmork_whole. (6), $site more for .vithmork_site. (7), and $sum more"
-grep -q "$sums" <(tr '\n' ' ' <"$page") || fault "$page: the sums are $solving, $whole, $site and $sum"
-grep -q "Of the $solving, $((solving - named)) are .* the other $named " <(tr '\n' ' ' <"$page") || fault "$page: of the $solving lines $named are added"
 for contract in host/specs/Host whole/specs/Whole site/specs/Site dimacs/specs/Result report/specs/Listed records/specs/Records; do
     case $read_so_far in *" $contract.antt "*) ;; *) fault "$page: lacks $contract" ;; esac
 done
 
-echo "docs: $(wc -w <<<"$read_so_far") definition files, $solving, $whole, $site and $sum lines; $faults faults"
+echo "docs: $(wc -w <<<"$read_so_far") definition files, $(grep -c '^| [0-9]' docs/METHOD.md) refusals; $faults faults"
 [ "$faults" -eq 0 ]

@@ -19,7 +19,7 @@ ci) echo "3 passed, 0 failed" ;;
 esac
 END
 chmod +x "$work/bin/rt"
-echo 'exit 0' >"$work/tests/good.sh"
+echo 'echo said' >"$work/tests/good.sh"
 echo 'exit 77' >"$work/tests/lacking.sh"
 
 # gate STATUS COUNT KIT: runs it with this kit; its note, if any, is left in $note
@@ -49,8 +49,13 @@ for words in "" "absent.log" "README.md README.md"; do
         fault "docs/status.sh $words does not say what it wants: $(cat "$work/err")"
     fi
 done
-echo 'rt: arith proved (7 s)' >"$work/log"
-(cd "$work" && "$OLDPWD/docs/status.sh" log) | grep -q '^| `arith` | .* | 7 | 0 |$' || fault "docs/status.sh makes no row of a log"
+gate 1 "4 passed, 1 failed" "$kit"
+sed -i '1i rt: arith proved (7 s)' "$work/log"
+(cd "$work" && "$OLDPWD/docs/status.sh" log) >"$work/out"
+for row in '^4 passed, 1 failed, [0-9]+ s in all, [0-9]+ s of processor time' '^\| `arith` \| .* \| 7 \| 0 \|$' '^\| `good.sh` \| [0-9]+ \| said \|$' \
+    '^\| `bad.sh` \| [0-9]+ \| FAILED \|$' '^\| `lacking.sh` \|  \| skipped'; do
+    grep -qE "$row" "$work/out" || fault "docs/status.sh makes no $row of a log"
+done
 
 echo "gate: its note, its counts and docs/status.sh; $faults faults"
 [ "$faults" -eq 0 ]

@@ -31,6 +31,7 @@ fn main() -> ExitCode {
     let name = std::env::args().nth(1).unwrap_or_default();
     let print = match name.as_str() {
         "floor" => print_floor,
+        "levels" => print_levels,
         "lift" => print_lift,
         "offices" => print_offices,
         "one_by_one" => print_one_by_one,
@@ -41,8 +42,8 @@ fn main() -> ExitCode {
             return ExitCode::SUCCESS;
         }
         _ => {
-            eprint!("expected: name one of floor, lift, offices, one_by_one, reversible, ");
-            eprintln!("site, whole");
+            eprint!("expected: name one of floor, levels, lift, offices, one_by_one, ");
+            eprintln!("reversible, site, whole");
             return ExitCode::from(2);
         }
     };
@@ -118,12 +119,24 @@ fn print_lift(Example { net, q, .. }: &Example) {
     let unlimited = Network { limits: Vec::new(), ..net.clone() };
     for (what, floor) in [("without the limit", &unlimited), ("with it", net)] {
         let solution = solver::solve(floor, *q);
-        print_total(what, &solution);
-        for node in net.limited_nodes() {
-            let rows = solution.flow.chunks(net.arcs.len());
-            let passes = scaled(&solution, rows.map(|row| through(net, row, node)).sum());
-            println!("  station {node} passes {passes:.3} of {}", net.limits[node as usize - 1]);
-        }
+        print_total(&format!("{what}: "), &solution);
+        print_stations("  ", net, &solution);
+    }
+}
+
+fn print_levels(Example { net, q, .. }: &Example) {
+    let solution = solver::solve(net, *q);
+    print_total("", &solution);
+    print_amounts(net, &solution);
+    print_stations("", net, &solution);
+}
+
+fn print_stations(before: &str, net: &Network, solution: &Solution) {
+    for node in net.limited_nodes() {
+        let rows = solution.flow.chunks(net.arcs.len());
+        let passes = scaled(solution, rows.map(|row| through(net, row, node)).sum());
+        let limit = net.limits[node as usize - 1];
+        println!("{before}station {node} passes {passes:.3} of {limit}");
     }
 }
 
@@ -186,14 +199,19 @@ fn print_one_by_one(Example { net, q, .. }: &Example) {
 
 fn print_reversible(Example { net, q, .. }: &Example) {
     let opposite = solver::solve(&two_for_one(net), *q);
-    print_total("as two opposite belts", &opposite);
+    print_total("as two opposite belts: ", &opposite);
     let solution = solver::solve(net, *q);
-    print_total("as one reversible belt", &solution);
+    print_total("as one reversible belt: ", &solution);
+    print_amounts(net, &solution);
+}
+
+/// Each belt's load, and of each pair what it sends there, below zero from head to tail.
+fn print_amounts(net: &Network, solution: &Solution) {
     let rows: Vec<_> = solution.flow.chunks(net.arcs.len()).collect();
-    for (e, (arc, load)) in net.arcs.iter().zip(loads(net, &solution)).enumerate() {
+    for (e, (arc, load)) in net.arcs.iter().zip(loads(net, solution)).enumerate() {
         print!("belt {} to {} carries {load:.3} of {}:", arc.tail, arc.head, arc.capacity);
         let amounts = rows.iter().zip(1..).map(|(row, pair)| {
-            let size = scaled(&solution, row[e].unsigned_abs());
+            let size = scaled(solution, row[e].unsigned_abs());
             format!(" pair {pair} {:.3}", if row[e] < 0 { -size } else { size })
         });
         println!("{}", amounts.collect::<Vec<_>>().join(","));
@@ -211,7 +229,7 @@ fn two_for_one(net: &Network) -> Network {
 
 fn print_total(what: &str, solution: &Solution) {
     let total = scaled(solution, solution.answer[0]);
-    println!("{what}: total {total:.3}, bound {:.3}", bound(solution));
+    println!("{what}total {total:.3}, bound {:.3}", bound(solution));
 }
 
 fn print_loads(what: &str, total: f64, net: &Network, loads: &[f64]) {

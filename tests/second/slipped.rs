@@ -27,6 +27,13 @@ pub struct Met {
     pub iteration: u64,
 }
 
+impl Met {
+    pub fn value(self) -> f64 {
+        self.weight as f64 / self.alpha as f64
+    }
+}
+
+#[derive(Clone)]
 pub struct Run<'a> {
     pub net: &'a Network,
     pub q: u64,
@@ -43,9 +50,21 @@ pub struct Run<'a> {
 
 /// For joined floors. Lengths of 0 do no harm: each arc of a walk counts too.
 pub fn run(net: &Network, q: u64, slip: Slip) -> Run<'_> {
+    run_seen(net, q, slip, |_| ())
+}
+
+/// The run, seen before every choice and at its end.
+pub fn run_seen<'a>(
+    net: &'a Network,
+    q: u64,
+    slip: Slip,
+    mut seen: impl FnMut(&Run<'a>),
+) -> Run<'a> {
     let mut run = Run::new(net, q, slip);
+    seen(&run);
     while !run.ended() {
         run.iterate(&choose(net, &run.lengths).expect("the floor is joined"));
+        seen(&run);
     }
     run
 }
@@ -115,6 +134,12 @@ impl<'a> Run<'a> {
             Slip::ScaleByMark => (1, self.mark),
             _ => (self.net.arcs[b].capacity, self.loads[b]),
         }
+    }
+
+    /// V, what the plan carries.
+    pub fn total(&self) -> f64 {
+        let (upper, lower) = self.scale();
+        self.drawn as f64 * upper as f64 / lower as f64
     }
 
     pub fn bound(&self) -> Met {

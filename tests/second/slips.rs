@@ -3,21 +3,26 @@
 //! which promises of the record `Guarantee` the slip breaks; the line below it
 //! has the fact of the proof that fails. docs/GUARANTEE.md quotes both. Exits
 //! with 1 if a slip breaks anything else than is stated here, or the right
-//! method breaks anything.
+//! method breaks anything. Named a DIMACS file and a precision, it tries every
+//! slip on that floor in place of these, and states nothing of them.
 
 // Of the shared modules not everything is needed here.
 #![allow(dead_code)]
 
+mod call;
+mod dimacs;
 mod method;
 mod network;
 mod shares;
+mod slip_floors;
 mod slipped;
 mod solver;
 
 use method::{fraction_below, SCALE};
-use network::{network, Network};
+use network::Network;
 use shares::{reaches, shares};
-use slipped::{run, starts, Met, Run, Slip};
+use slip_floors::{merge, one_belt, one_feeder, two_belts, two_feeders};
+use slipped::{run, starts, Run, Slip};
 use std::process::ExitCode;
 
 struct Case {
@@ -39,38 +44,64 @@ struct Fact {
 }
 
 fn main() -> ExitCode {
+    let words: Vec<String> = std::env::args().skip(1).collect();
+    let own = match &words[..] {
+        [] => None,
+        [file, q] => floor(file).zip(q.parse().ok().filter(|q| (4..=16).contains(q))),
+        _ => None,
+    };
+    if own.is_none() && !words.is_empty() {
+        eprintln!("slips: name a DIMACS file with a joined floor and a precision from 4 to 16");
+        return ExitCode::from(2);
+    }
     println!("{:<28}{:>30}  {:>30}", "", "right method", "with the slip");
     let heads = ["total V", "bound B", "choices", "total V", "bound B", "choices"];
     show_row(["slip", "m", "q"], heads, "breaks");
+    match own {
+        Some((net, q)) => try_all(&net, q),
+        None => judge_all(),
+    }
+}
+
+/// What the solver would take: an accepted floor with its pair joined.
+fn floor(file: &str) -> Option<Network> {
+    let net = dimacs::read(&std::fs::read(file).ok()?).ok()?;
+    let taken = call::Call::new(&net, 4).refusal().is_none();
+    (taken && solver::choose(&net, &starts(&net, Slip::None)).is_some()).then_some(net)
+}
+
+fn try_all(net: &Network, q: u64) -> ExitCode {
+    let right = run(net, q, Slip::None);
+    let mut tried = Vec::new();
+    for Case { name, slip, .. } in cases() {
+        if !tried.contains(&slip) {
+            let slipped = run(net, q, slip);
+            show(name, &right, &slipped, &broken(&slipped));
+            tried.push(slip);
+        }
+    }
+    ExitCode::SUCCESS
+}
+
+fn judge_all() -> ExitCode {
     let judged: Vec<bool> = cases().iter().map(judge).collect();
     let otherwise = judged.iter().filter(|as_stated| !*as_stated).count();
     println!("slips: {} tried, {otherwise} not as stated", judged.len());
     ExitCode::from(u8::from(otherwise > 0))
 }
 
-/// Floors as small as a search found them.
 fn cases() -> Vec<Case> {
-    let one = |capacity| network(2, &[(1, 2, capacity)], &[(1, 2)]);
-    let two = network(2, &[(1, 2, 4), (1, 2, 5)], &[(1, 2)]);
-    let merge = || network(3, &[(1, 2, 1), (1, 2, 2), (2, 3, 2)], &[(1, 3)]);
-    let two_feeders = network(3, &beside(&[(1, 2, 3), (1, 2, 1000)], 5, 48), &[(1, 3)]);
-    let one_feeder = network(3, &beside(&[(1, 2, 33)], 7, 165), &[(1, 3), (2, 3)]);
     let case = |name, slip, net, q, breaks, fact| Case { name, slip, net, q, breaks, fact };
+    let over: [&[&str]; 2] = [&["capacities"], &["capacities", "V above B"]];
     vec![
-        case("start rounded down", Slip::StartDown, one(3), 4, &[], scaled),
-        case("growth rounded down", Slip::GrowthDown, two_feeders, 16, &SHARES, lower),
-        case("halving rounded down", Slip::HalvingDown, one_feeder, 16, &SHARES, lower),
-        case("divided by T", Slip::ScaleByMark, merge(), 4, &["capacities"], within),
-        case("divided by T", Slip::ScaleByMark, merge(), 16, &["capacities", "V above B"], within),
-        case("last bound", Slip::LastBound, two, 4, &[], best),
-        case("L = 0", Slip::LevelZero, one(5), 4, &["count"], below),
+        case("start rounded down", Slip::StartDown, one_belt(3), 4, &[], scaled),
+        case("growth rounded down", Slip::GrowthDown, two_feeders(), 16, &SHARES, lower),
+        case("halving rounded down", Slip::HalvingDown, one_feeder(), 16, &SHARES, lower),
+        case("divided by T", Slip::ScaleByMark, merge(), 4, over[0], within),
+        case("divided by T", Slip::ScaleByMark, merge(), 16, over[1], within),
+        case("last bound", Slip::LastBound, two_belts(), 4, &[], best),
+        case("L = 0", Slip::LevelZero, one_belt(5), 4, &["count"], below),
     ]
-}
-
-/// The feeders, and after them belts of one capacity side by side.
-fn beside(feeders: &[(u64, u64, u64)], belts: usize, capacity: u64) -> Vec<(u64, u64, u64)> {
-    let lines = vec![(2, 3, capacity); belts];
-    feeders.iter().copied().chain(lines).collect()
 }
 
 /// Whether the slip breaks what is stated, and the right method nothing.
@@ -78,13 +109,17 @@ fn judge(case: &Case) -> bool {
     let right = run(&case.net, case.q, Slip::None);
     let slipped = run(&case.net, case.q, case.slip);
     let (breaks, fact) = (broken(&slipped), (case.fact)(&slipped));
-    let sizes = [case.name, &case.net.arcs.len().to_string(), &case.q.to_string()];
-    let [[v, b, n], [w, c, o]] = [figures(&right), figures(&slipped)];
-    let named = if breaks.is_empty() { "none".into() } else { breaks.join(", ") };
-    show_row(sizes, [&v, &b, &n, &w, &c, &o], &named);
+    show(case.name, &right, &slipped, &breaks);
     println!("    {}", fact.says);
     let sound = is_solved(&right) && broken(&right).is_empty() && (case.fact)(&right).holds;
     sound && breaks == case.breaks && !fact.holds
+}
+
+fn show(name: &str, right: &Run, slipped: &Run, breaks: &[&str]) {
+    let sizes = [name, &right.net.arcs.len().to_string(), &right.q.to_string()];
+    let [[v, b, n], [w, c, o]] = [figures(right), figures(slipped)];
+    let named = if breaks.is_empty() { "none".into() } else { breaks.join(", ") };
+    show_row(sizes, [&v, &b, &n, &w, &c, &o], &named);
 }
 
 fn show_row([slip, m, q]: [&str; 3], [v, b, n, w, c, o]: [&str; 6], breaks: &str) {
@@ -93,13 +128,8 @@ fn show_row([slip, m, q]: [&str; 3], [v, b, n, w, c, o]: [&str; 6], breaks: &str
 }
 
 fn figures(run: &Run) -> [String; 3] {
-    let (upper, lower) = run.scale();
-    let total = run.drawn as f64 * upper as f64 / lower as f64;
-    [format!("{total:.4}"), format!("{:.4}", value(run.bound())), run.iterations.to_string()]
-}
-
-fn value(met: Met) -> f64 {
-    met.weight as f64 / met.alpha as f64
+    let (total, bound) = (run.total(), run.bound().value());
+    [format!("{total:.4}"), format!("{bound:.4}"), run.iterations.to_string()]
 }
 
 /// The run without a slip is the second solver's.
@@ -176,11 +206,11 @@ fn best(run: &Run) -> Fact {
         least.iteration,
         least.weight,
         least.alpha,
-        value(least),
+        least.value(),
         bound.iteration,
         bound.weight,
         bound.alpha,
-        value(bound)
+        bound.value()
     );
     let smaller = fraction_below(least.weight, least.alpha, bound.weight, bound.alpha);
     Fact { holds: !smaller, says }
