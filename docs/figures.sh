@@ -77,15 +77,17 @@ requote docs/METHOD.md '    ' "$old/page.csv" tests/listing/page.csv
 requote docs/COURSE.md '' "$old/one_by_one.expected" tests/one_by_one.expected
 requote docs/GUARANTEE.md '' "$old/slips" "$old/slips.new"
 
-"$made/pages" ${check:+--check} || changes=$((changes + 1))
+by_hand=
+"$made/pages" ${check:+--check} || by_hand=1
 for picture in two_docks stuck one_by_one levels sides; do
     store "docs/pictures/$picture.svg" < <("$made/draw" "$picture")
 done
 store docs/READING.md < <(docs/reading.sh)
 
 if [ "$check" ]; then
-    echo "figures: all compared, $changes would change"
-    [ "$changes" -eq 0 ]
+    echo "figures: all compared, $changes files would change"
+    [ "$changes" -eq 0 ] && [ -z "$by_hand" ]
 else
-    echo "figures: all made again, with $changes changes"
+    echo "figures: all made again, $changes files changed${by_hand:+; the sentences named above are for a hand}"
+    [ -z "$by_hand" ]
 fi
