@@ -1,10 +1,10 @@
 //! What docs/GUARANTEE.md tells of figures outside of what it quotes.
 
-use crate::room;
 use crate::shares::shares;
 use crate::slip_floors::{merge, one_feeder, two_belts, two_feeders};
 use crate::slipped::{run, run_seen, Run, Slip};
 use crate::told::{printed, to_the_nearest};
+use crate::{near, room};
 
 /// The precision at which rounding a length down shows.
 pub const SLIPPED: u64 = 16;
@@ -12,6 +12,7 @@ pub const SLIPPED: u64 = 16;
 pub fn told() -> Vec<String> {
     let mut told = room::told();
     told.extend(share_rows());
+    told.extend(near::told());
     told.push(format!("{} where V is {}", to_the_nearest(), carried_whole()));
     told.extend(growth_down());
     told.extend(halving_down());

@@ -10,11 +10,19 @@
 mod call;
 mod course;
 mod dimacs;
+mod fast;
+mod floors;
+#[path = "../../bench/full.rs"]
+mod full;
 mod guarantee;
 mod listed;
 mod method;
+mod near;
 mod network;
+mod random;
 mod room;
+mod search;
+mod shapes;
 mod shares;
 mod slip_floors;
 mod slipped;
