@@ -36,13 +36,13 @@ crates() {
     echo ' |'
 }
 
-# a row for each script of tests/, with the last line that it printed
+# a row for each script of tests/, with the last line that it printed, if any
 tests() {
     awk '
         function row(test, time, says) { sub(/^tests\//, "", test); gsub(/\|/, "\\|", says); print "| `" test "` | " time " | " says " |" }
         /^gate: tests\/.* skipped:/ { row($2, "", "skipped: a tool is absent") }
         /^gate: tests\/.* (passed|FAILED) \([0-9]+ s\)$/ { time = $(NF - 1); sub(/\(/, "", time); all += time; row($2, time, $3 == "passed" ? last : "FAILED") }
-        { last = $0 }
+        { last = /^gate: (tests\/|rt ci)/ ? "" : $0 }
         END { print "| in all | " all + 0 " | |" }' "$log"
 }
 
