@@ -94,23 +94,26 @@ fn options(mut words: impl Iterator<Item = String>) -> Option<Options> {
 }
 
 fn bench(q: u64, options: &Options) -> bool {
-    println!();
-    let times = ["library ms", "fast ms", "plain ms", "fast/library", "plain/library"];
-    let [library, fast, plain, level, gain] = times;
-    show_row(["floor", "q", "choices", library, fast, plain, level, gain].map(String::from));
+    println!("\n### q = {q}\n");
+    show_head(options.plain);
     let (mut rows, mut shares) = (Vec::new(), Vec::new());
     let mut alike = true;
+    let mut different = Vec::new();
     for (name, call) in floors_at(q, options.seed, options.kind) {
         let (times, same, tables) = measure(&call, options.plain);
-        show(&name, q, get(&tables.answer, 5), &times);
+        show(&name, get(&tables.answer, 5), &times);
         if !same {
-            println!("DIFFERENT {name}: the library's tables are not the second solver's");
+            different.push(name.clone());
             alike = false;
         }
         rows.push(times);
         shares.push((share(&tables), name));
     }
-    show_means(q, &rows);
+    show_means(&rows);
+    println!();
+    for name in different {
+        println!("DIFFERENT {name}: the library's tables are not the second solver's");
+    }
     show_least(q, shares);
     alike
 }
@@ -166,36 +169,51 @@ fn quickest(run: impl Fn() -> Call) -> (f64, Call) {
     }
 }
 
-fn show(name: &str, q: u64, choices: u64, times: &Times) {
-    let Times { library, fast, plain } = times;
-    let ms = |time: Option<f64>| time.map_or("-".into(), |time| format!("{time:.1}"));
-    let ratio =
-        |time: Option<f64>| time.map_or("-".into(), |time| format!("{:.2}", time / library));
-    show_row([
-        name.into(),
-        q.to_string(),
-        choices.to_string(),
-        ms(Some(*library)),
-        ms(Some(*fast)),
-        ms(*plain),
-        ratio(Some(*fast)),
-        ratio(*plain),
-    ]);
+/// The rows are those of a Markdown table, as docs/SPEED.md has them.
+fn show_row(cells: Vec<String>) {
+    println!("| {} |", cells.join(" | "));
 }
 
-fn show_row([floor, q, choices, library, fast, plain, level, gain]: [String; 8]) {
-    print!("{floor:<12} {q:>2} {choices:>8} {library:>11} {fast:>9} {plain:>10}");
-    println!(" {level:>13} {gain:>14}");
-}
-
-fn show_means(q: u64, rows: &[Times]) {
-    let fast = mean(rows.iter().map(|times| times.fast / times.library));
-    print!("geometric mean at q {q}: fast/library {fast:.2}");
-    if rows.iter().all(|times| times.plain.is_some()) {
-        let plain = rows.iter().filter_map(|times| Some(times.plain? / times.library));
-        print!(", plain/library {:.2}", mean(plain));
+fn show_head(plain: bool) {
+    let mut cells = vec!["floor", "choices", "library, ms", "fast form, ms", "library / fast"];
+    if plain {
+        cells.extend(["plain form, ms", "plain / library"]);
     }
-    println!();
+    println!("| {} |", cells.join(" | "));
+    println!("|{}", "---|".repeat(cells.len()));
+}
+
+fn show(name: &str, choices: u64, times: &Times) {
+    let Times { library, fast, plain } = *times;
+    let mut cells = vec![name.to_string(), grouped(choices), ms(library), ms(fast)];
+    cells.push(format!("{:.2}", library / fast));
+    if let Some(plain) = plain {
+        cells.extend([ms(plain), format!("{:.1}", plain / library)]);
+    }
+    show_row(cells);
+}
+
+fn ms(time: f64) -> String {
+    format!("{time:.1}")
+}
+
+/// With a comma before each three digits.
+fn grouped(number: u64) -> String {
+    match number {
+        0..=999 => number.to_string(),
+        _ => format!("{},{:03}", grouped(number / 1000), number % 1000),
+    }
+}
+
+fn show_means(rows: &[Times]) {
+    let level = mean(rows.iter().map(|times| times.library / times.fast));
+    let mut cells = ["geometric mean", "", "", ""].map(String::from).to_vec();
+    cells.push(format!("{level:.2}"));
+    if rows.iter().all(|times| times.plain.is_some()) {
+        let gain = mean(rows.iter().filter_map(|times| Some(times.plain? / times.library)));
+        cells.extend([String::new(), format!("{gain:.1}")]);
+    }
+    show_row(cells);
 }
 
 fn show_least(q: u64, shares: Vec<(u128, String)>) {

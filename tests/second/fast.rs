@@ -28,17 +28,15 @@ pub fn solve(net: &Network, q: u64) -> Solution {
     let mut path = Path::default();
     let mut ended = false;
     while !ended {
-        let Some(commodity) = search.choose(&run.lengths) else {
+        let Some((commodity, alpha)) = search.choose(&run.lengths, &mut path) else {
             return Solution::unjoined(net);
         };
-        let alpha = search.walk(commodity, &run.lengths, &mut path);
         run.keep_bound(alpha);
         let marked = run.draw(commodity, &path);
         ended = run.reached(&path);
-        search.grow();
         if marked {
             run.halve();
-            search.drop_bounds();
+            search.halved();
         }
     }
     run.solution()

@@ -1,30 +1,31 @@
--- The choice from bounds: where the least bound is the length in a distance, the walk of its commodity is the choice of document 01.
+-- The choice from bounds: where the least bound is the length of a walk, that walk is the choice of document 01.
 -- Assumes nothing.
-use mathlib.Core.Path.{_≡_, refl, sym, subst}
+use mathlib.Core.Path.{_≡_, refl}
 use mathlib.Core.Option.{Option, none, some}
 use mathlib.Core.List.{List}
 use Prim.Native.Nat.{ℕ, _≤_}
 use native.Mathlib.Omega.{arith}
-use lib.ListN.{length, getD}
+use lib.ListN.{getD, take}
 use Rattle.bounds.specs.Bounds.{mostNodes}
 use Rattle.network.specs.Ends.{Ends}
-use Rattle.network.specs.Network.{Network, source, sink}
+use Rattle.network.specs.Network.{Network, commodities, source, sink}
 use Rattle.network.specs.Path.{pathLength}
 use Rattle.network.specs.Resources.{uses}
 use Rattle.network.proofs.Uses.{uses-length}
 use Rattle.method.specs.Choice.{Choice, choiceOf, choice}
 use Rattle.method.proofs.Shortest.{choice-candidate}
 use Rattle.method.proofs.Unique.{chosen-choice}
+use Rattle.choice.specs.Below.{Below}
 use Rattle.choice.specs.Closest.{Closest}
+use Rattle.choice.specs.Least.{Least}
 use Rattle.paths.specs.Far.{farLength, Bounded}
-use Rattle.paths.specs.Key.{arcsOf}
-use Rattle.paths.specs.Walk.{Walk}
 use Rattle.choice.proofs.Reach.{near-path}
+use Rattle.paths.proofs.Lower.{telescopes}
 use Rattle.paths.proofs.Simple.{walk-distinct, walk-few}
-use Rattle.paths.proofs.Telling.{walk-length, walk-arcs}
+use Rattle.paths.proofs.Telling.{walk-length}
 use Rattle.paths.proofs.Walks.{walk-path, walk-key, walk-first}
 
-module _ {net : Network} {l bounds d : List ℕ} {i : ℕ} (C : Closest net l bounds d i) (ends : Ends net) (few : net .nodes ≤ mostNodes) where
+module _ {net : Network} {l bounds : List ℕ} {i : ℕ} (B : Below net l bounds) (L : Least bounds (commodities net) i) (ends : Ends net) (few : net .nodes ≤ mostNodes) where
   -- Where the least bound is far no commodity has a path as short as any joined one has, so none is joined and nothing is chosen.
   pub closest-none : Bounded net l → farLength ≤ getD bounds i 0 → choice net l ≡ none
   closest-none lengths b = by-choice (choice net l) refl
@@ -36,32 +37,39 @@ module _ {net : Network} {l bounds d : List ℕ} {i : ℕ} (C : Closest net l bo
           let k = choice-candidate net l c h in
           let q =
           near-path l {far = farLength} ends lengths (omega arith) (source net j) (sink net j) (ends .sources j (k .commodity)) (c .path) (k .path) in
-          absurd (omega (arith, q .2, C .below .lower j (k .commodity) (q .0) (q .1), C .least .least j (k .commodity)))
+          absurd (omega (arith, q .2, B .lower j (k .commodity) (q .0) (q .1), L .least j (k .commodity)))
 
-  -- Else the walk of its commodity is chosen, and alpha is the least bound. It has as few arcs as the distance tells, and is the first that has.
+  -- Else the walk of its commodity is chosen, and alpha is the least bound. By its key no path as short has fewer arcs, and it is the first that has as few.
   pub closest-choice :
-      {p : List ℕ} → Walk net l d (sink net i) (source net i) p →
-      (choice net l ≡ some (choiceOf i p)) × (pathLength l (uses net (source net i) p) ≡ getD bounds i 0)
-  closest-choice {p} w =
-      let D = C .table .distances in
-      let node = ends .sources i (C .least .among) in
-      let told = walk-length ends few D node w in
-      let arcs : arcsOf (getD d (source net i) 0) ≡ length p = sym (walk-arcs ends few D node w) in
+      {d path : List ℕ} {r : ℕ} → Closest net l bounds d i path r →
+      (choice net l ≡ some (choiceOf i (take r path))) × (pathLength l (uses net (source net i) (take r path)) ≡ getD bounds i 0)
+  closest-choice {d} {path} {r} C =
+      let p : List ℕ = take r path in
+      let w = C .walk in
+      let F = C .feasible in
+      let node = ends .sources i (L .among) in
+      let told = walk-length ends few F node w in
       let own = uses-length net l (source net i) (sink net i) p (walk-path w) in
       let long : pathLength l (uses net (source net i) p) ≡ getD bounds i 0 = omega (arith, own, told, C .own) in (
         chosen-choice net l ends (choiceOf i p)
             (record {
-              commodity = C .least .among;
+              commodity = L .among;
               path = walk-path w;
-              shortest = λ j q c h. omega (arith, C .least .least j c, C .below .lower j c q h);
-              lowest = λ j q c h. omega (arith, C .least .lowest j c, C .below .lower j (omega (arith, C .least .among)) q h);
+              shortest = λ j q c h. omega (arith, L .least j c, B .lower j c q h);
+              lowest = λ j q c h. omega (arith, L .lowest j c, B .lower j (omega (arith, L .among)) q h);
               fewest = λ q h e.
-                  subst (λ (r : ℕ). r ≤ length q) arcs
-                  (C .table .tells (source net i) node .fewest q h (omega (arith, e, told, own, uses-length net l (source net i) (sink net i) q h)));
+                  omega (
+                    arith,
+                    e,
+                    own,
+                    uses-length net l (source net i) (sink net i) q h,
+                    walk-key w,
+                    telescopes F (source net i) (sink net i) q h,
+                  );
               first = λ q h e s b.
-                  omega (arith, walk-key (D .sink) w, walk-first D w q h b, own, uses-length net l (source net i) (sink net i) q h);
-              distinct = walk-distinct D w;
-              few = walk-few ends D node w;
+                  omega (arith, walk-key w, F .sink, walk-first F w q h b, own, uses-length net l (source net i) (sink net i) q h);
+              distinct = walk-distinct F w;
+              few = walk-few ends F node w;
             }),
         long,
       )

@@ -1,9 +1,10 @@
 -- A search in which the rule for tied commodities decides, and one that finds none joined: so what the laws of the search ask for exists.
 -- Assumes nothing.
 use mathlib.Core.Path.{_≡_, refl}
+use mathlib.Core.Logic.{inr}
 use mathlib.Core.Option.{none, some}
 use mathlib.Core.List.{[], _∷_}
-use Prim.Native.Nat.{ℕ, zero, suc, _+_, _≤_, _<_}
+use Prim.Native.Nat.{ℕ, zero, suc, _≤_, _<_}
 use native.Mathlib.Omega.{arith}
 use lib.ListN.{getD}
 use borrow.Author.Count.{below-none, below-more}
@@ -17,11 +18,12 @@ use Rattle.network.specs.declared.Verdict.the-variants.{Accepted}
 use Rattle.network.proofs.Accepted.{accepted-sound}
 use Rattle.network.proofs.Sounds.{sound-ends}
 use Rattle.method.specs.Choice.{choiceOf, choice}
+use Rattle.choice.specs.Below.{Below}
 use Rattle.choice.specs.Closest.{Closest}
+use Rattle.choice.specs.Least.{Least}
 use Rattle.paths.specs.Far.{farLength, far}
-use Rattle.paths.specs.Key.{lengthOf}
 use Rattle.paths.specs.Graph.{Table}
-use Rattle.choice.specs.Raised.{Raised}
+use Rattle.choice.specs.Raised.{toldBy, Greater, Raised}
 use Rattle.choice.proofs.Bounds.{below-zero, below-raised}
 use Rattle.choice.proofs.Found.{closest-none, closest-choice}
 use Rattle.paths.proofs.Telling.{distance-tells}
@@ -70,71 +72,69 @@ table-1 =
     }
 
 -- Bounds of 0, raised: one search serves both commodities.
-raised-3 : Raised (nodeLength twice lengths) (1 ∷ 1 ∷ []) (3 ∷ 3 ∷ []) 3 near (0 ∷ 0 ∷ []) (3 ∷ 3 ∷ []) 2
+raised-3 : Raised (nodeLength twice lengths) (1 ∷ 1 ∷ []) (3 ∷ 3 ∷ []) near (0 ∷ 0 ∷ []) (3 ∷ 3 ∷ []) 2
 unfolding nodeLength station pathLength
 raised-3 =
     record {
       size = refl;
-      shared =
-          two
-          (λ i. _≡_ {A = ℕ} (getD (3 ∷ 3 ∷ []) i 0) 3 → _≡_ {A = ℕ} (getD (3 ∷ 3 ∷ []) i 0) (lengthOf (getD near (getD (1 ∷ 1 ∷ []) i 0) 0) + nodeLength twice lengths (getD (1 ∷ 1 ∷ []) i 0)))
-          (λ q. refl) (λ q. refl);
-      others = others;
+      each =
+          two (λ i. Greater (getD (0 ∷ 0 ∷ []) i 0) (toldBy (nodeLength twice lengths) near (getD (1 ∷ 1 ∷ []) i 0) (getD (3 ∷ 3 ∷ []) i 0)) (getD (3 ∷ 3 ∷ []) i 0))
+          (record { first = omega arith; second = omega arith; one = inr refl })
+          (record { first = omega arith; second = omega arith; one = inr refl });
+      rest = rest;
     }
   where
-    others : (i : ℕ) → (_≡_ {A = ℕ} (getD (3 ∷ 3 ∷ []) i 0) 3 → ⊥) → _≡_ {A = ℕ} (getD (3 ∷ 3 ∷ []) i 0) (getD (0 ∷ 0 ∷ []) i 0)
-    others zero n = absurd (n refl)
-    others (suc zero) n = absurd (n refl)
-    others (suc (suc i)) n = refl
+    rest : (i : ℕ) → 2 ≤ i → _≡_ {A = ℕ} (getD (3 ∷ 3 ∷ []) i 0) (getD (0 ∷ 0 ∷ []) i 0)
+    rest zero b = absurd (omega arith)
+    rest (suc zero) b = absurd (omega arith)
+    rest (suc (suc i)) b = refl
 
-raised-1 : Raised (nodeLength parted lengths) (3 ∷ []) (1 ∷ []) 1 away (0 ∷ []) (farLength ∷ []) 1
+raised-1 : Raised (nodeLength parted lengths) (3 ∷ []) (1 ∷ []) away (0 ∷ []) (farLength ∷ []) 1
 unfolding nodeLength station pathLength
 raised-1 =
     record {
       size = refl;
-      shared =
-          one
-          (λ i. _≡_ {A = ℕ} (getD (1 ∷ []) i 0) 1 → _≡_ {A = ℕ} (getD (farLength ∷ []) i 0) (lengthOf (getD away (getD (3 ∷ []) i 0) 0) + nodeLength parted lengths (getD (3 ∷ []) i 0)))
-          (λ q. refl);
-      others = others;
+      each =
+          one (λ i. Greater (getD (0 ∷ []) i 0) (toldBy (nodeLength parted lengths) away (getD (3 ∷ []) i 0) (getD (1 ∷ []) i 0)) (getD (farLength ∷ []) i 0))
+          (record { first = omega arith; second = omega arith; one = inr refl });
+      rest = rest;
     }
   where
-    others : (i : ℕ) → (_≡_ {A = ℕ} (getD (1 ∷ []) i 0) 1 → ⊥) → _≡_ {A = ℕ} (getD (farLength ∷ []) i 0) (getD (0 ∷ []) i 0)
-    others zero n = absurd (n refl)
-    others (suc i) n = refl
+    rest : (i : ℕ) → 1 ≤ i → _≡_ {A = ℕ} (getD (farLength ∷ []) i 0) (getD (0 ∷ []) i 0)
+    rest zero b = absurd (omega arith)
+    rest (suc i) b = refl
 
 -- The first commodity is the lowest-numbered of the two equal bounds,
-closest : Closest twice lengths (3 ∷ 3 ∷ []) near 0
-unfolding nodeLength station pathLength
-closest =
+least : Least (3 ∷ 3 ∷ []) 2 0
+least =
     record {
-      least =
-          record {
-            among = omega arith;
-            least = two (λ j. 3 ≤ getD (3 ∷ 3 ∷ []) j 0) (omega arith) (omega arith);
-            lowest = λ j b. absurd (omega arith);
-          };
-      below = below-raised (ends twice (accepted .0)) table-3 (below-zero twice lengths {n = 2} refl) raised-3;
-      table = table-3;
-      own = refl;
+      among = omega arith;
+      least = two (λ j. 3 ≤ getD (3 ∷ 3 ∷ []) j 0) (omega arith) (omega arith);
+      lowest = λ j b. absurd (omega arith);
     }
+
+bounds : Below twice lengths (3 ∷ 3 ∷ [])
+bounds =
+    below-raised (ends twice (accepted .0)) (omega arith) (below-zero twice lengths {n = 2} refl) raised-3 (to-3 _ _ .feasible) (table-3 .capped)
+
+-- its walk is as long,
+closest : Closest twice lengths (3 ∷ 3 ∷ []) near 0 (2 ∷ []) 1
+unfolding nodeLength station pathLength
+closest = record { feasible = to-3 _ _ .feasible; walk = walk _ _; own = refl; few = omega arith }
 
 -- and it is chosen, with the path of one arc.
 found : (choice twice lengths ≡ some (choiceOf 0 (2 ∷ []))) × (pathLength lengths (uses twice 1 (2 ∷ [])) ≡ 3)
-found = closest-choice closest (ends twice (accepted .0)) (omega arith) (walk _ _)
+found = closest-choice bounds least (ends twice (accepted .0)) (omega arith) closest
 
 -- The only bound is far,
-alone : Closest parted lengths (farLength ∷ []) away 0
-unfolding nodeLength station pathLength
+alone : Least (farLength ∷ []) 1 0
 alone =
-    record {
-      least =
-          record { among = omega arith; least = one (λ j. farLength ≤ getD (farLength ∷ []) j 0) (omega arith); lowest = λ j b. absurd (omega arith) };
-      below = below-raised (ends parted (accepted .1)) table-1 (below-zero parted lengths {n = 1} refl) raised-1;
-      table = table-1;
-      own = refl;
-    }
+    record { among = omega arith; least = one (λ j. farLength ≤ getD (farLength ∷ []) j 0) (omega arith); lowest = λ j b. absurd (omega arith) }
+
+far-off : Below parted lengths (farLength ∷ [])
+far-off =
+    below-raised (ends parted (accepted .1)) (omega arith) (below-zero parted lengths {n = 1} refl) raised-1 (to-1 _ _ .feasible) (table-1 .capped)
 
 -- so nothing is chosen.
 not-found : choice parted lengths ≡ none
-not-found = closest-none alone (ends parted (accepted .1)) (omega arith) (bounded _ _) (omega arith)
+not-found = closest-none far-off alone (ends parted (accepted .1)) (omega arith) (bounded _ _) (omega arith)

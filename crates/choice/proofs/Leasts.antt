@@ -38,6 +38,15 @@ module _ {xs : List ℕ} {k r : ℕ} (L : Least xs k r) where
         lowest = L .lowest;
       }
 
+-- The same numbers have the same place of the least.
+pub least-same : {xs ys : List ℕ} {k r : ℕ} → ((j : ℕ) → j < k → getD ys j 0 ≡ getD xs j 0) → Least xs k r → Least ys k r
+least-same same L =
+    record {
+      among = L .among;
+      least = λ j b. omega (arith, L .least j b, same j b, same _ (L .among));
+      lowest = λ j b. omega (arith, L .lowest j b, same j (omega (arith, L .among)), same _ (L .among));
+    }
+
 pub least-unique : {xs : List ℕ} {k i j : ℕ} → Least xs k i → Least xs k j → i ≡ j
 least-unique {i = i} {j = j} I J = by-order (compare i j)
   where

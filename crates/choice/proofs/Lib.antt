@@ -1,7 +1,9 @@
 pub mod Bounds
+pub mod Forgets
 pub mod Found
 pub mod FoundExample
 pub mod Leasts
+pub mod Looks
 pub mod Memories
 pub mod Raises
 pub mod Reach

@@ -1,78 +1,101 @@
--- A bound stored in a memory: the bounds with it, and the distances as they were. Assumes nothing.
-use mathlib.Core.Path.{_≡_, refl, ap, subst, _∙_}
+-- The pages of a memory: they stay as they are while lengths grow and bounds are raised, and a search changes one. Assumes nothing.
+use mathlib.Core.Path.{_≡_, sym, ap, _∙_}
 use mathlib.Core.List.{List}
 use Prim.Native.Nat.{ℕ, _+_, _-_, _≤_, _<_}
 use native.Mathlib.Omega.{arith}
-use lib.ListN.{length, getD, take, set, replicate, length-set, length-replicate}
-use lib.Seq.{take-set-lt, drop-set-lt}
+use lib.ListN.{length, getD, take, drop, set, length-set}
+use lib.Seq.{take-take, take-set-le, drop-set-lt, getD-set-same}
+use Rattle.arith.proofs.Order.{Compared, below, equal, above, compare}
 use Rattle.bounds.specs.Bounds.{mostNodes, mostCommodities}
-use Rattle.network.specs.Network.{Network, commodities}
+use Rattle.network.specs.Ends.{Node}
+use Rattle.network.specs.Network.{Network}
 use Rattle.packed.specs.Packed.{part, put}
 use Rattle.packed.specs.declared.Shape.{Shape}
-use Rattle.paths.specs.Key.{lengthOf}
-use Rattle.packed.proofs.Columns.{part-at, part-length, part-put, part-before, put-length}
-use Rattle.choice.specs.Memory.{distancesFrom, distanceNumbers, memoryNumbers, distancesIn, Memory}
-use Rattle.choice.specs.Raised.{Raised, RaisedIn}
-use Rattle.choice.proofs.Bounds.{below-zero}
-use Rattle.choice.proofs.Raises.{raised-none, raised-shared, raised-other}
+use Rattle.packed.proofs.Columns.{part-put, part-before, part-behind}
+use Rattle.paths.specs.Order.{distanceNumbers, pageNumbers, Searched}
+use Rattle.choice.specs.Memory.{boundsIn, leastAt, leastIn, pageFrom, pageIn, distancesIn, memoryNumbers, Page, Known, Memory}
+use Rattle.choice.proofs.Bounds.{feasible-grown, below-grown}
+use Rattle.choice.proofs.Raises.{part-same}
 
-module _ (k i x : ℕ) (memory : List ℕ) (b : i < k) where
-  bounds-set : part 0 k (set memory i x) ≡ set (part 0 k memory) i x
-  bounds-set = let whole : 0 + k - 0 ≡ k = omega arith in rw whole (take-set-lt k memory i x b)
+-- The distances on a page are the first numbers of it.
+pub part-first : (a : ℕ) (xs : List ℕ) → take distanceNumbers (part a pageNumbers xs) ≡ part a distanceNumbers xs
+part-first a xs =
+    let all : a + pageNumbers - a ≡ pageNumbers = omega arith in
+    let some : a + distanceNumbers - a ≡ distanceNumbers = omega arith in
+    rw (all, some) (take-take distanceNumbers pageNumbers (drop a xs) (omega arith))
 
-  distances-set : k ≤ mostCommodities → distancesIn (set memory i x) ≡ distancesIn memory
-  distances-set few = ap (take (distancesFrom + distanceNumbers - distancesFrom)) (drop-set-lt distancesFrom memory i x (omega arith))
+-- The same page is in another memory.
+page-same : {net : Network} {l old new : List ℕ} {t : ℕ} → pageIn t new ≡ pageIn t old → Page net l old t → Page net l new t
+page-same {old = old} {new = new} {t = t} q P =
+    let d : distancesIn t new ≡ distancesIn t old = sym (part-first (pageFrom t) new) ∙ (ap (take distanceNumbers) q ∙ part-first (pageFrom t) old) in
+    record { feasible = rw d (P .feasible); capped = rw d (P .capped); ordered = rw q (P .ordered) }
 
-module _ {own : ℕ → ℕ} {sources sinks : List ℕ} {t : ℕ} {old : List ℕ} where
-  pub raised-in-none : RaisedIn own sources sinks t old old 0
-  raised-in-none = record { bounds = raised-none; distances = refl; numbers = refl }
+-- Pages stand behind the bounds.
+pub page-raised :
+    {net : Network} {l old new : List ℕ} {t : ℕ} → drop mostCommodities new ≡ drop mostCommodities old → Page net l old t → Page net l new t
+page-raised {old = old} {new = new} {t = t} behind = page-same (part-same old new behind (pageFrom t) pageNumbers (omega arith))
 
-  module _ {new : List ℕ} {i : ℕ} (R : RaisedIn own sources sinks t old new i) (b : i < length sources) where
-    pub raised-in-other : (getD sinks i 0 ≡ t → ⊥) → RaisedIn own sources sinks t old new (i + 1)
-    raised-in-other n = record { bounds = raised-other (R .bounds) n; distances = R .distances; numbers = R .numbers }
-
-    -- The distance that is read is the one that was there.
-    reads : (s : ℕ) → s < distanceNumbers → getD new (distancesFrom + s) 0 ≡ getD (distancesIn old) s 0
-    reads s c = rw (← (R .distances)) (rw (part-at distancesFrom distanceNumbers new s c) refl)
-
-    pub raised-in-shared :
-        length sources ≤ mostCommodities → memoryNumbers ≤ length old → getD sources i 0 ≤ mostNodes → getD sinks i 0 ≡ t →
-        RaisedIn own sources sinks t old (set new (0 + i) (lengthOf (getD new (distancesFrom + getD sources i 0) 0) + own (getD sources i 0))) (i + 1)
-    raised-in-shared few places node q =
-        let x : ℕ = lengthOf (getD new (distancesFrom + getD sources i 0) 0) + own (getD sources i 0) in
-        let place : 0 + i ≡ i = omega arith in
-        rw place (record {
-          bounds =
-              rw (bounds-set (length sources) i x new b, reads (getD sources i 0) (omega arith))
-              (raised-shared (R .bounds) (omega (arith, part-length 0 (length sources) new (omega (arith, R .numbers)))) q);
-          distances = distances-set (length sources) i x new b few ∙ R .distances;
-          numbers = length-set new i x ∙ R .numbers;
-        })
-
--- A search has left the distances d in the memory M, and the bounds have been raised to them.
-module _ {own : ℕ → ℕ} {sources sinks : List ℕ} {t : ℕ} (M d : List ℕ) {new : List ℕ} {k : ℕ} (few : k ≤ mostCommodities) (places : memoryNumbers ≤ length M) (size : length sources ≡ k)
-    (table : length d ≡ distanceNumbers) (R : RaisedIn own sources sinks t (put distancesFrom distanceNumbers M d) new (length sources)) where
-  distances-put : distancesIn (put distancesFrom distanceNumbers M d) ≡ d
-  distances-put = part-put distancesFrom distanceNumbers M d (omega arith) table
-
-  pub looked-raised : Raised own sources sinks t d (part 0 k M) (part 0 k new) (length sources)
-  looked-raised =
-      subst (λ (n : ℕ). Raised own sources sinks t d (part 0 n M) (part 0 n new) (length sources)) size
-      (rw (distances-put, part-before distancesFrom distanceNumbers M 0 (length sources) d (omega arith) (omega (arith, size))) at (R .bounds))
-
-  pub looked-distances : distancesIn new ≡ d
-  looked-distances = R .distances ∙ distances-put
-
-  pub looked-numbers : length new ≡ length M
-  looked-numbers = R .numbers ∙ put-length distancesFrom distanceNumbers M d (omega arith) table
-
--- Bounds of 0 are below whatever the lengths.
-pub memory-zero :
-    {s : Shape} {net : Network} (old zs : List ℕ) → s .commodities ≤ mostCommodities → s .commodities ≡ commodities net → memoryNumbers ≤ length old →
-    zs ≡ replicate (s .commodities) 0 → (l : List ℕ) → Memory s net l (put 0 (s .commodities) old zs)
-memory-zero {s} {net} old zs few k places e l =
-    let size : length zs ≡ s .commodities = ap length e ∙ length-replicate {A = ℕ} (s .commodities) 0 in
+pub known-grown : {s : Shape} {net : Network} {l m memory : List ℕ} {i : ℕ} → ((e : ℕ) → getD l e 0 ≤ getD m e 0) → Known s net l memory i → Known s net m memory i
+known-grown h K =
     record {
-      places = omega (arith, put-length 0 (s .commodities) old zs (omega arith) size);
-      below = rw (part-put 0 (s .commodities) old zs (omega arith) size, e) (below-zero net l k);
+      places = K .places;
+      below = below-grown h (K .below);
+      least = K .least;
+      pages = λ t node. let P = K .pages t node in record { feasible = feasible-grown h (P .feasible); capped = P .capped; ordered = P .ordered };
     }
+
+-- A search has left its page at the place of t.
+module _ {net : Network} {l : List ℕ} {t : ℕ} (M page : List ℕ) (few : net .nodes ≤ mostNodes) (places : memoryNumbers ≤ length M) (node : Node net t)
+    (size : length page ≡ pageNumbers) (S : Searched net l page t) where
+  abbrev after : List ℕ
+  after = put (pageFrom t) pageNumbers M page
+
+  pub searched-distances : distancesIn t after ≡ take distanceNumbers page
+  searched-distances =
+      sym (part-first (pageFrom t) after) ∙ ap (take distanceNumbers) (part-put (pageFrom t) pageNumbers M page (omega arith) size)
+
+  pub searched-bounds : (s : Shape) → s .commodities ≤ mostCommodities → boundsIn s after ≡ boundsIn s M
+  searched-bounds s few-k = part-before (pageFrom t) pageNumbers M 0 (s .commodities) page (omega arith) (omega arith)
+
+  pub searched-pages : ((u : ℕ) → Node net u → Page net l M u) → (u : ℕ) → Node net u → Page net l after u
+  searched-pages pages u at = by-order (compare u t)
+    where
+      own : Page net l after t
+      own =
+          record {
+            feasible = rw searched-distances (S .table .distances .feasible);
+            capped = rw searched-distances (S .table .capped);
+            ordered = rw (part-put (pageFrom t) pageNumbers M page (omega arith) size) (S .ordered);
+          }
+
+      by-order : Compared u t → Page net l after u
+      by-order (below b) = page-same (part-before (pageFrom t) pageNumbers M (pageFrom u) pageNumbers page (omega arith) (omega arith)) (pages u at)
+      by-order (equal q) = rw q own
+      by-order (above b) = page-same (part-behind (pageFrom t) pageNumbers M page (omega arith) size (pageFrom u) pageNumbers (omega arith)) (pages u at)
+
+-- A commodity is noted between the bounds and the pages.
+module _ (s : Shape) (memory : List ℕ) (j : ℕ) (few : s .commodities ≤ mostCommodities) where
+  abbrev noted : List ℕ
+  noted = set memory leastAt j
+
+  pub noted-bounds : boundsIn s noted ≡ boundsIn s memory
+  noted-bounds = let whole : 0 + s .commodities - 0 ≡ s .commodities = omega arith in rw whole (take-set-le (s .commodities) memory leastAt j (omega arith))
+
+  noted-part : (b n : ℕ) → leastAt < b → part b n noted ≡ part b n memory
+  noted-part b n past = ap (take (b + n - b)) (drop-set-lt b memory leastAt j past)
+
+  pub noted-distances : (t : ℕ) → distancesIn t noted ≡ distancesIn t memory
+  noted-distances t = noted-part (pageFrom t) distanceNumbers (omega arith)
+
+  module _ (places : memoryNumbers ≤ length memory) where
+    pub noted-least : leastIn noted ≡ j
+    noted-least = getD-set-same memory leastAt j 0 (omega arith)
+
+    pub known-noted : {net : Network} {l : List ℕ} → Known s net l memory j → Memory s net l noted
+    known-noted K =
+        rw noted-least (record {
+          places = omega (arith, length-set memory leastAt j);
+          below = rw noted-bounds (K .below);
+          least = rw noted-bounds (K .least);
+          pages = λ t node. page-same (noted-part (pageFrom t) pageNumbers (omega arith)) (K .pages t node);
+        })

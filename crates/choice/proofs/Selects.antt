@@ -2,78 +2,65 @@
 -- Assumes nothing.
 use mathlib.Core.Path.{_≡_, sym, _∙_}
 use mathlib.Core.List.{List}
-use Prim.Native.Nat.{ℕ, _*_, _≤_, _<_}
+use Prim.Native.Nat.{ℕ, _≤_, _<_}
 use native.Mathlib.Omega.{arith}
 use lib.ListN.{length, getD, take, length-take}
-use Rattle.bounds.specs.Bounds.{mostNodes}
 use Rattle.network.specs.Network.{Network, source, sink}
 use Rattle.network.specs.Path.{Path}
 use Rattle.network.proofs.Paths.{path-some}
-use Rattle.choice.specs.Chose.{Chose}
-use Rattle.choice.specs.Closest.{Closest}
+use Rattle.packed.specs.declared.Shape.{Shape}
 use Rattle.paths.specs.Far.{farLength}
-use Rattle.paths.specs.Key.{arcsOf}
-use Rattle.index.specs.Index.{Out}
-use Rattle.choice.specs.Memory.{distanceNumbers}
-use Rattle.choice.specs.Search.{Survey}
 use Rattle.paths.specs.Visits.{Visits}
-use Rattle.paths.specs.Walk.{Walk}
-use Rattle.paths.specs.Walked.{Walkable, Walked}
-use Rattle.method.specs.declared.Selected.{Selected}
-use Rattle.choice.proofs.Found.{closest-none, closest-choice}
 use Rattle.paths.proofs.Walks.{walk-path}
+use Rattle.method.specs.declared.Selected.{Selected}
+use Rattle.choice.specs.Chose.{Chose}
+use Rattle.choice.specs.Closest.{Closest, Nearest}
+use Rattle.choice.specs.Memory.{boundsIn, leastIn, distancesIn}
+use Rattle.choice.specs.Search.{Survey}
+use Rattle.choice.proofs.Found.{closest-none, closest-choice}
 
 -- What is selected: commodity i, r arcs, k resources, the length x.
 abbrev pub selected : ℕ → ℕ → ℕ → ℕ → Selected
 selected i r k x = record { commodity = i; arcs = r; used = k; alpha = x }
 
 -- x is the least bound.
-module _ {net : Network} {l bounds d : List ℕ} {i x : ℕ} (H : Survey net l) (C : Closest net l bounds d i) (own : x ≡ getD bounds i 0) where
+module _ {s : Shape} {net : Network} {l memory walked : List ℕ} {r x : ℕ} (H : Survey net l) (N : Nearest s net l memory walked r)
+    (own : x ≡ getD (boundsIn s memory) (leastIn memory) 0) where
+  abbrev i : ℕ
+  i = leastIn memory
+
   -- Where the nearest is far, nothing is chosen.
-  pub selects-nothing : (r k : ℕ) (path : List ℕ) → farLength ≤ x → Chose net l (selected i r k x) path
-  selects-nothing r k path b =
+  pub selects-nothing : (a k : ℕ) (path : List ℕ) → farLength ≤ x → Chose net l (selected i a k x) path
+  selects-nothing a k path b =
       record {
-        nothing = λ q. closest-none C (H .fit .ends) (H .few) (H .fit .small) (rw own at b);
+        nothing = λ q. closest-none (N .memory-of .below) (N .memory-of .least) (H .fit .ends) (H .few) (H .fit .small) (rw own at b);
         something = λ c. absurd (omega arith);
       }
 
-  module _ (b : x < farLength) {u w : ℕ} (from : u ≡ source net i) (to : w ≡ sink net i) where
-    -- Else the walk of the nearest can be taken, from its source u to its sink w,
-    pub selects-walkable : {out : List ℕ} {room : ℕ} → length d ≡ distanceNumbers → Out net out → 2 * mostNodes ≤ room → Walkable net out l d u w room
-    selects-walkable q index room =
-        rw (from, to)
-        (record {
-          fit = rw q (H .fit);
-          table = C .table;
-          index = index;
-          source = H .fit .ends .sources i (C .least .among);
-          near = omega (arith, C .own, own);
-          places = omega (arith, room, H .few);
-        })
+  -- Else its walk is, from its source u,
+  module _ (b : x < farLength) {u : ℕ} (from : u ≡ source net i) where
+    pub selects-closest : Closest net l (boundsIn s memory) (distancesIn (sink net i) memory) i walked r
+    selects-closest = N .closest (rw own at b)
 
-    module _ (r : ℕ) (walked : List ℕ) (count : r ≡ arcsOf (getD d u 0)) (W : Walked net l d u w walked) where
-      -- It has the arcs that the distance of u tells,
-      walk : Walk net l d (sink net i) (source net i) (take r walked)
-      walk = rw (← count, from, to) at W
+    pub selects-path : Path net u (sink net i) (take r walked)
+    selects-path = rw from (walk-path (selects-closest .walk))
 
-      pub selects-path : Path net u (sink net i) (take r walked)
-      selects-path = rw from (walk-path walk)
-
-      -- and with what its nodes use behind them it is the choice.
-      pub selects-walk : (k : ℕ) (path : List ℕ) → Visits net u r walked path k → Chose net l (selected i r k x) path
-      selects-walk k path visits =
-          let ends = H .fit .ends in
-          let found = closest-choice C ends (H .few) walk in
-          let arc = path-some net (source net i) (sink net i) (take r walked) (ends .apart i (C .least .among)) (walk-path walk) in
-          record {
-            nothing = λ q. absurd (omega arith);
-            something = λ c. record {
-              chosen = rw (visits .path) (found .0);
-              used = rw (visits .path, ← from) (visits .used);
-              alpha = rw (visits .used, from) (found .1 ∙ sym own);
-              some-arc = omega (arith, arc, length-take r walked);
-              few-arcs = omega (arith, count);
-              some-more = visits .low;
-              few-used = visits .high;
-            };
-          }
+    -- and with what its nodes use behind them it is the choice.
+    pub selects-walk : (k : ℕ) (path : List ℕ) → Visits net u r walked path k → Chose net l (selected i r k x) path
+    selects-walk k path visits =
+        let ends = H .fit .ends in
+        let L = N .memory-of .least in
+        let found = closest-choice (N .memory-of .below) L ends (H .few) selects-closest in
+        let arc = path-some net (source net i) (sink net i) (take r walked) (ends .apart i (L .among)) (walk-path (selects-closest .walk)) in
+        record {
+          nothing = λ q. absurd (omega arith);
+          something = λ c. record {
+            chosen = rw (visits .path) (found .0);
+            used = rw (visits .path, ← from) (visits .used);
+            alpha = rw (visits .used, from) (found .1 ∙ sym own);
+            some-arc = omega (arith, arc, length-take r walked);
+            few-arcs = omega (arith, selects-closest .few, H .few);
+            some-more = visits .low;
+            few-used = visits .high;
+          };
+        }

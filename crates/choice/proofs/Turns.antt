@@ -1,54 +1,54 @@
--- One turn of the search among the commodities: the bounds after it, when it is the last, and what falls when it is not.
+-- One turn of the search among the commodities: when it is the last, and what falls when it is not.
 -- Assumes nothing.
 use mathlib.Core.Path.{_≡_, ap}
+use mathlib.Core.Logic.{_⊎_, ⊎-elim}
 use mathlib.Core.List.{List}
-use Prim.Native.Nat.{ℕ, _<_}
+use Prim.Native.Nat.{ℕ, _≤_, _<_}
 use native.Mathlib.Omega.{arith}
-use lib.ListN.{length}
+use lib.ListN.{getD, set}
+use Rattle.arith.proofs.Order.{le-or-lt}
+use Rattle.bounds.specs.Bounds.{mostCommodities}
 use Rattle.network.specs.Network.{Network, commodities, source, sink}
-use Rattle.network.specs.Resources.{nodeLength}
-use Rattle.paths.proofs.NodeLengths.{node-small}
-use Rattle.choice.specs.Below.{Below}
-use Rattle.choice.specs.Closest.{Closest}
-use Rattle.paths.specs.Far.{far}
+use Rattle.packed.specs.declared.Shape.{Shape}
+use Rattle.paths.specs.Far.{farLength, far}
 use Rattle.paths.specs.Graph.{Table}
-use Rattle.choice.specs.Least.{Least}
-use Rattle.choice.specs.Raised.{Raised}
+use Rattle.paths.proofs.Descent.{distance-path}
+use Rattle.paths.proofs.NodeLengths.{node-small}
+use Rattle.choice.specs.Closest.{Closest, Nearest}
+use Rattle.choice.specs.Looked.{lengthBy, Looked, Followed}
+use Rattle.choice.specs.Memory.{leastAt, boundsIn, distancesIn, Known}
 use Rattle.choice.specs.Search.{Survey}
-use Rattle.choice.proofs.Bounds.{bounds-rise, below-raised}
+use Rattle.choice.proofs.Memories.{noted-bounds, noted-distances, noted-least, known-noted}
 use Rattle.choice.proofs.Slack.{slack, slack-falls}
 
--- Commodity i is the next to be searched.
-pub record Turn (net : Network) (l bounds : List ℕ) (i : ℕ) : Type 0 where
-  pub below : Below net l bounds
-  pub least : Least bounds (commodities net) i
-
-pub turned : {net : Network} {l bounds : List ℕ} {i : ℕ} → Below net l bounds → Least bounds (length bounds) i → Turn net l bounds i
-turned B L = record { below = B; least = rw (B .each) at L }
-
-module _ {net : Network} {l old new d : List ℕ} {i j : ℕ} (lent : Survey net l) (S : Turn net l old i)
-    (T : Table net l d (sink net i) far) (R : Raised (nodeLength net l) (net .sources) (net .sinks) (sink net i) d old new (commodities net)) where
-  pub turn-next : Least new (length new) j → Turn net l new j
-  turn-next J = turned (below-raised (lent .fit .ends) T (S .below) R) J
-
-  -- A commodity with the sink that was searched is of least bound: it is the nearest.
-  pub turn-last : Least new (length new) j → sink net j ≡ sink net i → Closest net l new d j
-  turn-last J q =
-      let next = turn-next J in
-      record {
-        least = next .least;
-        below = next .below;
-        table = rw q T;
-        own = R .shared j (next .least .among) q;
-      }
+module _ {s : Shape} {net : Network} {l old new path : List ℕ} {i j r : ℕ} (lent : Survey net l) (K : Known s net l old i)
+    (L : Looked s net l (sink net i) old new j) (F : Followed net l (boundsIn s new) (distancesIn (sink net j) new) j path r) where
+  -- The walk has arrived,
+  -- or the sink was just searched: then it would have arrived if the bound were not far.
+  pub turn-last : (1 ≤ r) ⊎ (sink net j ≡ sink net i) → getD (boundsIn s new) j 0 < farLength → Closest net l (boundsIn s new) (distancesIn (sink net j) new) j path r
+  turn-last end near =
+      ⊎-elim (λ (b : 1 ≤ r). F .arrived b)
+      (λ (q : sink net j ≡ sink net i). ⊎-elim (λ (b : 1 ≤ r). F .arrived b) (λ (b : r < 1). absurd (arrives q (omega arith))) (le-or-lt 1 r))
+      end
+    where
+      arrives : sink net j ≡ sink net i → r ≡ 0 → ⊥
+      arrives q z =
+          let own : getD (boundsIn s new) j 0 ≡ lengthBy net l (distancesIn (sink net j) new) j = rw q (L .shared j (L .known .least .among) q) in
+          let T : Table net l (distancesIn (sink net j) new) (sink net j) far = rw q (L .table) in
+          let w = distance-path (lent .fit .ends) (T .distances) (source net j) (lent .fit .ends .sources j (L .known .least .among)) (omega (arith, own, near)) in
+          F .stuck z own (w .0) (w .1)
 
   -- Else there is less room below the cap than before.
-  pub turn-falls : Least new (length new) j → (sink net j ≡ sink net i → ⊥) → slack (commodities net) new < slack (commodities net) old
-  turn-falls J apart =
-      let next = turn-next J in
-      slack-falls
-      (S .least)
-      (bounds-rise (lent .fit .ends) T (S .below) R)
-      (next .least)
-      (λ e. apart (ap (sink net) e))
-      (λ x b. omega (arith, next .below .capped x b, node-small net l (lent .fit .small) (source net x) (lent .fit .ends .sources x b .1)))
+  pub turn-falls : (sink net j ≡ sink net i → ⊥) → slack (commodities net) (boundsIn s new) < slack (commodities net) (boundsIn s old)
+  turn-falls apart =
+      slack-falls (K .least) (L .rise) (L .known .least) (λ e. apart (ap (sink net) e))
+      (λ x b. omega (arith, L .known .below .capped x b, node-small net l (lent .fit .small) (source net x) (lent .fit .ends .sources x b .1)))
+
+  -- Commodity j is noted.
+  pub turn-noted : (1 ≤ r) ⊎ (sink net j ≡ sink net i) → s .commodities ≤ mostCommodities → Nearest s net l (set new leastAt j) path r
+  turn-noted end few =
+      let places = L .known .places in
+      record {
+        memory-of = known-noted s new j few places (L .known);
+        closest = rw (noted-least s new j few places, noted-bounds s new j few, noted-distances s new j few (sink net j)) (turn-last end);
+      }

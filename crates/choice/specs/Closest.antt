@@ -1,20 +1,28 @@
--- Where the search among the commodities ends: the least bound is the length in a distance, with that of the source.
+-- Where the search among the commodities ends: with a walk that is as long as the least bound.
 use mathlib.Core.Path.{_≡_}
 use mathlib.Core.List.{List}
-use Prim.Native.Nat.{ℕ, _+_}
-use lib.ListN.{getD}
-use Rattle.network.specs.Network.{Network, commodities, source, sink}
+use Prim.Native.Nat.{ℕ, _+_, _<_}
+use lib.ListN.{getD, take}
+use Rattle.network.specs.Network.{Network, source, sink}
 use Rattle.network.specs.Resources.{nodeLength}
-use Rattle.choice.specs.Below.{Below}
-use Rattle.paths.specs.Far.{far}
-use Rattle.paths.specs.Graph.{Table}
+use Rattle.packed.specs.declared.Shape.{Shape}
+use Rattle.paths.specs.Distances.{Feasible}
+use Rattle.paths.specs.Far.{farLength}
 use Rattle.paths.specs.Key.{lengthOf}
-use Rattle.choice.specs.Least.{Least}
+use Rattle.paths.specs.Walk.{Walk}
+use Rattle.choice.specs.Memory.{boundsIn, leastIn, distancesIn, Memory}
 
--- Commodity i is the lowest-numbered of least bound, d has the distances to its sink, and its bound is the length in that of its source, with the
--- source's own. So no path of any commodity is shorter, and those of lower-numbered ones are longer. Document 01, "One choice of route": alpha and the chosen pair.
-pub record Closest (net : Network) (l bounds d : List ℕ) (i : ℕ) : Type 0 where
-  pub least : Least bounds (commodities net) i
-  pub below : Below net l bounds
-  pub table : Table net l d (sink net i) far
+-- The first r entries of the table are the walk of commodity i by the feasible table d, and its bound is the length of that.
+pub record Closest (net : Network) (l bounds d : List ℕ) (i : ℕ) (path : List ℕ) (r : ℕ) : Type 0 where
+  pub feasible : Feasible net l d (sink net i)
+  pub walk : Walk net l d (sink net i) (source net i) (take r path)
   pub own : getD bounds i 0 ≡ lengthOf (getD d (source net i) 0) + nodeLength net l (source net i)
+  pub few : r < net .nodes
+
+-- The memory notes the commodity of least bound; where that is not far, it has such a walk. So no path of any commodity is shorter, and those of
+-- lower-numbered ones are longer. Document 01, "One choice of route": alpha and the chosen pair.
+pub record Nearest (s : Shape) (net : Network) (l memory path : List ℕ) (r : ℕ) : Type 0 where
+  pub memory-of : Memory s net l memory
+  pub closest :
+      let i = leastIn memory in
+      getD (boundsIn s memory) i 0 < farLength → Closest net l (boundsIn s memory) (distancesIn (sink net i) memory) i path r

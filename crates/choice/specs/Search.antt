@@ -4,7 +4,7 @@ use Prim.Native.Nat.{ℕ, _≤_}
 use Rattle.bounds.specs.Bounds.{mostNodes}
 use Rattle.network.specs.Network.{Network, commodities}
 use Rattle.paths.specs.Graph.{Fit}
-use Rattle.choice.specs.Memory.{distanceNumbers}
+use Rattle.paths.specs.Order.{distanceNumbers}
 
 -- The tables fit, there are no more nodes than the cap allows, and some commodity.
 pub record Survey (net : Network) (l : List ℕ) : Type 0 where

@@ -1,82 +1,104 @@
-// The nearest commodity, found lazily. Each commodity has a bound, a length that its paths are not below: lengths only grow, so that of its shortest
-// path earlier is one. Only where the bound is the least is the distance searched for, and one search serves every commodity with that sink. The
-// number of arcs, which a distance has beside the length, does not count between commodities.
-// Bounds and distances stand in one slice, which is remembered from choice to choice.
+// The nearest commodity, found lazily. Each commodity has a bound, a length that its paths are not below, and each sink a page with a feasible table: both
+// hold on while lengths only grow. One of least bound is chosen once its walk arrives by the page of its sink, with a length that is its bound: then no path
+// of any commodity is shorter. Only where the walk is stuck is the sink searched, and what is found raises the bounds of all commodities.
+// The number of arcs, which a distance has beside the length, does not count between commodities.
 use crate::BOUNDS;
 use crate::DISTANCE_NUMBERS;
-use crate::DISTANCES;
-use bounds::MOST_NODES;
+use crate::INTO;
+use crate::LEAST;
+use crate::OUT;
+use crate::PAGE_NUMBERS;
+use crate::PAGES;
+use crate::raise::raise;
+use crate::raise::told;
+use index::INDEX_NUMBERS;
 use packed::SINKS;
 use packed::SOURCES;
 use packed::Shape;
-use paths::through;
 use search::distances;
-ghost use Prim.Native.Nat.{_≤_};
+use walk::walk;
 ghost use lib.ListN.{length};
+ghost use Rattle.network.specs.Network.{sink};
 ghost use Rattle.packed.specs.Packed.{netIn};
-ghost use Rattle.paths.specs.Through.{through};
-ghost use Rattle.choice.specs.Calls.{Surveying};
-ghost use Rattle.choice.specs.Closest.{Closest};
-ghost use Rattle.choice.specs.Least.{Least};
+ghost use Rattle.choice.specs.Calls.{Looking, Following, Choosing};
+ghost use Rattle.choice.specs.Closest.{Nearest};
+ghost use Rattle.choice.specs.Looked.{Looked, Followed};
 ghost use Rattle.choice.specs.Memory.{boundsIn, distancesIn};
-ghost use Rattle.choice.specs.Raised.{Raising, RaisedIn};
 
-// The lowest-numbered commodity of least bound.
-fn least(bounds: &[u64]) -> usize
-    requires { ⌜ 1 ≤ length (now bounds) ⌝ }
-    ensures { λ r. ⌜ Least (now (bounds .entry)) (length (now (bounds .entry))) r ⌝ }
+// The distances to t, the sink of commodity i, are searched for, and all bounds raised by them; the lowest-numbered commodity of least bound now. i is taken
+// for the contract.
+fn look(
+    s: Shape,
+    net: &[u64],
+    into: &[u64],
+    lengths: &[u64],
+    t: u64,
+    i: usize,
+    memory: &mut [u64],
+) -> usize
+    requires { ⌜ Looking s (now net) (now into) (now lengths) t i (now memory) ⌝ }
+    ensures { λ r. ⌜ Looked s (netIn s (now (net .entry))) (now (lengths .entry)) t (now (memory .entry)) (now (memory .exit)) r ⌝ }
 {
-    let mut b = 0;
-    let mut i = 1;
-    while i < bounds.len() {
-        if bounds[i] < bounds[b] {
-            b = i;
-        }
-        i += 1;
-    }
-    b
+    let at = PAGES + PAGE_NUMBERS * t as usize;
+    distances(s, net, into, lengths, t, &mut memory[at..at + PAGE_NUMBERS]);
+    raise(s, net, into, lengths, t, memory)
 }
 
-// The bounds of all commodities with this sink, raised to the lengths in the distances of their sources, with the sources' own.
-fn raise(ix: &[u64], lengths: &[u64], sources: &[u64], sinks: &[u64], sink: u64, memory: &mut [u64])
-    requires { ⌜ Raising (now ix) (now lengths) (now sources) (now sinks) (now memory) ⌝ }
-    ensures { λ _. ⌜ RaisedIn (through (now (ix .entry)) (now (lengths .entry))) (now (sources .entry)) (now (sinks .entry)) sink (now (memory .entry)) (now (memory .exit)) (length (now (sources .entry))) ⌝ }
+// The walk of commodity i by the page of its sink; how many arcs it has, 0 where it is stuck or its length is not the bound.
+fn follow(
+    s: Shape,
+    net: &[u64],
+    indexes: &[u64],
+    lengths: &[u64],
+    i: usize,
+    memory: &[u64],
+    path: &mut [u64],
+) -> usize
+    requires { ⌜ Following s (now net) (now indexes) (now lengths) i (now memory) (length (now path)) ⌝ }
+    ensures { λ r. ⌜ Followed (netIn s (now (net .entry))) (now (lengths .entry)) (boundsIn s (now (memory .entry))) (distancesIn (sink (netIn s (now (net .entry))) i) (now (memory .entry))) i (now (path .exit)) r ⌝ }
 {
-    let mut i = 0;
-    while i < sources.len() {
-        if sinks[i] == sink {
-            let s = sources[i] as usize;
-            memory[BOUNDS + i] = memory[DISTANCES + s] / MOST_NODES + through(ix, lengths, s);
-        }
-        i += 1;
+    let out = &indexes[OUT..OUT + INDEX_NUMBERS];
+    let source = net[SOURCES + i];
+    let sink = net[SINKS + i];
+    let at = PAGES + PAGE_NUMBERS * sink as usize;
+    let dist = &memory[at..at + DISTANCE_NUMBERS];
+    if told(out, lengths, dist, source, sink) != memory[BOUNDS + i] {
+        return 0;
     }
+    walk(s, net, out, lengths, dist, source, sink, path)
 }
 
-// The lowest-numbered commodity whose sink is nearest to its source; the distances to that sink are left in memory.
-// A commodity of least bound is searched. If one with the same sink is of least bound afterwards, its bound is a path's length; else the search goes on.
-pub fn nearest(s: Shape, net: &[u64], into: &[u64], lengths: &[u64], memory: &mut [u64]) -> usize
-    requires { ⌜ Surveying s (now net) (now into) (now lengths) (now memory) ⌝ }
-    ensures { λ r. ⌜ Closest (netIn s (now (net .entry))) (now (lengths .entry)) (boundsIn s (now (memory .exit))) (distancesIn (now (memory .exit))) r ⌝ }
+// The lowest-numbered commodity whose sink is nearest to its source is noted in memory, and its walk written into path; how many arcs that has. The commodity
+// noted last has just been drawn, so that its sink is searched first.
+pub fn nearest(
+    s: Shape,
+    net: &[u64],
+    indexes: &[u64],
+    lengths: &[u64],
+    memory: &mut [u64],
+    path: &mut [u64],
+) -> usize
+    requires { ⌜ Choosing s (now net) (now indexes) (now lengths) (now memory) (length (now path)) ⌝ }
+    ensures { λ r. ⌜ Nearest s (netIn s (now (net .entry))) (now (lengths .entry)) (now (memory .exit)) (now (path .exit)) r ⌝ }
 {
-    let k = s.commodities;
-    let sources = &net[SOURCES..SOURCES + k];
-    let sinks = &net[SINKS..SINKS + k];
-    let mut i = least(&memory[BOUNDS..BOUNDS + k]);
+    let mut i = memory[LEAST] as usize;
+    let mut arcs = 0;
     loop {
-        let searched = sinks[i];
-        distances(
+        let t = net[SINKS + i];
+        i = look(
             s,
             net,
-            into,
+            &indexes[INTO..INTO + INDEX_NUMBERS],
             lengths,
-            searched,
-            &mut memory[DISTANCES..DISTANCES + DISTANCE_NUMBERS],
+            t,
+            i,
+            memory,
         );
-        raise(into, lengths, sources, sinks, searched, memory);
-        i = least(&memory[BOUNDS..BOUNDS + k]);
-        if sinks[i] == searched {
+        arcs = follow(s, net, indexes, lengths, i, memory, path);
+        if arcs > 0 || net[SINKS + i] == t {
             break;
         }
     }
-    i
+    memory[LEAST] = i as u64;
+    arcs
 }

@@ -1,5 +1,7 @@
 // The path of an iteration: of all commodities the one whose sink is nearest to its source, and of its shortest paths with fewest arcs the first.
 mod lazy;
+pub mod memory;
+mod raise;
 
 use crate::lazy::nearest;
 use bounds::MOST_ARCS;
@@ -7,27 +9,29 @@ use bounds::MOST_COMMODITIES;
 use bounds::MOST_NODES;
 use index::INDEX_NUMBERS;
 use method::Selected;
-use packed::SINKS;
 use packed::SOURCES;
 use packed::Shape;
 use search::FAR_LENGTH;
 use walk::visit;
-use walk::walk;
 ghost use lib.ListN.{length};
 ghost use Rattle.packed.specs.Packed.{netIn};
 ghost use Rattle.choice.specs.Calls.{Choosing};
 ghost use Rattle.choice.specs.Chose.{Left};
 
-// What is remembered from choice to choice: the bounds of the commodities and the distances of the nodes. Where each begins,
+// What is remembered from choice to choice: the bounds of the commodities, the one of least bound, and a page for each node, from node 0 on. Where each begins,
 pub const BOUNDS: usize = 0;
 
-pub const DISTANCES: usize = MOST_COMMODITIES;
+pub const LEAST: usize = MOST_COMMODITIES;
 
-// how many distances there are, from node 0 on,
+pub const PAGES: usize = MOST_COMMODITIES + 1;
+
+// how many numbers a page takes, and how many of them are distances, which come first, from node 0 on,
+pub const PAGE_NUMBERS: usize = DISTANCE_NUMBERS + MOST_NODES as usize;
+
 pub const DISTANCE_NUMBERS: usize = MOST_NODES as usize + 1;
 
-// and how many numbers they take in all.
-pub const MEMORY_NUMBERS: usize = MOST_COMMODITIES + DISTANCE_NUMBERS;
+// and how many numbers the memory takes in all.
+pub const MEMORY_NUMBERS: usize = PAGES + PAGE_NUMBERS * DISTANCE_NUMBERS;
 
 // A place for each arc of a path, which has fewer arcs than there are nodes, and for each of its nodes.
 pub const PATH_NUMBERS: usize = 2 * MOST_NODES as usize;
@@ -54,13 +58,8 @@ pub fn choose(
     requires { ⌜ Choosing s (now net) (now indexes) (now lengths) (now memory) (length (now path)) ⌝ }
     ensures { λ r. ⌜ Left s (netIn s (now (net .entry))) (now (lengths .entry)) r (now (path .exit)) (now (memory .exit)) ⌝ }
 {
-    let i = nearest(
-        s,
-        net,
-        &indexes[INTO..INTO + INDEX_NUMBERS],
-        lengths,
-        memory,
-    );
+    let arcs = nearest(s, net, indexes, lengths, memory, path);
+    let i = memory[LEAST] as usize;
     let alpha = memory[BOUNDS + i];
     if alpha >= FAR_LENGTH {
         return Selected {
@@ -70,24 +69,11 @@ pub fn choose(
             alpha,
         };
     }
-    let source = net[SOURCES + i];
-    let sink = net[SINKS + i];
-    walk(
-        s,
-        net,
-        &indexes[OUT..OUT + INDEX_NUMBERS],
-        lengths,
-        &memory[DISTANCES..DISTANCES + DISTANCE_NUMBERS],
-        source,
-        sink,
-        path,
-    );
-    let arcs = (memory[DISTANCES + source as usize] % MOST_NODES) as usize;
     let used = visit(
         s,
         net,
         &indexes[OUT..OUT + INDEX_NUMBERS],
-        source,
+        net[SOURCES + i],
         arcs,
         path,
     );

@@ -5,20 +5,26 @@ use mathlib.Core.Logic.{⊎-elim}
 use mathlib.Core.List.{List, _++_}
 use Prim.Native.Nat.{ℕ, _+_, _≤_}
 use native.Mathlib.Omega.{arith}
-use lib.ListN.{length, getD, set, replicate}
+use lib.ListN.{length, getD, set, drop, replicate}
 use lib.Seq.{getD-set-same, getD-set-other}
+use Rattle.bounds.specs.Bounds.{mostNodes}
 use Rattle.network.specs.Network.{Network}
 use Rattle.paths.specs.Far.{far}
 use Rattle.paths.specs.Graph.{Fit}
 use Rattle.paths.specs.Labels.{Labels}
 use Rattle.paths.specs.Listing.{Enlisted}
+use Rattle.paths.specs.Order.{orderFrom, Ordered}
 use Rattle.paths.specs.Searching.{Searching, Any}
-use Rattle.paths.proofs.Filled.{filled-at, filled-room}
+use Rattle.paths.proofs.Filled.{filled-at, filled-room, filled-behind}
 use Rattle.network.proofs.Leads.{leads-from, leads-into}
+use Rattle.paths.proofs.Orders.{ordered-same, ordered-set}
 use Rattle.paths.proofs.Relaxing.{set-entry}
 
-module _ (net : Network) (l rest : List ℕ) (t : ℕ) (b : t ≤ net .nodes) where
-  -- far at every node, whatever comes after
+module _ (net : Network) (l old : List ℕ) (t : ℕ) (b : t ≤ net .nodes) where
+  -- what comes after the nodes, and far at every node
+  abbrev rest : List ℕ
+  rest = drop (net .nodes + 1) old
+
   abbrev fars : List ℕ
   fars = replicate (net .nodes + 1) far ++ rest
 
@@ -40,14 +46,20 @@ module _ (net : Network) (l rest : List ℕ) (t : ℕ) (b : t ≤ net .nodes) wh
         way = λ v node apart near. absurd (omega (arith, near, start-far v (node .1) apart));
       }
 
+  -- The order is behind them.
+  ordered-start : net .nodes ≤ mostNodes → Ordered net old → Ordered net (set fars t 0)
+  ordered-start few O =
+      ordered-set {old = fars} (ordered-same O (λ p. filled-behind (net .nodes) far old (orderFrom + p) (omega arith))) few t 0 b
+
   -- With the sink on the list the search can go on.
   pub searching-start :
-      {old front listed : List ℕ} {size r : ℕ} → Fit net l (length (set fars t 0)) → Enlisted (net .nodes) old size t front listed r →
-      Searching net l t Any (set fars t 0) front listed r
-  searching-start {listed = listed} f E =
+      {flags listed : List ℕ} {size r : ℕ} → net .nodes ≤ mostNodes → Ordered net old → Fit net l (length (set fars t 0)) →
+      Enlisted (net .nodes) flags size t listed r → Searching net l t Any (set fars t 0) listed r
+  searching-start {listed = listed} few O f E =
       record {
         fit = f;
         labels = labels-start;
+        ordered = ordered-start few O;
         listing = E .listing;
         feasible = λ u e w h any off.
             let ne : w ≡ t → ⊥ = λ q. omega (arith, E .has, ap (λ k. getD listed k 0) q) in

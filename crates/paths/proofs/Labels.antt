@@ -22,8 +22,7 @@ module _ {net : Network} {l d : List ℕ} {t far : ℕ} where
       Labels net l d t far → ((u e w : ℕ) → leads net u e ≡ some w → getD d u 0 ≤ over net l d e w) → Distances net l d t far
   labels-rest L rest =
       record {
-        sink = L .sink;
-        feasible = rest;
+        feasible = record { sink = L .sink; arcs = rest };
         tight = λ v node apart near.
             let (e, o) = L .way v node apart near in
             (e, record { to = o .to; leads-to = o .leads-to; long = le-antisymm (o .long) (rest v e (o .to) (o .leads-to)) });

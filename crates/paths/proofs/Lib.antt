@@ -1,6 +1,7 @@
 pub mod Collecting
 pub mod Descent
 pub mod Enlisting
+pub mod Exchanging
 pub mod Fars
 pub mod Filled
 pub mod Flags
@@ -9,6 +10,8 @@ pub mod Listings
 pub mod Lower
 pub mod Lowest
 pub mod NodeLengths
+pub mod Orders
+pub mod Pages
 pub mod Passing
 pub mod Relaxing
 pub mod Rooms

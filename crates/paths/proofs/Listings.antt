@@ -1,55 +1,48 @@
--- The list of a search: how it begins, that it has room, and what is on it when it is empty.
+-- The list of a search: how it begins, that it has no more than the nodes, and what is on it when it is empty and when it is not.
 -- Assumes nothing.
-use mathlib.Core.Path.{_≡_, sym}
+use mathlib.Core.Path.{_≡_, sym, _∙_}
 use mathlib.Core.Logic.{⊎-elim}
 use mathlib.Core.List.{List}
 use Prim.Native.Nat.{ℕ, zero, suc, _≤_, _<_}
 use native.Mathlib.Nat.{eq-or-lt-of-le}
 use native.Mathlib.Omega.{arith}
-use lib.ListN.{length, getD, replicate, length-replicate, getD-replicate}
-use Rattle.arith.proofs.Sums.{sum-const, sum-le, sum-lt}
-use Rattle.paths.specs.Frontier.{Frontier}
+use lib.ListN.{getD, replicate, length-replicate, getD-replicate}
+use Rattle.arith.specs.Sum.{sum}
+use Rattle.arith.proofs.Order.{le-or-lt}
+use Rattle.arith.proofs.Sums.{sum-cong, sum-zero, sum-const, sum-le, sum-lt}
 use Rattle.paths.specs.Listing.{Listing}
 
--- Nothing is on the list at first.
-pub listing-empty :
-    {n : ℕ} {front listed : List ℕ} → Frontier n (length front) (length listed) → ((v : ℕ) → v ≤ n → getD listed v 0 ≡ 0) → Listing n front listed 0
-listing-empty room none =
-    record {
-      room = room;
-      nodes = λ i b. absurd (omega arith);
-      flags = λ v b. omega (arith, none v b);
-      found = λ v b h. absurd (omega (arith, none v b));
-      few = omega arith;
-    }
-
 -- Zeros are an empty list.
-pub listing-zeros : (n places size : ℕ) → n ≤ places → n < size → Listing n (replicate places 0) (replicate size 0) 0
-listing-zeros n places size a b =
-    listing-empty
-    (record { front = omega (arith, length-replicate {A = ℕ} places 0); listed = omega (arith, length-replicate {A = ℕ} size 0) })
-    (λ v c. getD-replicate size v 0 0 (omega arith))
+pub listing-zeros : (n size : ℕ) → n < size → Listing n (replicate size 0) 0
+listing-zeros n size b =
+    record {
+      room = omega (arith, length-replicate {A = ℕ} size 0);
+      flags = λ v c. omega (arith, zeros v c);
+      count = sym (sum-cong n (λ i. getD (replicate size 0) (suc i) 0) (λ i. 0) (λ i c. zeros (suc i) c) ∙ sum-zero n);
+    }
+  where
+    zeros : (v : ℕ) → v ≤ n → getD (replicate {A = ℕ} size 0) v 0 ≡ 0
+    zeros v c = getD-replicate size v 0 0 (omega arith)
 
-module _ {n : ℕ} {front listed : List ℕ} {size : ℕ} (L : Listing n front listed size) where
-  -- There are no more entries than nodes,
+-- A sum that is not 0 has a summand that is not.
+some-summand : (n : ℕ) (f : ℕ → ℕ) → 1 ≤ sum n f → (i : ℕ) × (i < n) × (1 ≤ f i)
+unfolding sum
+some-summand zero f h = absurd (omega arith)
+some-summand (suc n) f h =
+    ⊎-elim
+    (λ (b : 1 ≤ f n). (n, omega arith, b))
+    (λ (b : f n < 1). let (i, c, g) = some-summand n f (omega arith) in (i, omega arith, g))
+    (le-or-lt 1 (f n))
+
+module _ {n : ℕ} {listed : List ℕ} {size : ℕ} (L : Listing n listed size) where
+  -- There are no more on it than nodes.
   pub listing-within : size ≤ n
   listing-within =
       omega (
         arith,
-        L .few,
+        L .count,
         sum-const n 1,
         sum-le n (λ i. getD listed (suc i) 0) (λ i. 1) (λ i b. L .flags (suc i) b),
-      )
-
-  -- and fewer while a node is not on the list.
-  pub listing-place : (v : ℕ) → (1 ≤ v) × (v ≤ n) → getD listed v 0 ≡ 0 → size < n
-  listing-place zero node h = absurd (omega arith)
-  listing-place (suc k) node h =
-      omega (
-        arith,
-        L .few,
-        sum-const n 1,
-        sum-lt n (λ i. getD listed (suc i) 0) (λ i. 1) k (node .1) (λ i c. L .flags (suc i) c) (omega arith),
       )
 
   -- A flag is 0 or 1.
@@ -60,10 +53,22 @@ module _ {n : ℕ} {front listed : List ℕ} {size : ℕ} (L : Listing n front l
       (λ (c : 0 < getD listed v 0). omega (arith, L .flags v b))
       (eq-or-lt-of-le (omega arith))
 
-  -- On an empty list there is no node.
-  pub listing-none : size ≤ 0 → (v : ℕ) → v ≤ n → getD listed v 0 ≡ 0
-  listing-none q v b =
+  -- On an empty list there is no node,
+  pub listing-none : size ≤ 0 → (v : ℕ) → (1 ≤ v) × (v ≤ n) → getD listed v 0 ≡ 0
+  listing-none q zero node = absurd (omega arith)
+  listing-none q (suc k) node =
       ⊎-elim
-      (λ (h : 0 ≡ getD listed v 0). sym h)
-      (λ (h : 0 < getD listed v 0). let w = L .found v b h in absurd (omega (arith, w .1)))
+      (λ (h : 0 ≡ getD listed (suc k) 0). sym h)
+      (λ (h : 0 < getD listed (suc k) 0). absurd (omega (
+        arith,
+        L .count,
+        sum-zero n,
+        sum-lt n (λ i. 0) (λ i. getD listed (suc i) 0) k (node .1) (λ i c. omega arith) h,
+      )))
       (eq-or-lt-of-le (omega arith))
+
+  -- and on any other there is one.
+  pub listing-some : 0 < size → (v : ℕ) × ((1 ≤ v) × (v ≤ n)) × (1 ≤ getD listed v 0)
+  listing-some h =
+      let (i, b, g) = some-summand n (λ i. getD listed (suc i) 0) (omega (arith, L .count)) in
+      (suc i, (omega arith, b), g)

@@ -1,4 +1,4 @@
--- The search for a tight arc from v, along the places of v: none that is passed is tight, and one is.
+-- The search for a tight arc from v, along the places of v: none that is passed is tight.
 -- Assumes nothing.
 use mathlib.Core.Path.{_≡_, refl, sym, ap, _∙_}
 use mathlib.Core.Logic.{⊎-elim}
@@ -8,7 +8,7 @@ use Prim.Native.Nat.{ℕ, _+_, _≤_, _<_}
 use native.Mathlib.Nat.{eq-or-lt-of-le, le-refl}
 use native.Mathlib.Omega.{arith}
 use lib.ListN.{length, getD}
-use Rattle.arith.proofs.Order.{Compared, below, equal, above, compare, le-or-lt}
+use Rattle.arith.proofs.Order.{Compared, below, equal, above, compare}
 use Rattle.network.specs.Network.{Network}
 use Rattle.network.specs.Path.{leads}
 use Rattle.network.specs.Resources.{nodeLength}
@@ -52,23 +52,18 @@ module _ {net : Network} {out l d : List ℕ} {v : ℕ} (L : Leaving net out l d
       let own = through-is net l out (L .index .places) (L .fit .lengths) (way .to) (leads-into net v e (way .to) (way .leads-to) (L .fit .ends) .1) in
       (r .0, r .1, rw (r .1 .arc, r .1 .end, own) (way .long))
 
-  module _ {p : ℕ} (P : Passing out l d v p) where
-    -- Such an arc is still to come,
-    pub passing-below : p < begins out (v + 1)
-    passing-below =
-        let r = standing (L .some .1) in
-        ⊎-elim
-        (λ (b : p ≤ r .0). omega (arith, r .1 .below))
-        (λ (b : r .0 < p). absurd (P .none (r .0) (r .1 .from) b (r .2)))
-        (le-or-lt p (r .0))
+  -- With all places passed there is none.
+  pub passing-none : {p : ℕ} → Passing out l d v p → begins out (v + 1) ≤ p → (e : ℕ) → Way net l d v (getD d v 0) e → ⊥
+  passing-none P b e way = let r = standing way in P .none (r .0) (r .1 .from) (omega (arith, r .1 .below)) (r .2)
 
+  module _ {p : ℕ} (P : Passing out l d v p) (more : p < begins out (v + 1)) where
     led : leads net v (arcAt out p) ≡ some (endAt out p)
     led =
         L .index .arcs .sound v p (arcAt out p) (endAt out p) (L .node)
-        (record { from = P .from; below = passing-below; arc = refl; end = refl })
+        (record { from = P .from; below = more; arc = refl; end = refl })
 
     place : endsFrom + p < length out
-    place = omega (arith, passing-below, L .index .arcs .within v (L .node), L .index .arcs .numbers)
+    place = omega (arith, L .index .arcs .within v (L .node), L .index .arcs .numbers)
 
     end : endAt out p ≤ net .nodes
     end = leads-into net v (arcAt out p) (endAt out p) led (L .fit .ends) .1
@@ -84,7 +79,7 @@ module _ {net : Network} {out l d : List ℕ} {v : ℕ} (L : Leaving net out l d
           crossing = rw own (relaxing v (arcAt out p) (endAt out p) (L .fit) (L .capped) led .crossing);
         }
 
-    -- and the first is the lowest.
+    -- The first is the lowest.
     pub passing-found : AsFar out l d v p → Tight net out l d v p
     passing-found s =
         record { place = place; leads-to = led; long = rw own at s; none-lower = λ j b way. by-place j b way (compare (standing way .0) p) }
@@ -97,7 +92,7 @@ module _ {net : Network} {out l d : List ℕ} {v : ℕ} (L : Leaving net out l d
             omega (
               arith,
               L .index .arcs .ascending v p (r .0) (arcAt out p) j (endAt out p) (way .to) (L .node)
-                  (record { from = P .from; below = passing-below; arc = refl; end = refl })
+                  (record { from = P .from; below = more; arc = refl; end = refl })
                   (r .1)
                   c,
             )

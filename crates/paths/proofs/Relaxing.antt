@@ -12,7 +12,7 @@ use borrow.Author.Tests.{ltb-true, ltb-false, lt-ltb, le-ltb}
 use Rattle.arith.proofs.Sums.{sum-lt}
 use Rattle.network.specs.Network.{Network}
 use Rattle.paths.specs.Distances.{via}
-use Rattle.paths.specs.Relax.{shortens, relaxed, Relaxed}
+use Rattle.paths.specs.Relax.{shortens, relaxed, Relaxed, Taken}
 use Rattle.paths.specs.Searching.{total}
 
 -- After a store of x at v an entry is as before, or it is that at v and is x.
@@ -23,15 +23,18 @@ set-entry (a ∷ d) zero x (suc u) = inl refl
 set-entry (a ∷ d) (suc v) x zero = inl refl
 set-entry (a ∷ d) (suc v) x (suc u) = ⊎-elim inl (λ (h : (u ≡ v) × (getD (set d v x) u 0 ≡ x)). inr (ap suc (h .0), h .1)) (set-entry d v x u)
 
--- The way y over the arc is compared with the distance of where it starts, and stored there if it is nearer.
-module _ {l d : List ℕ} {x u e w y : ℕ} (way : y ≡ via l d x e w) where
-  pub relaxes : y < getD d u 0 → Relaxed l x u e w d true (set d u y)
-  unfolding shortens relaxed
-  relaxes b = rw way (let t = lt-ltb (via l d x e w) (getD d u 0) (rw way at b) in record { told = sym t; entries = rw t refl })
+-- The way y is compared with the distance of where it starts, and stored there if it is nearer.
+module _ {d : List ℕ} {u y : ℕ} where
+  pub takes : y < getD d u 0 → Taken y u d true (set d u y)
+  takes b = let t = lt-ltb y (getD d u 0) b in record { told = sym t; entries = rw t refl }
 
-  pub relaxes-not : getD d u 0 ≤ y → Relaxed l x u e w d false d
+  pub takes-not : getD d u 0 ≤ y → Taken y u d false d
+  takes-not b = let t = le-ltb y (getD d u 0) b in record { told = sym t; entries = rw t refl }
+
+  -- If it is that over an arc, the arc is relaxed so.
+  pub taken-relaxed : {l new : List ℕ} {x e w : ℕ} {r : Bool} → y ≡ via l d x e w → Taken y u d r new → Relaxed l x u e w d r new
   unfolding shortens relaxed
-  relaxes-not b = let t = le-ltb (via l d x e w) (getD d u 0) (rw way at b) in record { told = sym t; entries = rw t refl }
+  taken-relaxed way T = record { told = rw (← way) (T .told); entries = rw (← way) (T .entries) }
 
 module _ (l d : List ℕ) (x u e w : ℕ) where
   -- What holds of the distances as they were, where the arc does not shorten, and of those with the nearer way, where it does.
@@ -63,6 +66,14 @@ module _ (l d : List ℕ) (x u e w : ℕ) where
           (λ (q : (v ≡ u) × (getD (set d u (via l d x e w)) v 0 ≡ via l d x e w)).
           inr (record { at = q .0; shorter = rw (q .0) h; now = q .1 }))
           (set-entry d u (via l d x e w) v)
+
+  -- The end of the arc keeps its entry: the way over the arc is farther than that.
+  pub relaxed-end : getD (relaxed l d x u e w) w 0 ≡ getD d w 0
+  relaxed-end =
+      ⊎-elim
+      (λ (h : getD (relaxed l d x u e w) w 0 ≡ getD d w 0). h)
+      (λ (h : Shortened (relaxed l d x u e w) w). absurd (omega (arith, h .shorter)))
+      (relaxed-entry w)
 
   pub relaxed-le : (v : ℕ) → getD (relaxed l d x u e w) v 0 ≤ getD d v 0
   relaxed-le v =

@@ -16,22 +16,23 @@ use Rattle.network.proofs.Leads.{leads-into}
 use Rattle.paths.proofs.Listings.{listing-none}
 use Rattle.paths.proofs.Telling.{distance-tells}
 
-module _ {net : Network} {l : List ℕ} {t : ℕ} {d front listed : List ℕ} {size : ℕ} where
+module _ {net : Network} {l : List ℕ} {t : ℕ} {d listed : List ℕ} {size : ℕ} where
   -- With no node on the list the labels are the distances.
-  pub searching-end : net .nodes ≤ mostNodes → Searching net l t Any d front listed size → size ≤ 0 → Table net l d t far
+  pub searching-end : net .nodes ≤ mostNodes → Searching net l t Any d listed size → size ≤ 0 → Table net l d t far
   searching-end few S none =
       let D =
-      labels-rest (S .labels) (λ u e w h. S .feasible u e w h tt (listing-none (S .listing) none w (leads-into net u e w h (S .fit .ends) .1))) in
+      labels-rest (S .labels) (λ u e w h. S .feasible u e w h tt (listing-none (S .listing) none w (leads-into net u e w h (S .fit .ends)))) in
       record { distances = D; capped = S .labels .capped; tells = distance-tells (S .fit .ends) few D }
 
   -- A node is taken out: the arcs into it are to be relaxed.
   pub searching-out :
-      {v : ℕ} {front′ listed′ : List ℕ} (into : List ℕ) → Searching net l t Any d front listed size → TakenOut (net .nodes) listed size v front′ listed′ →
-      Searching net l t (Passed into v (begins into v)) d front′ listed′ (size - 1)
+      {v : ℕ} {listed′ : List ℕ} (into : List ℕ) → Searching net l t Any d listed size → TakenOut (net .nodes) listed size v listed′ →
+      Searching net l t (Passed into v (begins into v)) d listed′ (size - 1)
   searching-out {v} into S T =
       record {
         fit = S .fit;
         labels = S .labels;
+        ordered = S .ordered;
         listing = T .listing;
         feasible = λ u e w h passed off.
             let ne : w ≡ v → ⊥ = λ q. let r = passed q in omega (arith, r .1, r .2 .from) in
@@ -40,12 +41,13 @@ module _ {net : Network} {l : List ℕ} {t : ℕ} {d front listed : List ℕ} {s
 
   -- With all places of v passed, none is left out.
   pub searching-all :
-      {into : List ℕ} {v p : ℕ} → Searching net l t (Passed into v p) d front listed size → Into net into → v ≤ net .nodes → begins into (v + 1) ≤ p →
-      Searching net l t Any d front listed size
+      {into : List ℕ} {v p : ℕ} → Searching net l t (Passed into v p) d listed size → Into net into → v ≤ net .nodes → begins into (v + 1) ≤ p →
+      Searching net l t Any d listed size
   searching-all {into} {v} {p} S I b past =
       record {
         fit = S .fit;
         labels = S .labels;
+        ordered = S .ordered;
         listing = S .listing;
         feasible = λ u e w h any. S .feasible u e w h (λ q. let r = I .arcs .whole v e u b (rw q at h) in (r .0, omega (arith, r .1 .below), r .1));
       }

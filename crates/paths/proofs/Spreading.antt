@@ -11,20 +11,23 @@ use native.Mathlib.Omega.{arith}
 use lib.Dec.{eqb}
 use lib.ListN.{length, getD}
 use borrow.Author.Tests.{eqb-true, eqb-false}
+use Rattle.bounds.specs.Bounds.{mostNodes}
 use Rattle.network.specs.Network.{Network}
 use Rattle.network.specs.Path.{leads}
 use Rattle.network.specs.Resources.{nodeLength}
-use Rattle.paths.specs.Distances.{over}
+use Rattle.paths.specs.Distances.{via, over}
 use Rattle.index.specs.Index.{arcAt, endAt}
 use Rattle.paths.specs.Listing.{Enlisted}
+use Rattle.paths.specs.Order.{Ordered}
 use Rattle.paths.specs.Relax.{shortens, relaxed}
 use Rattle.paths.specs.Searching.{Searching, Passed, Spread}
 use Rattle.paths.proofs.Labels.{labels-relaxed}
 use Rattle.network.proofs.Leads.{leads-from}
-use Rattle.paths.proofs.Relaxing.{Shortened, relaxed-size, relaxed-entry, relaxed-le, relaxed-same, relaxed-over, relaxed-falls}
+use Rattle.paths.proofs.Orders.{ordered-set}
+use Rattle.paths.proofs.Relaxing.{Shortened, relaxed-cases, relaxed-size, relaxed-entry, relaxed-le, relaxed-same, relaxed-over, relaxed-falls}
 
-module _ {net : Network} {into l : List ℕ} {t v a p u e : ℕ} {d front listed : List ℕ} {size : ℕ}
-    (S : Searching net l t (Passed into v p) d front listed size) (own : a ≡ nodeLength net l v) (arc : arcAt into p ≡ e) (end : endAt into p ≡ u) (h : leads net u e ≡ some v) where
+module _ {net : Network} {into l : List ℕ} {t v a p u e : ℕ} {d listed : List ℕ} {size : ℕ}
+    (S : Searching net l t (Passed into v p) d listed size) (own : a ≡ nodeLength net l v) (arc : arcAt into p ≡ e) (end : endAt into p ≡ u) (h : leads net u e ≡ some v) where
   start : u < length d
   start = omega (arith, leads-from net u e v h (S .fit .ends), S .fit .room)
 
@@ -65,7 +68,7 @@ module _ {net : Network} {into l : List ℕ} {t v a p u e : ℕ} {d front listed
 
   -- It does not shorten: all is as before.
   pub searching-still :
-      {x : List ℕ} → shortens l d a u e v ≡ false → x ≡ relaxed l d a u e v → Spread net l t (Passed into v (p + 1)) d size x front listed size
+      {x : List ℕ} → shortens l d a u e v ≡ false → x ≡ relaxed l d a u e v → Spread net l t (Passed into v (p + 1)) d size x listed size
   searching-still same q =
       rw (q ∙ relaxed-same l d a u e v same)
       (record {
@@ -73,6 +76,7 @@ module _ {net : Network} {into l : List ℕ} {t v a p u e : ℕ} {d front listed
             record {
               fit = S .fit;
               labels = S .labels;
+              ordered = S .ordered;
               listing = S .listing;
               feasible =
                   rw (relaxed-same l d a u e v same) at
@@ -83,15 +87,18 @@ module _ {net : Network} {into l : List ℕ} {t v a p u e : ℕ} {d front listed
 
   -- It does: its start is on the list.
   pub searching-spread :
-      {x front′ listed′ : List ℕ} {r : ℕ} → shortens l d a u e v ≡ true → x ≡ relaxed l d a u e v → Enlisted (net .nodes) listed size u front′ listed′ r →
-      Spread net l t (Passed into v (p + 1)) d size x front′ listed′ r
-  searching-spread {listed′ = listed′} shorter q E =
+      {x listed′ : List ℕ} {r : ℕ} → net .nodes ≤ mostNodes → shortens l d a u e v ≡ true → x ≡ relaxed l d a u e v → Enlisted (net .nodes) listed size u listed′ r →
+      Spread net l t (Passed into v (p + 1)) d size x listed′ r
+  searching-spread {listed′ = listed′} few shorter q E =
       rw q
       (record {
         searching =
             record {
               fit = rw (relaxed-size l d a u e v) (S .fit);
               labels = labels-relaxed net l d a u e v own h (S .labels);
+              ordered =
+                  relaxed-cases l d a u e v (Ordered net) (λ _. S .ordered)
+                  (λ _. ordered-set (S .ordered) few u (via l d a e v) (leads-from net u e v h (S .fit .ends) .1));
               listing = E .listing;
               feasible = feasible-relaxed listed′ (E .still) as-before;
             };

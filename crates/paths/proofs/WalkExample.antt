@@ -81,7 +81,7 @@ module _ (ss ts : List ℕ) where
   table :
       (d : List ℕ) (t : ℕ) → getD d t 0 ≡ 0 → getD d 1 0 ≤ 129 + getD d 2 0 → getD d 2 0 ≤ 65 + getD d 3 0 → getD d 1 0 ≤ 193 + getD d 3 0 →
       Tight d t 1 → Tight d t 2 → Tight d t 3 → Distances (floor ss ts) lengths d t far
-  table d t z a b c at-1 at-2 at-3 = record { sink = z; feasible = feasible; tight = tight }
+  table d t z a b c at-1 at-2 at-3 = record { feasible = record { sink = z; arcs = feasible }; tight = tight }
     where
       feasible : (u e w : ℕ) → leads (floor ss ts) u e ≡ some w → getD d u 0 ≤ over (floor ss ts) lengths d e w
       feasible u e w h =

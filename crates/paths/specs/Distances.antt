@@ -26,10 +26,15 @@ pub record Way (net : Network) (l d : List ℕ) (v x e : ℕ) : Type 0 where
   pub leads-to : leads net v e ≡ some to
   pub long : over net l d e to ≡ x
 
--- d has the distances to t by the lengths l: no arc could shorten one, and each below the cap is that of the way over some arc.
-pub record Distances (net : Network) (l d : List ℕ) (t far : ℕ) : Type 0 where
+-- d is feasible for t by the lengths l, which may be 0: that of t is 0, and no arc could shorten one. So no path to t has a smaller key than the entry of
+-- its start. Lengths that grow leave it so, and all zeros are.
+pub record Feasible (net : Network) (l d : List ℕ) (t : ℕ) : Type 0 where
   pub sink : getD d t 0 ≡ 0
-  pub feasible : (u e w : ℕ) → leads net u e ≡ some w → getD d u 0 ≤ over net l d e w
+  pub arcs : (u e w : ℕ) → leads net u e ≡ some w → getD d u 0 ≤ over net l d e w
+
+-- d has the distances to t: besides, each below the cap is that of the way over some arc.
+pub record Distances (net : Network) (l d : List ℕ) (t far : ℕ) : Type 0 where
+  pub feasible : Feasible net l d t
   pub tight : (v : ℕ) → Node net v → (v ≡ t → ⊥) → getD d v 0 < far → (e : ℕ) × Way net l d v (getD d v 0) e
 
 -- What the distance x from v to t tells: onward of v no path is shorter than the length in it, and none that is as short has fewer arcs than the number

@@ -1,12 +1,13 @@
 pub mod Calls
 pub mod Distances
 pub mod Far
-pub mod Frontier
 pub mod Graph
 pub mod Key
 pub mod Labels
 pub mod Listing
+pub mod Order
 pub mod Relax
+pub mod Scan
 pub mod Searching
 pub mod Through
 pub mod Tight

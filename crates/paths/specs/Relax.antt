@@ -2,9 +2,10 @@
 use mathlib.Core.Bool.{Bool, cond}
 use mathlib.Core.List.{List}
 use mathlib.Core.Path.{_≡_}
-use Prim.Native.Nat.{ℕ, _^_, _<_}
+use Prim.Native.Nat.{ℕ, _+_, _*_, _^_, _<_}
 use lib.Dec.{ltb}
 use lib.ListN.{length, getD, set}
+use Rattle.bounds.specs.Bounds.{mostNodes}
 use Rattle.paths.specs.Distances.{via}
 
 -- The way over arc e from u to w, where x is the length of w, is nearer than the distance of u.
@@ -25,6 +26,15 @@ pub record Crossing (l d : List ℕ) (x e w : ℕ) : Type 0 where
 pub record Relaxing (l d : List ℕ) (x u e w : ℕ) : Type 0 where
   pub crossing : Crossing l d x e w
   pub start : u < length d
+
+-- How far the way over any arc to node w is, without the arc's own length, where x is the length of w.
+abbrev pub onwardOf : List ℕ → ℕ → ℕ → ℕ
+onwardOf d x w = mostNodes * x + 1 + getD d w 0
+
+-- A way of y is taken at node u: r tells whether it is nearer, and new has the distances then.
+pub record Taken (y u : ℕ) (old : List ℕ) (r : Bool) (new : List ℕ) : Type 0 where
+  pub told : r ≡ ltb y (getD old u 0)
+  pub entries : new ≡ cond (ltb y (getD old u 0)) (set old u y) old
 
 -- The arc is relaxed: r tells whether it led to a nearer way, and new has the distances after it.
 pub record Relaxed (l : List ℕ) (x u e w : ℕ) (old : List ℕ) (r : Bool) (new : List ℕ) : Type 0 where

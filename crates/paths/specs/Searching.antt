@@ -13,12 +13,14 @@ use Rattle.paths.specs.Graph.{Fit}
 use Rattle.index.specs.Index.{Place}
 use Rattle.paths.specs.Labels.{Labels}
 use Rattle.paths.specs.Listing.{Listing}
+use Rattle.paths.specs.Order.{Ordered}
 
--- The entries of d are labels, and none can be shortened by an arc of those that P tells into a node that is not on the list.
-pub record Searching (net : Network) (l : List ℕ) (t : ℕ) (P : ℕ → ℕ → ℕ → Type 0) (d front listed : List ℕ) (size : ℕ) : Type 0 where
+-- The entries of d are labels, and none can be shortened by an arc of those that P tells into a node that is not on the list. Behind them is the order.
+pub record Searching (net : Network) (l : List ℕ) (t : ℕ) (P : ℕ → ℕ → ℕ → Type 0) (d listed : List ℕ) (size : ℕ) : Type 0 where
   pub fit : Fit net l (length d)
   pub labels : Labels net l d t far
-  pub listing : Listing (net .nodes) front listed size
+  pub ordered : Ordered net d
+  pub listing : Listing (net .nodes) listed size
   pub feasible : (u e w : ℕ) → leads net u e ≡ some w → P u e w → getD listed w 0 ≡ 0 → getD d u 0 ≤ over net l d e w
 
 -- All arcs.
@@ -35,6 +37,11 @@ total net d = sum (suc (net .nodes)) (λ v. getD d v 0)
 
 -- The search has gone on, from the entries old and a list of size nodes: for each node that came onto the list an entry fell.
 pub record Spread (net : Network) (l : List ℕ) (t : ℕ) (P : ℕ → ℕ → ℕ → Type 0) (old : List ℕ) (size : ℕ)
-    (d front listed : List ℕ) (r : ℕ) : Type 0 where
-  pub searching : Searching net l t P d front listed r
+    (d listed : List ℕ) (r : ℕ) : Type 0 where
+  pub searching : Searching net l t P d listed r
   pub weight : total net d + r ≤ total net old + size
+
+-- So it has by an arc into v, whose own entry stays.
+pub record Reached (net : Network) (l : List ℕ) (t v : ℕ) (P : ℕ → ℕ → ℕ → Type 0) (old : List ℕ) (size : ℕ) (d listed : List ℕ) (r : ℕ) : Type 0 where
+  pub spread : Spread net l t P old size d listed r
+  pub head : getD d v 0 ≡ getD old v 0

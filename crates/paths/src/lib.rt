@@ -1,4 +1,4 @@
-// Distances to a sink, and the walk along them: definitions and laws, and what both add up. The code is in `search` and `walk`, over the arcs as `index` lays
+// Distances to a sink, and the walk along them: definitions and laws, and what is added up for them. The code is in `search` and `walk`, over the arcs as `index` lays
 // them.
 use bounds::MOST_NODES;
 use index::PLACES;

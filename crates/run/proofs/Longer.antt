@@ -1,26 +1,27 @@
--- Lengths that an iteration has not halved have only grown, so bounds below the distances stay below them. Assumes nothing.
+-- Lengths that an iteration has not halved have only grown, so that what is remembered holds on. Assumes nothing.
 use mathlib.Core.Path.{_≡_, refl, sym, _∙_}
-use mathlib.Core.Bool.{Bool, true, false, cond}
+use mathlib.Core.Bool.{Bool, true, false}
 use mathlib.Core.List.{List, [], _∷_}
 use Prim.Native.Nat.{ℕ, zero, suc, _≤_}
 use native.Mathlib.Nat.{le-refl}
 use native.Mathlib.Omega.{arith}
-use lib.ListN.{length, getD, set, replicate}
+use lib.ListN.{length, getD, set}
 use Rattle.length.proofs.Size.{growth-least}
-use Rattle.bounds.specs.Bounds.{mostCommodities}
+use Rattle.bounds.specs.Bounds.{mostNodes, mostCommodities}
+use Rattle.network.specs.Ends.{Ends}
 use Rattle.network.specs.Network.{Network, commodities}
 use Rattle.network.specs.Resources.{resources, rooms}
-use Rattle.packed.specs.Packed.{put}
 use Rattle.packed.specs.declared.Shape.{Shape}
 use Rattle.method.specs.Choice.{Choice, usedBy}
 use Rattle.method.specs.Iteration.{State, draw, update, grown, settled, advance}
 use Rattle.length.specs.Length.{growth}
 use Rattle.method.proofs.Times.{update-length}
 use Rattle.choice.specs.Memory.{Memory}
-use Rattle.choice.proofs.Bounds.{below-grown}
-use Rattle.choice.proofs.Memories.{memory-zero}
+use Rattle.choice.proofs.Forgets.{forgotten-memory}
+use Rattle.choice.proofs.Memories.{known-grown}
 use Rattle.tables.specs.Tables.{longer}
 use Rattle.step.specs.Progress.{halves}
+use Rattle.run.specs.Noted.{Kept}
 
 -- A store of no less leaves no number less,
 set-least : (xs : List ℕ) (e v j : ℕ) → getD xs e 0 ≤ v → getD xs j 0 ≤ getD (set xs e v) j 0
@@ -50,19 +51,16 @@ module _ (net : Network) (q : ℕ) (c : Choice) (s : State) (same : length (s .l
   unhalved h =
       rw (← (update-length (λ e x. growth q (draw caps path) (getD caps e 0) x) path (s .lengths) ∙ same), h) refl
 
-  -- The memory after the iteration: kept, or with bounds of 0 where it halved.
+  -- The memory after the iteration: kept, or forgotten where it halved.
   pub memory-next :
-      {z : Shape} {l old new : List ℕ} (halved : Bool) → z .commodities ≤ mostCommodities → z .commodities ≡ commodities net →
-      Memory z net (s .lengths) old → halved ≡ halves caps q path (s .lengths) → l ≡ advance net q c s .lengths →
-      new ≡ cond halved (put 0 (z .commodities) old (replicate (z .commodities) 0)) old → Memory z net l new
-  memory-next {z} {l} {old} true few k M h e f = rw f (memory-zero old (replicate (z .commodities) 0) few k (M .places) refl l)
-  memory-next {z} {l} {old} false few k M h e f =
-      rw f
-      (record {
-        places = M .places;
-        below =
-            below-grown
-            (λ j. rw (e ∙ unhalved (sym h))
-            (update-least (λ e x. growth q (draw caps path) (getD caps e 0) x) (λ e x. growth-least q (draw caps path) (getD caps e 0) x) path (s .lengths) j))
-            (M .below);
-      })
+      {z : Shape} {l old new : List ℕ} (halved : Bool) → Ends net → net .nodes ≤ mostNodes → z .commodities ≤ mostCommodities → z .commodities ≡ commodities net →
+      Memory z net (s .lengths) old → length new ≡ length old → halved ≡ halves caps q path (s .lengths) → l ≡ advance net q c s .lengths →
+      Kept halved (net .nodes) old new → Memory z net l new
+  memory-next {z} {l} true ends nodes few k M size h e f =
+      forgotten-memory ends nodes few k (omega (arith, M .least .among)) (omega (arith, M .places)) (λ t node. M .pages t node .ordered) (f .forgotten refl) l
+  memory-next {z} {l} false ends nodes few k M size h e f =
+      rw (f .same refl)
+      (known-grown
+      (λ j. rw (e ∙ unhalved (sym h))
+      (update-least (λ e x. growth q (draw caps path) (getD caps e 0) x) (λ e x. growth-least q (draw caps path) (getD caps e 0) x) path (s .lengths) j))
+      M)

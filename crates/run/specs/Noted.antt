@@ -1,5 +1,6 @@
 -- What the run notes beside the method's state, and what an iteration leaves.
 use mathlib.Core.Path.{_≡_}
+use mathlib.Core.Bool.{Bool, true, false}
 use mathlib.Core.List.{List}
 use Prim.Native.Nat.{ℕ}
 use Rattle.length.specs.Level.{threshold}
@@ -9,6 +10,7 @@ use Rattle.packed.specs.declared.Shape.{Shape}
 use Rattle.method.specs.Iteration.{State, weight, iteration}
 use Rattle.method.specs.Run.{ended}
 use Rattle.method.specs.Underway.{Underway}
+use Rattle.choice.specs.Forgotten.{Forgotten}
 use Rattle.choice.specs.Memory.{Memory}
 use Rattle.step.specs.declared.Progress.{Progress}
 use Rattle.run.specs.Runs.{Chooses}
@@ -23,6 +25,11 @@ pub record Iterated (net : Network) (q : ℕ) (old new : State) (r : Progress) :
   pub state : new ≡ iteration net q old
   pub weight : r .weight ≡ weight net (new .lengths)
   pub ended : r .ended ≡ ended net q (iteration net q old)
+
+-- The memory is as it was, or, where the lengths were halved, forgotten.
+pub record Kept (halved : Bool) (n : ℕ) (old new : List ℕ) : Type 0 where
+  pub same : halved ≡ false → new ≡ old
+  pub forgotten : halved ≡ true → Forgotten n old new
 
 -- What an iteration asks of the run so far.
 pub record Iterating (s : Shape) (net : Network) (q t : ℕ) (memory : List ℕ) (old : State) (p : Progress) : Type 0 where

@@ -1,28 +1,25 @@
 // One iteration on the lent slices.
-use choice::BOUNDS;
 use choice::ROOMS;
+use choice::memory::forget;
 use packed::LENGTHS;
 use packed::Shape;
 use step::Progress;
-use tables::loads;
-ghost use mathlib.Core.Bool.{cond};
-ghost use mathlib.Core.Path.{_≡_};
 ghost use Prim.Native.Nat.{_≤_};
-ghost use lib.ListN.{length, replicate};
-ghost use Rattle.bounds.specs.Bounds.{mostCommodities};
-ghost use Rattle.packed.specs.Packed.{put, netIn};
+ghost use lib.ListN.{length};
+ghost use Rattle.bounds.specs.Bounds.{mostNodes};
+ghost use Rattle.packed.specs.Packed.{netIn};
 ghost use Rattle.choice.specs.Memory.{memoryNumbers};
 ghost use Rattle.step.specs.Progress.{stateIn};
-ghost use Rattle.run.specs.Noted.{Iterating, Onward};
+ghost use Rattle.run.specs.Noted.{Iterating, Kept, Onward};
 ghost use Rattle.run.specs.Runs.{Space};
 
-// The bounds of the commodities, 0 again where the lengths were halved: only then can a path be shorter than it was.
-fn forget(halved: bool, k: usize, memory: &mut [u64])
-    requires { ⌜ (k ≤ mostCommodities) × (memoryNumbers ≤ length (now memory)) ⌝ }
-    ensures { λ _. ⌜ now (memory .exit) ≡ cond halved (put 0 k (now (memory .entry)) (replicate k 0)) (now (memory .entry)) ⌝ }
+// What is remembered is forgotten where the lengths were halved: only then can a path be shorter than it was.
+fn keep(halved: bool, n: u64, memory: &mut [u64])
+    requires { ⌜ (n ≤ mostNodes) × (memoryNumbers ≤ length (now memory)) ⌝ }
+    ensures { λ _. ⌜ Kept halved n (now (memory .entry)) (now (memory .exit)) ⌝ }
 {
     if halved {
-        loads::clear(&mut memory[BOUNDS..BOUNDS + k]);
+        forget(n, memory);
     }
 }
 
@@ -58,6 +55,6 @@ pub fn iterate(
         tables,
         p,
     );
-    forget(r.halved, s.commodities, memory);
+    keep(r.halved, s.nodes, memory);
     r
 }

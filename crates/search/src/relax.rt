@@ -1,23 +1,23 @@
 // Relaxation: of one arc, and of all arcs into a node.
 // The network and the sink are taken for the contracts, which speak of them and of the search; the arcs are read from the index of those into each node.
-use crate::frontier::enlist;
+use crate::list::enlist;
+use bounds::MOST_NODES;
 use index::ARCS;
 use index::ENDS;
 use packed::Shape;
-use paths::over;
 use paths::through;
-ghost use Prim.Native.Nat.{_+_};
+ghost use Prim.Native.Nat.{_+_, _<_};
+ghost use lib.ListN.{length};
 ghost use Rattle.packed.specs.Packed.{netIn};
 ghost use Rattle.paths.specs.Calls.{Reaching, Entering};
-ghost use Rattle.paths.specs.Relax.{Relaxing, Relaxed};
-ghost use Rattle.paths.specs.Searching.{Any, Passed, Spread};
+ghost use Rattle.paths.specs.Relax.{Taken};
+ghost use Rattle.paths.specs.Searching.{Any, Passed, Spread, Reached};
 
-// The way over arc e from u to w, which has the length x, is taken where it is nearer; whether it is.
-fn relax(lengths: &[u64], x: u64, u: usize, e: usize, w: usize, dist: &mut [u64]) -> bool
-    requires { ⌜ Relaxing (now lengths) (now dist) x u e w ⌝ }
-    ensures { λ r. ⌜ Relaxed (now (lengths .entry)) x u e w (now (dist .entry)) r (now (dist .exit)) ⌝ }
+// A way from u that is so far is taken where it is nearer; whether it is.
+fn relax(way: u64, u: usize, dist: &mut [u64]) -> bool
+    requires { ⌜ u < length (now dist) ⌝ }
+    ensures { λ r. ⌜ Taken way u (now (dist .entry)) r (now (dist .exit)) ⌝ }
 {
-    let way = over(lengths, dist, x, e, w);
     if way < dist[u] {
         dist[u] = way;
         return true;
@@ -25,8 +25,8 @@ fn relax(lengths: &[u64], x: u64, u: usize, e: usize, w: usize, dist: &mut [u64]
     false
 }
 
-// The arc at place p, one of those into v, which has the length x, is relaxed, and the node that it comes from goes onto the list if that brings it nearer. How many are on the
-// list now.
+// The arc at place p, one of those into v, is relaxed, and the node that it comes from goes onto the list if that brings it nearer. How many are on the list now.
+// onward is what the way has beside the arc's own length: it is the same for all arcs into v.
 fn reach(
     s: Shape,
     net: &[u64],
@@ -34,20 +34,19 @@ fn reach(
     lengths: &[u64],
     sink: u64,
     v: u64,
-    x: u64,
+    onward: u64,
     p: usize,
     dist: &mut [u64],
-    front: &mut [u64],
     listed: &mut [u64],
     size: usize,
 ) -> usize
-    requires { ⌜ Reaching (netIn s (now net)) (now into) (now lengths) sink v x p (now dist) (now front) (now listed) size ⌝ }
-    ensures { λ r. ⌜ Spread (netIn s (now (net .entry))) (now (lengths .entry)) sink (Passed (now (into .entry)) v (p + 1)) (now (dist .entry)) size (now (dist .exit)) (now (front .exit)) (now (listed .exit)) r ⌝ }
+    requires { ⌜ Reaching (netIn s (now net)) (now into) (now lengths) sink v onward p (now dist) (now listed) size ⌝ }
+    ensures { λ r. ⌜ Reached (netIn s (now (net .entry))) (now (lengths .entry)) sink v (Passed (now (into .entry)) v (p + 1)) (now (dist .entry)) size (now (dist .exit)) (now (listed .exit)) r ⌝ }
 {
     let e = into[ARCS + p] as usize;
     let u = into[ENDS + p];
-    if relax(lengths, x, u as usize, e, v as usize, dist) {
-        return enlist(s.nodes, u, front, listed, size);
+    if relax(MOST_NODES * lengths[e] + onward, u as usize, dist) {
+        return enlist(s.nodes, u, listed, size);
     }
     size
 }
@@ -61,14 +60,14 @@ pub fn relax_into(
     sink: u64,
     v: u64,
     dist: &mut [u64],
-    front: &mut [u64],
     listed: &mut [u64],
     size: usize,
 ) -> usize
-    requires { ⌜ Entering (netIn s (now net)) (now into) (now lengths) sink v (now dist) (now front) (now listed) size ⌝ }
-    ensures { λ r. ⌜ Spread (netIn s (now (net .entry))) (now (lengths .entry)) sink Any (now (dist .entry)) size (now (dist .exit)) (now (front .exit)) (now (listed .exit)) r ⌝ }
+    requires { ⌜ Entering (netIn s (now net)) (now into) (now lengths) sink v (now dist) (now listed) size ⌝ }
+    ensures { λ r. ⌜ Spread (netIn s (now (net .entry))) (now (lengths .entry)) sink Any (now (dist .entry)) size (now (dist .exit)) (now (listed .exit)) r ⌝ }
 {
     let x = through(into, lengths, v as usize);
+    let onward = MOST_NODES * x + 1 + dist[v as usize];
     let mut count = size;
     let mut p = into[v as usize] as usize;
     let end = into[v as usize + 1] as usize;
@@ -80,10 +79,9 @@ pub fn relax_into(
             lengths,
             sink,
             v,
-            x,
+            onward,
             p,
             dist,
-            front,
             listed,
             count,
         );

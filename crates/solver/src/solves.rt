@@ -1,9 +1,9 @@
 // What is made of the network once, the tables cleared, and the outcome.
 use crate::outcomes::outcome;
-use choice::BOUNDS;
 use choice::INTO;
 use choice::OUT;
 use choice::ROOMS;
+use choice::memory;
 use index::INDEX_NUMBERS;
 use method::Answer;
 use packed::KEPT;
@@ -42,12 +42,12 @@ fn prepare(
     ensures { λ r. ⌜ Cleared s (netIn s (now (net .entry))) (now (flow .exit)) (now (tables .exit)) (now (memory .exit)) r ⌝ }
 {
     let m = s.resources;
-    let k = s.commodities;
     let weight = lengths::start(rooms, &mut tables[LENGTHS..LENGTHS + m]);
     loads::clear(&mut tables[LOADS..LOADS + m]);
     loads::clear(&mut tables[KEPT..KEPT + m]);
     loads::clear_flow(flow);
-    loads::clear(&mut memory[BOUNDS..BOUNDS + k]);
+    memory::begin(s.nodes, memory);
+    memory::forget(s.nodes, memory);
     weight
 }
 

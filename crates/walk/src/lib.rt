@@ -1,4 +1,5 @@
-// The greedy walk: from a node over the lowest-numbered arc that keeps to a nearest path, until the sink.
+// The greedy walk by a feasible table: from a node over the lowest-numbered tight arc, until the sink. Where it arrives, its path is the nearest and the
+// first; where the table is out of date it is stuck.
 // The network is taken for the contracts, which speak of it; the arcs are read from the index of those out of each node.
 use index::ARCS;
 use index::ENDS;
@@ -13,7 +14,7 @@ ghost use lib.ListN.{length};
 ghost use Rattle.network.specs.Path.{beyond};
 ghost use Rattle.packed.specs.Packed.{netIn};
 ghost use Rattle.paths.specs.Calls.{Leaving};
-ghost use Rattle.paths.specs.Tight.{overAt, Offered, Tight};
+ghost use Rattle.paths.specs.Tight.{overAt, Offered, Sought};
 ghost use Rattle.paths.specs.Visits.{Entering, Entered, Crossed, Visiting, Visits};
 ghost use Rattle.paths.specs.Walked.{Walkable, Walked};
 
@@ -27,20 +28,24 @@ fn over_at(out: &[u64], lengths: &[u64], dist: &[u64], p: usize) -> u64
     over(lengths, dist, x, out[ARCS + p] as usize, w)
 }
 
-// The place of the lowest-numbered arc from v that lies on a nearest path. There is one.
+// The place of the lowest-numbered tight arc from v, or the end of those of v where there is none.
 fn tight(s: Shape, net: &[u64], out: &[u64], lengths: &[u64], dist: &[u64], v: u64) -> usize
     requires { ⌜ Leaving (netIn s (now net)) (now out) (now lengths) (now dist) v ⌝ }
-    ensures { λ r. ⌜ Tight (netIn s (now (net .entry))) (now (out .entry)) (now (lengths .entry)) (now (dist .entry)) v r ⌝ }
+    ensures { λ r. ⌜ Sought (netIn s (now (net .entry))) (now (out .entry)) (now (lengths .entry)) (now (dist .entry)) v r ⌝ }
 {
     let d = dist[v as usize];
     let mut p = out[v as usize] as usize;
-    while over_at(out, lengths, dist, p) != d {
+    let end = out[v as usize + 1] as usize;
+    while p < end {
+        if over_at(out, lengths, dist, p) == d {
+            return p;
+        }
         p += 1;
     }
     p
 }
 
-// The first of the nearest paths from the source to the sink is written into path. How many arcs it has the source's distance tells.
+// The walk from the source to the sink is written into path. How many arcs it has, 0 where it is stuck.
 pub fn walk(
     s: Shape,
     net: &[u64],
@@ -50,18 +55,22 @@ pub fn walk(
     source: u64,
     sink: u64,
     path: &mut [u64],
-)
+) -> usize
     requires { ⌜ Walkable (netIn s (now net)) (now out) (now lengths) (now dist) source sink (length (now path)) ⌝ }
-    ensures { λ _. ⌜ Walked (netIn s (now (net .entry))) (now (lengths .entry)) (now (dist .entry)) source sink (now (path .exit)) ⌝ }
+    ensures { λ r. ⌜ Walked (netIn s (now (net .entry))) (now (lengths .entry)) (now (dist .entry)) source sink (now (path .exit)) r ⌝ }
 {
     let mut v = source;
     let mut k = 0;
     while v != sink {
         let p = tight(s, net, out, lengths, dist, v);
+        if p >= out[v as usize + 1] as usize {
+            return 0;
+        }
         path[k] = out[ARCS + p];
         k += 1;
         v = out[ENDS + p];
     }
+    k
 }
 
 // The resource of node v comes behind the first numbers of path, if v is limited. How many numbers there are now.

@@ -8,11 +8,11 @@ use Rattle.search.proofs.distances.Tie as tie
 
 distances-in-requires : tie.Need-distances-in-requires
 distances-in-requires c κs =
-    let s = c .before .before .before .before .before .before .before in
+    let s = c .before .before .before .before .before .before in
     let n = s .pre .index .arcs .nodes in
-    (s .pre, listing-zeros _ 64 65 n (omega (arith, n)))
+    (s .pre, listing-zeros _ 65 (omega (arith, n)))
 
 pub distances-spec : {M : Type 1} → statement M
 distances-spec =
-    tie.close (tie.spec (λ c. search needs) (λ c. search needs) distances-in-requires (λ c. search needs)
+    tie.close (tie.spec (λ c. search needs) distances-in-requires (λ c. search needs)
     (λ c. search needs))

@@ -1,187 +1,159 @@
--- `choice::lazy::nearest` meets its contract: the bounds stay below the distances, and rise until the least of them is a distance.
--- Assumes nothing.
+-- `choice::lazy::nearest` meets its contract: the bounds stay below the paths, and rise until the walk of the least is as long. Assumes nothing.
 use borrow.Author.Needs.{needs}
 use denote.Ref.{now}
-use mathlib.Core.Path.{_≡_, refl, sym, subst, _∙_}
-use Prim.Native.Nat.{ℕ, _<_, _≤_}
+use mathlib.Core.Path.{_≡_, refl, sym, _∙_}
+use mathlib.Core.Logic.{_⊎_, inl, inr, ⊎-elim}
+use mathlib.Core.List.{List}
+use Prim.Native.Nat.{ℕ, _+_, _<_, _≤_}
 use native.Mathlib.Omega.{arith}
-use lib.ListN.{length}
-use Rattle.network.specs.Network.{Network, commodities, source, sink}
-use Rattle.network.specs.Resources.{nodeLength}
-use Rattle.packed.specs.Packed.{netIn}
-use Rattle.packed.proofs.Columns.{commodities-is, sinks-length, part-length, put-length}
-use Rattle.paths.specs.Far.{far}
-use Rattle.paths.specs.Graph.{Table}
-use Rattle.paths.specs.Through.{through}
-use Rattle.paths.proofs.NodeLengths.{through-is, node-small}
-use Rattle.choice.specs.Closest.{Closest}
-use Rattle.choice.specs.Memory.{distancesFrom, distanceNumbers, memoryNumbers, boundsIn}
-use Rattle.choice.specs.Raised.{Raised}
-use Rattle.choice.proofs.Memories.{looked-raised, looked-distances, looked-numbers}
-use Rattle.choice.proofs.Raises.{raised-same}
+use borrow.Author.Tests.{eqb-true, eqb-false}
+use lib.ListN.{length, getD, length-set}
+use Rattle.bounds.specs.Bounds.{mostCommodities}
+use Rattle.network.specs.Network.{Network, commodities, sink}
+use Rattle.packed.specs.Packed.{netIn, sinksFrom}
+use Rattle.packed.proofs.Columns.{commodities-is, part-at}
+use Rattle.choice.specs.Looked.{Looked, Followed}
+use Rattle.choice.specs.Memory.{boundsIn, leastAt, distancesIn, Known}
 use Rattle.choice.proofs.Slack.{slack}
-use Rattle.choice.proofs.Turns.{Turn, turned, turn-next, turn-last, turn-falls}
+use Rattle.choice.proofs.Turns.{turn-falls, turn-noted}
 use Rattle.choice.proofs.lazy.nearest.Statement.{statement}
 use Rattle.choice.proofs.lazy.nearest.Tie as tie
 
 abbrev Inv-loop : tie.InvT-loop
-Inv-loop s net into lengths memory₀ k sources sinks i₀ memory i =
-    Turn (netIn s net) lengths (boundsIn s memory) i × (length memory ≡ length memory₀)
+Inv-loop s net indexes lengths memory₀ path₀ i₀ memory path i =
+    Known s (netIn s net) lengths memory i × ((length memory ≡ length memory₀) × (length path ≡ length path₀))
 
 abbrev μ-loop : tie.MeasureT-loop
-μ-loop s net into lengths memory₀ k sources sinks i₀ memory i = slack (commodities (netIn s net)) (boundsIn s memory)
+μ-loop s net indexes lengths memory₀ path₀ i₀ memory path i = slack (commodities (netIn s net)) (boundsIn s memory)
 
--- the function's entry; from each call back to the one before it, and to the turn's beginning
+-- the function's entry, seen from a turn; from each call back to the one before it; and the network
 abbrev entry : tie.At-loop Inv-loop μ-loop → tie.Start Inv-loop μ-loop
-entry c = c .before .before .before .before .before .before .before .before .before .before
+entry c = c .before .before .before .before .before .before .before
 
-abbrev turn : tie.After-distances Inv-loop μ-loop → tie.At-loop Inv-loop μ-loop
-turn c = c .before .before .before
+abbrev turn : tie.After-look Inv-loop μ-loop → tie.At-loop Inv-loop μ-loop
+turn c = c .before .before .before .before
 
-abbrev distances-at : tie.After-raise Inv-loop μ-loop → tie.After-distances Inv-loop μ-loop
-distances-at c = c .before .before .before .before
+abbrev looked-at : tie.After-follow Inv-loop μ-loop → tie.After-look Inv-loop μ-loop
+looked-at c = c .before .before .before .before .before
 
-abbrev raise-at : tie.After-least2 Inv-loop μ-loop → tie.After-raise Inv-loop μ-loop
-raise-at c = c .before .before .before .before .before
-
--- the turn, seen from behind the raising; the network
-abbrev begun : tie.After-raise Inv-loop μ-loop → tie.At-loop Inv-loop μ-loop
-begun c = turn (distances-at c)
+abbrev begun : tie.After-look Inv-loop μ-loop → tie.Start Inv-loop μ-loop
+begun c = entry (turn c)
 
 abbrev net : tie.Start Inv-loop μ-loop → Network
 net s = netIn (s .args .s) (now (s .args .net))
 
--- a node's length is read by the index
-own : (s : tie.Start Inv-loop μ-loop) (v : ℕ) → v ≤ net s .nodes →
-    through (now (s .args .into)) (now (s .args .lengths)) v ≡ nodeLength (net s) (now (s .args .lengths)) v
-own s = through-is (net s) (now (s .args .lengths)) (now (s .args .into)) (s .pre .index .places) (s .pre .survey .fit .lengths)
+-- the memory behind the search, and the path behind the walk
+abbrev memory-at : tie.After-look Inv-loop μ-loop → List ℕ
+memory-at c = c .look .last .1 .1 .1 .1 .1 .1 .0
 
--- there is a sink for each commodity, and room in the memory
-places : (c : tie.At-loop Inv-loop μ-loop) → memoryNumbers ≤ length (c .loop .memory)
-places c = omega (arith, c .loop .inv .1, entry c .pre .memory-of .places)
+abbrev path-at : tie.After-follow Inv-loop μ-loop → List ℕ
+path-at c = c .follow .last .1 .1 .1 .1 .1 .1 .0
 
-among : (c : tie.At-loop Inv-loop μ-loop) → c .loop .i < length (net (entry c) .sinks)
-among c = omega (arith, c .loop .inv .0 .least .among, sinks-length (entry c .pre .packed))
+-- a commodity is one of few, and its sink is read
+module _ (s : tie.Start Inv-loop μ-loop) {i : ℕ} (b : i < commodities (net s)) where
+  few : i < mostCommodities
+  few = omega (arith, commodities-is (s .pre .packed), s .pre .packed .few-commodities)
 
-searched-size : (c : tie.After-distances Inv-loop μ-loop) → length (c .distances .last .1 .1 .1 .1 .1 .0) ≡ distanceNumbers
-searched-size c = c .distances .kept .1 .1 .1 .1 .1 .0 ∙ part-length distancesFrom distanceNumbers (turn c .loop .memory) (places (turn c))
+  place : sinksFrom + i < length (now (s .args .net))
+  place = omega (arith, few, s .pre .packed .places)
 
-least-requires : tie.Need-least-requires Inv-loop μ-loop
-least-requires c κs =
-    let s = c .before .before .before .before .before .before .before .before in
-    omega (arith, s .pre .survey .some, s .pre .memory-of .below .each)
+  to : getD (now (s .args .net)) (sinksFrom + i) 0 ≡ sink (net s) i
+  unfolding netIn
+  to = sym (part-at sinksFrom (s .args .s .commodities) (now (s .args .net)) i (omega (arith, commodities-is (s .pre .packed))))
 
-loop-holds : tie.Need-loop-holds Inv-loop μ-loop
-loop-holds c =
-    (turned (c .before .before .before .before .before .before .before .before .before .pre .memory-of .below) (c .least .ensures), refl)
+among : (c : tie.At-loop Inv-loop μ-loop) → c .loop .i < commodities (net (entry c))
+among c = c .loop .inv .0 .least .among
 
-shared-slice-read-searched : tie.Need-shared-slice-read-searched Inv-loop μ-loop
-unfolding netIn
-shared-slice-read-searched c = among (c .before)
+-- what the search and the walk have found
+looks : (c : tie.After-look Inv-loop μ-loop) → let s = begun c in
+    Looked (s .args .s) (net s) (now (s .args .lengths)) (sink (net s) (turn c .loop .i)) (turn c .loop .memory) (memory-at c) (c .look .result)
+looks c = rw (← to (begun c) (among (turn c))) (c .look .ensures)
 
-distances-requires : tie.Need-distances-requires Inv-loop μ-loop
-unfolding netIn
-distances-requires c κs =
-    let t = c .before .before in
+follows : (c : tie.After-follow Inv-loop μ-loop) → let l = looked-at c in let s = begun l in let j = l .look .result in
+    Followed (net s) (now (s .args .lengths)) (boundsIn (s .args .s) (memory-at l)) (distancesIn (sink (net s) j) (memory-at l)) j (path-at c) (c .follow .result)
+follows c = c .follow .ensures
+
+chosen : (c : tie.After-look Inv-loop μ-loop) → c .look .result < commodities (net (begun c))
+chosen c = looks c .known .least .among
+
+numbers : (c : tie.After-look Inv-loop μ-loop) → length (memory-at c) ≡ length (now (begun c .args .memory))
+numbers c = c .look .kept .1 .1 .1 .1 .1 .1 .0 ∙ turn c .loop .inv .1 .0
+
+paths : (c : tie.After-follow Inv-loop μ-loop) → length (path-at c) ≡ length (now (begun (looked-at c) .args .path))
+paths c = c .follow .kept .1 .1 .1 .1 .1 .1 .0 ∙ turn (looked-at c) .loop .inv .1 .1
+
+look-requires : tie.Need-look-requires Inv-loop μ-loop
+look-requires c κs =
+    let t = c .before .before .before in
     let p = entry t .pre in
     record {
-      fit = rw (part-length distancesFrom distanceNumbers (t .loop .memory) (places t)) (p .survey .fit);
-      sink = p .survey .fit .ends .sinks (t .loop .i) (t .loop .inv .0 .least .among);
-      index = p .index;
+      packed = p .packed;
+      survey = p .survey;
+      index = p .indexed .into;
+      known = t .loop .inv .0;
+      to = to (entry t) (among t);
     }
 
-raise-requires : tie.Need-raise-requires Inv-loop μ-loop
-unfolding netIn
-raise-requires c κs =
-    let f = c .before .before .before in
-    let t = turn f in
-    let p = entry t .pre in
+follow-requires : tie.Need-follow-requires Inv-loop μ-loop
+follow-requires c κs =
+    let l = c .before .before .before .before in
+    let p = begun l .pre in
     record {
-      ends = λ i b. omega (arith, sinks-length (p .packed));
-      few = omega (arith, commodities-is (p .packed), p .packed .few-commodities);
-      places = omega (arith, put-length distancesFrom distanceNumbers (t .loop .memory) (f .distances .last .1 .1 .1 .1 .1 .0) (places t) (searched-size f), places t);
-      nodes = λ i b. omega (arith, p .survey .fit .ends .sources i b, p .survey .few);
-      numbers = p .index .arcs .numbers;
-      small = λ i b.
-          let v = source (net (entry t)) i in
-          let node = p .survey .fit .ends .sources i b .1 in
-          omega (arith, own (entry t) v node, node-small (net (entry t)) (now (entry t .args .lengths)) (p .survey .fit .small) v node);
+      packed = p .packed;
+      survey = p .survey;
+      indexed = p .indexed;
+      known = looks l .known;
+      room = omega (arith, p .room, turn l .loop .inv .1 .1);
     }
 
--- what the search and the raising have made of the bounds and the distances
-looked : (c : tie.After-raise Inv-loop μ-loop) → let s = entry (begun c) in let t = begun c .loop in
-    Raised (nodeLength (net s) (now (s .args .lengths))) (net s .sources) (net s .sinks) (sink (net s) (t .i)) (distances-at c .distances .last .1 .1 .1 .1 .1 .0) (boundsIn (s .args .s) (t .memory))
-    (boundsIn (s .args .s) (c .raise .last .1 .1 .1 .1 .1 .0)) (commodities (net s))
-unfolding netIn
-looked c =
-    let p = entry (begun c) .pre in
-    raised-same
-    (looked-raised (begun c .loop .memory) (distances-at c .distances .last .1 .1 .1 .1 .1 .0) (p .packed .few-commodities) (places (begun c))
-    (commodities-is (p .packed)) (searched-size (distances-at c)) (c .raise .ensures))
-    (λ i b. own (entry (begun c)) (source (net (entry (begun c))) i) (p .survey .fit .ends .sources i b .1))
+-- the walk and the search, seen from where the turn is left and from where it is not
+abbrev left-at : tie.Joined1 Inv-loop μ-loop → tie.After-follow Inv-loop μ-loop
+left-at c = c .before .before .before
 
-numbers : (c : tie.After-raise Inv-loop μ-loop) → length (c .raise .last .1 .1 .1 .1 .1 .0) ≡ length (begun c .loop .memory)
-unfolding netIn
-numbers c =
-    let p = entry (begun c) .pre in
-    looked-numbers (begun c .loop .memory) (distances-at c .distances .last .1 .1 .1 .1 .1 .0) (p .packed .few-commodities) (places (begun c))
-    (commodities-is (p .packed)) (searched-size (distances-at c)) (c .raise .ensures)
-
-table : (c : tie.After-raise Inv-loop μ-loop) → let s = entry (begun c) in
-    Table (net s) (now (s .args .lengths)) (distances-at c .distances .last .1 .1 .1 .1 .1 .0) (sink (net s) (begun c .loop .i)) far
-unfolding netIn
-table c = distances-at c .distances .ensures
-
-least-requires-2 : tie.Need-least-requires-2 Inv-loop μ-loop
-least-requires-2 c κs =
-    let r = c .before .before .before .before in
-    let p = entry (begun r) .pre in
-    omega (arith, p .survey .some, commodities-is (p .packed), part-length 0 (entry (begun r) .args .s .commodities) (r .raise .last .1 .1 .1 .1 .1 .0) (omega (arith, p .packed .few-commodities, numbers r, places (begun r))))
-
--- the turn that comes next, if it does
-next : (c : tie.After-least2 Inv-loop μ-loop) → let r = raise-at c in let s = entry (begun r) in
-    Turn (net s) (now (s .args .lengths)) (boundsIn (s .args .s) (r .raise .last .1 .1 .1 .1 .1 .0)) (c .least2 .result)
-next c =
-    let r = raise-at c in
-    turn-next (entry (begun r) .pre .survey) (begun r .loop .inv .0) (table r) (looked r) (c .least2 .ensures)
-
-shared-slice-read-if1 : tie.Need-shared-slice-read-if1 Inv-loop μ-loop
-unfolding netIn
-shared-slice-read-if1 c =
-    omega (arith, next (c .before) .least .among, sinks-length (entry (begun (raise-at (c .before))) .pre .packed))
+abbrev again-at : tie.Else1 Inv-loop μ-loop → tie.After-follow Inv-loop μ-loop
+again-at c = c .before .before .before
 
 loop-less : tie.Need-loop-less Inv-loop μ-loop
-unfolding netIn
 loop-less c =
-    let f = c .before .before in
-    let r = raise-at f in
-    turn-falls (entry (begun r) .pre .survey) (begun r .loop .inv .0) (table r) (looked r) (f .least2 .ensures) (c .if1 .left)
+    let f = again-at (c .before .before) in
+    let l = looked-at f in
+    turn-falls (begun l .pre .survey) (turn l .loop .inv .0) (looks l) (follows f)
+    (λ q. eqb-false _ _ (c .if2 .left) (to (begun l) (chosen l) ∙ (q ∙ sym (to (begun l) (among (turn l))))))
 
 loop-again : tie.Need-loop-again Inv-loop μ-loop
-loop-again c = let f = c .before .before in let r = raise-at f in (next f, numbers r ∙ begun r .loop .inv .1)
+loop-again c =
+    let f = again-at (c .before .before) in
+    let l = looked-at f in
+    (looks l .known, (numbers l, paths f))
+
+slice-write-memory : tie.Need-slice-write-memory Inv-loop μ-loop
+slice-write-memory c = let l = looked-at (left-at c) in omega (arith, numbers l, begun l .pre .memory-of .places)
 
 same-length : tie.Need-same-length Inv-loop μ-loop
-same-length c = let r = raise-at (c .before .before) in numbers r ∙ begun r .loop .inv .1
+same-length c = let l = looked-at (left-at c) in length-set (memory-at l) leastAt (l .look .result) ∙ numbers l
+
+-- the walk has arrived, or the sink is the one searched
+ended : (c : tie.Joined1 Inv-loop μ-loop) → let f = left-at c in let l = looked-at f in
+    (1 ≤ f .follow .result) ⊎ (sink (net (begun l)) (l .look .result) ≡ sink (net (begun l)) (turn l .loop .i))
+ended c =
+    let l = looked-at (left-at c) in
+    ⊎-elim
+    (λ w. inl (omega (arith, w .taken)))
+    (λ w. inr (sym (to (begun l) (chosen l)) ∙ (eqb-true _ _ (w .2 .taken) ∙ to (begun l) (among (turn l)))))
+    (c .if1 .came)
 
 returns : tie.Need-returns Inv-loop μ-loop
-unfolding netIn
 returns c =
-    let f = c .before .before in
-    let r = raise-at f in
-    let s = entry (begun r) in
-    let p = s .pre in
-    let kept =
-    looked-distances (begun r .loop .memory) (distances-at r .distances .last .1 .1 .1 .1 .1 .0) (p .packed .few-commodities) (places (begun r))
-    (commodities-is (p .packed)) (searched-size (distances-at r)) (r .raise .ensures) in
-    subst (λ d. Closest (net s) (now (s .args .lengths)) (boundsIn (s .args .s) (r .raise .last .1 .1 .1 .1 .1 .0)) d (f .least2 .result)) (sym kept)
-    (turn-last (p .survey) (begun r .loop .inv .0) (table r) (looked r) (f .least2 .ensures) (c .if1 .taken))
+    let f = left-at c in
+    let l = looked-at f in
+    turn-noted (begun l .pre .survey) (turn l .loop .inv .0) (looks l) (follows f) (ended c) (begun l .pre .packed .few-commodities)
 
 pub nearest-spec : {M : Type 1} → statement M
 nearest-spec =
-    tie.close (tie.spec Inv-loop μ-loop (λ c. search needs) (λ c. search needs) (λ c. search needs)
-    (λ c. search needs) (λ c. search needs) (λ c. search needs) (λ c. search needs) (λ c. search needs)
-    (λ c. search needs) (λ c. search needs) (λ c. search needs) (λ c. search needs) least-requires loop-holds
-    (λ c. search needs) shared-slice-read-searched (λ c. search needs) (λ c. search needs) (λ c. search needs)
-    (λ c. search needs) distances-requires raise-requires (λ c. search needs) (λ c. search needs) (λ c. search needs)
-    (λ c. search needs) least-requires-2 (λ c. search needs) shared-slice-read-if1 loop-less loop-again same-length
-    returns)
+    tie.close (tie.spec Inv-loop μ-loop (λ c. omega (arith, c .before .before .before .before .before .before .pre .memory-of .places))
+    (λ c. (c .before .before .before .before .before .before .pre .memory-of, (refl, refl))) (λ c. omega (arith, few (entry c) (among c)))
+    (λ c. omega (arith, few (entry c) (among c))) (λ c. place (entry (c .before)) (among (c .before))) (λ c. search needs) (λ c. search needs)
+    (λ c. search needs) (λ c. search needs) look-requires follow-requires
+    (λ c. let l = looked-at (again-at c) in omega (arith, few (begun l) (chosen l))) (λ c. let l = looked-at (again-at c) in omega (arith, few (begun l) (chosen l)))
+    (λ c. let l = looked-at (again-at (c .before)) in place (begun l) (chosen l)) loop-less loop-again slice-write-memory same-length
+    (λ c. paths (left-at c)) returns)

@@ -10,6 +10,7 @@ use lib.ListN.{length, take}
 use lib.Seq.{length-take-le}
 use Rattle.network.specs.Network.{Network}
 use Rattle.network.specs.Path.{pathLength}
+use Rattle.network.proofs.Sounds.{sound-ends}
 use Rattle.packed.specs.Packed.{part, netIn}
 use Rattle.packed.proofs.Columns.{commodities-is}
 use Rattle.method.specs.Choice.{Choice, choice}
@@ -20,6 +21,7 @@ use Rattle.choice.specs.Calls.{roomsFrom}
 use Rattle.choice.specs.Chose.{Picked}
 use Rattle.step.specs.Progress.{stateIn}
 use Rattle.step.specs.Steps.{chosenIn, Stepping}
+use Rattle.run.specs.Noted.{Kept}
 use Rattle.run.proofs.Chosen.{choosing, picks, selected-uses, selected-chosen}
 use Rattle.run.proofs.Iterated.{iterated}
 use Rattle.run.proofs.Longer.{memory-next}
@@ -99,29 +101,37 @@ step-requires c κs =
 abbrev choose-at : tie.After-step → tie.After-choose
 choose-at c = c .before .before .before .before .before .before .before .before .before
 
-abbrev step-at : tie.After-forget → tie.After-step
+abbrev step-at : tie.After-keep → tie.After-step
 step-at c = c .before .before .before .before .before
 
-forget-requires : tie.Need-forget-requires
-forget-requires c κs =
+keep-requires : tie.Need-keep-requires
+unfolding netIn
+keep-requires c κs =
     let f = choose-at (c .before .before .before .before) in
-    (entry f .pre .0 .lent .packed .few-commodities, f .choose .ensures .memory-of .places)
+    (entry f .pre .0 .lent .packed .few-nodes, f .choose .ensures .memory-of .places)
+
+-- what was kept, of the network's nodes
+kept : (c : tie.After-keep) → let f = choose-at (step-at c) in let s = entry f in
+    Kept (step-at c .step .result .halved) (net s .nodes) (f .choose .last .1 .1 .1 .1 .0) (c .keep .last .1 .1 .0)
+unfolding netIn
+kept c = c .keep .ensures
 
 returns : tie.Need-returns
 returns c =
     let g = c .before .before in let t = step-at g in let f = choose-at t in
     let s = entry f in let z = s .args in
-    let packed = s .pre .0 .lent .packed in
+    let a = s .pre .0 .lent in
     record {
       iterated =
           iterated (net s) (z .q) (z .threshold) (s .pre .1 .noted .threshold) (state s) (reached s .valid .table .places) (chosen f) (is-chosen f) _ _ (t .step .ensures);
       memory-of =
-          memory-next (net s) (z .q) (chosen f) (state s) (reached s .valid .lengths) (t .step .result .halved) (packed .few-commodities)
-          (sym (commodities-is packed)) (f .choose .ensures .memory-of) (t .step .ensures .halved) (ap (λ x. x .lengths) (t .step .ensures .state)) (g .forget .ensures);
+          memory-next (net s) (z .q) (chosen f) (state s) (reached s .valid .lengths) (t .step .result .halved) (sound-ends (net s) (z .q) (a .sound))
+          (a .sound .counts .of-nodes .most) (a .packed .few-commodities) (sym (commodities-is (a .packed))) (f .choose .ensures .memory-of) (g .keep .kept .1 .1 .0)
+          (t .step .ensures .halved) (ap (λ x. x .lengths) (t .step .ensures .state)) (kept g);
     }
 
 pub iterate-spec : {M : Type 1} → statement M
 iterate-spec =
     tie.close (tie.spec (λ c. search needs) (λ c. search needs) (λ c. search needs) (λ c. search needs)
-    choose-requires (λ c. search needs) (λ c. search needs) (λ c. search needs) (λ c. search needs) slice-reshare-prefix-step slice-aggregate-step step-requires forget-requires (λ c. search needs)
+    choose-requires (λ c. search needs) (λ c. search needs) (λ c. search needs) (λ c. search needs) slice-reshare-prefix-step slice-aggregate-step step-requires keep-requires (λ c. search needs)
     (λ c. search needs) (λ c. search needs) (λ c. search needs) returns)

@@ -2,14 +2,19 @@
 -- Assumes nothing.
 use mathlib.Core.Path.{_≡_, refl, sym, _∙_}
 use mathlib.Core.Option.{some}
-use Prim.Native.Nat.{_+_, _<_}
+use Prim.Native.Nat.{_+_, _*_, _<_}
 use native.Mathlib.Omega.{arith}
-use lib.ListN.{length}
+use lib.ListN.{length, getD}
 use borrow.Author.Needs.{needs}
+use Rattle.bounds.specs.Bounds.{mostNodes}
 use Rattle.network.specs.Path.{leads}
+use Rattle.network.specs.Resources.{nodeLength}
 use Rattle.packed.specs.Packed.{netIn}
 use Rattle.index.specs.Index.{endsFrom, arcAt, endAt}
 use Rattle.network.proofs.Leads.{leads-from}
+use Rattle.paths.specs.Distances.{via}
+use Rattle.paths.specs.Relax.{Relaxing, Relaxed}
+use Rattle.paths.proofs.Relaxing.{taken-relaxed, relaxed-end}
 use Rattle.paths.proofs.Rooms.{relaxing}
 use Rattle.paths.proofs.Spreading.{searching-still, searching-spread}
 use Rattle.search.proofs.relax.reach.Statement.{statement}
@@ -32,50 +37,81 @@ arc s =
     P .index .arcs .sound (s .args .v) (s .args .p) _ _ (P .node) (record { from = P .from; below = P .below; arc = refl; end = refl })
 
 add-e : tie.Need-add-e
-add-e c = let s = c .before .before .before .before .before .before in omega (arith, s .good, place s)
+add-e c = let s = c .before .before .before .before .before in omega (arith, s .good, place s)
 
 mul-e : tie.Need-mul-e
-mul-e c = let s = c .before .before .before .before .before .before in omega (arith, s .good, place s)
+mul-e c = let s = c .before .before .before .before .before in omega (arith, s .good, place s)
 
 shared-slice-read-e : tie.Need-shared-slice-read-e
-shared-slice-read-e c = omega (arith, place (c .before .before .before .before .before .before .before))
+shared-slice-read-e c = omega (arith, place (c .before .before .before .before .before .before))
 
 add-u : tie.Need-add-u
-add-u c = let s = c .before .before .before .before .before .before .before in omega (arith, s .good, place s)
+add-u c = let s = c .before .before .before .before .before .before in omega (arith, s .good, place s)
 
 mul-u : tie.Need-mul-u
-mul-u c = let s = c .before .before .before .before .before .before .before in omega (arith, s .good, place s)
+mul-u c = let s = c .before .before .before .before .before .before in omega (arith, s .good, place s)
 
 shared-slice-read-u : tie.Need-shared-slice-read-u
-shared-slice-read-u c = place (c .before .before .before .before .before .before .before .before)
+shared-slice-read-u c = place (c .before .before .before .before .before .before .before)
+
+-- the arc can be crossed, and the way over it is as the definition says
+crossed : (s : tie.Start) → let n = netIn (s .args .s) (s .args .net .now) in let i = s .args .into .now in
+    Relaxing (s .args .lengths .now) (s .args .dist .now) (nodeLength n (s .args .lengths .now) (s .args .v)) (endAt i (s .args .p)) (arcAt i (s .args .p)) (s .args .v)
+crossed s = relaxing _ _ _ (s .pre .searching .fit) (s .pre .searching .labels .capped) (arc s)
+
+way : (s : tie.Start) → let n = netIn (s .args .s) (s .args .net .now) in let i = s .args .into .now in let l = s .args .lengths .now in
+    mostNodes * getD l (arcAt i (s .args .p)) 0 + s .args .onward ≡ via l (s .args .dist .now) (nodeLength n l (s .args .v)) (arcAt i (s .args .p)) (s .args .v)
+way s = omega (arith, s .pre .own)
+
+relaxes : (c : tie.After-relax) → let s = entry c in let n = netIn (s .args .s) (s .args .net .now) in let i = s .args .into .now in
+    Relaxed (s .args .lengths .now) (nodeLength n (s .args .lengths .now) (s .args .v)) (endAt i (s .args .p)) (arcAt i (s .args .p)) (s .args .v) (s .args .dist .now) (c .relax .result)
+    (c .relax .last .1 .1 .0)
+relaxes c = taken-relaxed (way (entry c)) (c .relax .ensures)
+
+mul-relax : tie.Need-mul-relax
+mul-relax c = let s = c .before .before .before .before .before .before .before in omega (arith, s .good, crossed s .crossing .arc)
+
+shared-slice-read-relax : tie.Need-shared-slice-read-relax
+shared-slice-read-relax c = crossed (c .before .before .before .before .before .before .before .before) .crossing .arc
+
+mul-relax-2 : tie.Need-mul-relax-2
+mul-relax-2 c = let s = c .before .before .before .before .before .before .before .before in omega (arith, way s, crossed s .crossing .fits)
+
+add-relax : tie.Need-add-relax
+add-relax c = let s = c .before .before .before .before .before .before .before .before in omega (arith, way s, crossed s .crossing .fits)
 
 relax-requires : tie.Need-relax-requires
-relax-requires c κs =
-    let s = c .before .before .before .before .before .before .before .before .before in
-    rw (s .pre .own) (relaxing _ _ _ (s .pre .searching .fit) (s .pre .searching .labels .capped) (arc s))
+relax-requires c κs = crossed (c .before .before .before .before .before .before .before .before .before) .start
 
 enlist-requires : tie.Need-enlist-requires
 unfolding netIn
 enlist-requires c κs =
-    let s = entry (c .before .before .before .before .before) in
+    let s = entry (c .before .before .before .before) in
     (s .pre .searching .listing, leads-from _ _ _ _ (arc s) (s .pre .searching .fit .ends))
 
 returns : tie.Need-returns
 unfolding netIn
 returns c =
-    let E = c .before .before .before .before .enlist in
-    let t = c .before .before .before .before .before .before .before in
+    let E = c .before .before .enlist in
+    let t = c .before .before .before .before in
     let R = t .before .before .before in
     let s = entry R in
-    searching-spread (s .pre .searching) (s .pre .own) refl refl (arc s) (sym (R .relax .ensures .told) ∙ t .if1 .taken) (R .relax .ensures .entries) (E .ensures)
+    record {
+      spread =
+          searching-spread (s .pre .searching) refl refl refl (arc s) (s .pre .index .arcs .nodes) (sym (relaxes R .told) ∙ t .if1 .taken) (relaxes R .entries) (E .ensures);
+      head = rw (relaxes R .entries) (relaxed-end _ _ _ _ _ _);
+    }
 
 returns-2 : tie.Need-returns-2
 returns-2 c =
     let R = c .before .before .before in
     let s = entry R in
-    searching-still (s .pre .searching) (s .pre .own) refl refl (arc s) (sym (R .relax .ensures .told) ∙ c .if1 .left) (R .relax .ensures .entries)
+    record {
+      spread = searching-still (s .pre .searching) refl refl refl (arc s) (sym (relaxes R .told) ∙ c .if1 .left) (relaxes R .entries);
+      head = rw (relaxes R .entries) (relaxed-end _ _ _ _ _ _);
+    }
 
 pub reach-spec : {M : Type 1} → statement M
 reach-spec =
-    tie.close (tie.spec add-e mul-e shared-slice-read-e add-u mul-u shared-slice-read-u relax-requires enlist-requires
-    (λ c. search needs) (λ c. search needs) (λ c. search needs) returns (λ c. search needs) returns-2)
+    tie.close (tie.spec add-e mul-e shared-slice-read-e add-u mul-u shared-slice-read-u mul-relax shared-slice-read-relax mul-relax-2 add-relax
+    relax-requires enlist-requires (λ c. search needs) (λ c. search needs) returns (λ c. search needs) returns-2)

@@ -7,11 +7,11 @@ use native.Mathlib.Omega.{arith}
 use lib.ListN.{replicate}
 use Rattle.bounds.specs.Bounds.{mostArcs}
 use Rattle.network.proofs.Resources.{rooms-length}
-use Rattle.network.proofs.Sounds.{room-within}
+use Rattle.network.proofs.Sounds.{sound-ends, room-within}
 use Rattle.method.specs.Iteration.{initial, weight}
 use Rattle.packed.specs.Packed.{part, put, netIn, lengthsFrom, loadsFrom, keptFrom}
 use Rattle.packed.proofs.Columns.{part-length, commodities-is}
-use Rattle.choice.proofs.Memories.{memory-zero}
+use Rattle.choice.proofs.Forgets.{begun-ordered, forgotten-memory}
 use Rattle.lengths.specs.Calls.{Startable}
 use Rattle.step.specs.Progress.{stateOf, begun}
 use Rattle.step.proofs.Tabled.{Tabled, tabled, part-size, with-lengths, with-loads, with-kept, in-slice}
@@ -32,8 +32,11 @@ loads-at c = c .before .before .before .before
 abbrev kept-at : tie.After-clear-flow → tie.After-clear2
 kept-at c = c .before .before .before .before
 
-abbrev flow-at : tie.After-clear3 → tie.After-clear-flow
+abbrev flow-at : tie.After-begin → tie.After-clear-flow
 flow-at c = c .before .before .before
+
+abbrev begin-at : tie.After-forget → tie.After-begin
+begin-at c = c .before .before .before .before
 
 abbrev m : tie.Start → ℕ
 m s = s .args .s .resources
@@ -76,7 +79,7 @@ cleared c = with-kept (unloaded (loads-at c)) (c .clear2 .last .0) (c .clear2 .k
 returns : tie.Need-returns
 unfolding netIn
 returns c =
-    let last = c .before .before in let flow = flow-at last in let kept = kept-at flow in
+    let last = c .before .before in let begin = begin-at last in let flow = flow-at begin in let kept = kept-at flow in
     let loads = loads-at kept in let start = start-at loads in let s = entry start in
     let z = s .args in let p = s .pre in let net = netIn (z .s) (now (z .net)) in
     record {
@@ -85,17 +88,27 @@ returns c =
           (initial-is net (p .caps-are) (start .start .ensures .lengths) (loads .clear .ensures) (kept .clear2 .ensures) (flow .clear-flow .ensures)
           (p .lent .counted) (part-size (started start) loadsFrom (omega arith)) (part-size (unloaded loads) keptFrom (omega arith)) (p .flows));
       memory-of =
-          memory-zero (now (z .memory)) (last .clear3 .last .0) (p .lent .packed .few-commodities) (sym (commodities-is (p .lent .packed))) (p .memorised)
-          (last .clear3 .ensures ∙
-          ap (λ (i : ℕ). replicate {A = ℕ} i 0) (part-length 0 (z .s .commodities) (now (z .memory)) (omega (arith, p .lent .packed .few-commodities, p .memorised)))) _;
+          forgotten-memory (sound-ends net (z .q) (p .lent .sound)) (p .lent .sound .counts .of-nodes .most) (p .lent .packed .few-commodities)
+          (sym (commodities-is (p .lent .packed))) (p .lent .sound .counts .of-commodities .least)
+          (omega (arith, last .forget .kept .1 .0, begin .begin .kept .1 .0, p .memorised)) (begun-ordered (begin .begin .ensures)) (last .forget .ensures) _;
       weight =
           in-slice (cleared kept) (λ L Y K. start .start .result ≡ weight net L) (weight-is net (p .caps-are) (start .start .last .1 .0) (start .start .ensures .weight));
     }
+
+begin-requires : tie.Need-begin-requires
+begin-requires c κs =
+    let p = entry (start-at (loads-at (kept-at (c .before .before)))) .pre in
+    (p .lent .packed .few-nodes, p .memorised)
+
+forget-requires : tie.Need-forget-requires
+forget-requires c κs =
+    let b = c .before .before .before in
+    let p = entry (start-at (loads-at (kept-at (flow-at b)))) .pre in
+    (p .lent .packed .few-nodes, omega (arith, b .begin .kept .1 .0, p .memorised))
 
 pub prepare-spec : {M : Type 1} → statement M
 prepare-spec =
     tie.close (tie.spec (λ c. search needs) (λ c. search needs) (λ c. search needs) (λ c. search needs) start-requires (λ c. search needs)
     (λ c. search needs) (λ c. search needs) (λ c. search needs) (λ c κs. search needs) (λ c. search needs)
     (λ c. search needs) (λ c. search needs) (λ c. search needs) (λ c κs. search needs) (λ c κs. search needs)
-    (λ c. search needs) (λ c. search needs) (λ c. search needs) (λ c. search needs) (λ c κs. search needs)
-    (λ c. search needs) (λ c. search needs) (λ c. search needs) returns)
+    begin-requires forget-requires (λ c. search needs) (λ c. search needs) (λ c. search needs) returns)

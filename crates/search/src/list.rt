@@ -1,0 +1,30 @@
+// The list of a search: listed has a 1 for each node on it and a 0 for the others, and size of them are. n, the number of nodes, and size are taken for the
+// contracts.
+use crate::ORDER;
+ghost use Prim.Native.Nat.{_≤_};
+ghost use Rattle.paths.specs.Listing.{Listing, Enlisted, TakenOut};
+ghost use Rattle.paths.specs.Scan.{Taking};
+
+// The node at this place of the order leaves the list.
+pub fn take_out(n: u64, page: &[u64], at: usize, listed: &mut [u64], size: usize) -> u64
+    requires { ⌜ Taking n (now page) (now listed) size at ⌝ }
+    ensures { λ r. ⌜ TakenOut n (now (listed .entry)) size r (now (listed .exit)) ⌝ }
+{
+    let v = page[ORDER + at];
+    listed[v as usize] = 0;
+    v
+}
+
+// Node v comes onto the list, unless it is there. How many are on it now.
+pub fn enlist(n: u64, v: u64, listed: &mut [u64], size: usize) -> usize
+    requires listing { ⌜ Listing n (now listed) size ⌝ }
+    requires node { ⌜ (1 ≤ v) × (v ≤ n) ⌝ }
+    ensures { λ r. ⌜ Enlisted n (now (listed .entry)) size v (now (listed .exit)) r ⌝ }
+{
+    let at = v as usize;
+    if listed[at] != 0 {
+        return size;
+    }
+    listed[at] = 1;
+    size + 1
+}
