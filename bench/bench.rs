@@ -94,7 +94,7 @@ fn options(mut words: impl Iterator<Item = String>) -> Option<Options> {
 }
 
 fn bench(q: u64, options: &Options) -> bool {
-    println!("\n### q = {q}\n");
+    println!("\n### {}q = {q}\n", options.kind.named());
     show_head(options.plain);
     let (mut rows, mut shares) = (Vec::new(), Vec::new());
     let mut alike = true;

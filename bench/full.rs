@@ -27,6 +27,13 @@ impl Kind {
         Size { arcs: FULL_SIZE.arcs - limits, ..FULL_SIZE }
     }
 
+    /// What stands before the precision in a heading.
+    pub fn named(self) -> String {
+        let belts = if self.marked { "reversible belts, " } else { "" };
+        let stations = if self.limited { "limited stations, " } else { "" };
+        format!("{belts}{stations}")
+    }
+
     pub fn described(self, seed: u64) -> String {
         let Size { nodes, arcs, commodities } = self.size();
         let belts = if self.marked { "belts all reversible, " } else { "" };

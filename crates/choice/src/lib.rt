@@ -12,6 +12,7 @@ use method::Selected;
 use packed::SOURCES;
 use packed::Shape;
 use search::FAR_LENGTH;
+use search::PAGE_NUMBERS;
 use walk::visit;
 ghost use lib.ListN.{length};
 ghost use Rattle.packed.specs.Packed.{netIn};
@@ -25,9 +26,7 @@ pub const LEAST: usize = MOST_COMMODITIES;
 
 pub const PAGES: usize = MOST_COMMODITIES + 1;
 
-// how many numbers a page takes, and how many of them are distances, which come first, from node 0 on,
-pub const PAGE_NUMBERS: usize = DISTANCE_NUMBERS + MOST_NODES as usize;
-
+// how many numbers of a page are distances, which come first, from node 0 on,
 pub const DISTANCE_NUMBERS: usize = MOST_NODES as usize + 1;
 
 // and how many numbers the memory takes in all.

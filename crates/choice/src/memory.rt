@@ -1,9 +1,9 @@
 // What is remembered, as a run begins and after a halving: bounds and distances are forgotten then, since zeros are feasible whatever the lengths. The orders
 // are kept, which serve by any lengths.
 use crate::LEAST;
-use crate::PAGE_NUMBERS;
 use crate::PAGES;
 use search::ORDER;
+use search::PAGE_NUMBERS;
 use search::fill::fill;
 ghost use Prim.Native.Nat.{_+_, _≤_};
 ghost use lib.ListN.{length};

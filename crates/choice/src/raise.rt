@@ -2,13 +2,13 @@
 // its sink's, whatever the node that the table is for.
 use crate::BOUNDS;
 use crate::DISTANCE_NUMBERS;
-use crate::PAGE_NUMBERS;
 use crate::PAGES;
 use bounds::MOST_NODES;
 use packed::SINKS;
 use packed::SOURCES;
 use packed::Shape;
 use paths::through;
+use search::PAGE_NUMBERS;
 ghost use mathlib.Core.Path.{_≡_};
 ghost use Prim.Native.Nat.{_≤_, _<_};
 ghost use Rattle.paths.specs.Through.{through};

@@ -31,10 +31,10 @@ pub const FAR_LENGTH: u64 = 0x8000_0000_0000;
 const FAR: u64 = MOST_NODES * FAR_LENGTH;
 
 // A page has the distances by node, from place 0 on, and from this place on the nodes in the order in which a search looks at them.
-pub const ORDER: usize = 65;
+pub const ORDER: usize = MOST_NODES as usize + 1;
 
 // How many numbers that takes.
-pub const PAGE_NUMBERS: usize = 129;
+pub const PAGE_NUMBERS: usize = ORDER + MOST_NODES as usize;
 
 // An order that a search has begun again so often is sorted for the next one.
 const MOST_ROUNDS: u64 = 2;
