@@ -158,7 +158,7 @@ enum {
  * them up. Belts, pairs and limits may be shared.
  *
  * A call cannot be interrupted; it always ends. Of eleven floors of 64 stations,
- * 256 belts and 32 pairs the slowest took 37 ms at q = 4 and 0.6 s at q = 16, on
+ * 256 belts and 32 pairs the slowest took 24 ms at q = 4 and 0.4 s at q = 16, on
  * one core of an AMD EPYC, and twice that with every belt reversible
  * (docs/SPEED.md of the sources has them all). */
 uint64_t vithmork_solve(uint64_t n, uint64_t q, uint64_t office,
