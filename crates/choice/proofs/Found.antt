@@ -15,9 +15,9 @@ use Rattle.network.proofs.Uses.{uses-length}
 use Rattle.method.specs.Choice.{Choice, choiceOf, choice}
 use Rattle.method.proofs.Shortest.{choice-candidate}
 use Rattle.method.proofs.Unique.{chosen-choice}
-use Rattle.choice.specs.Below.{Below}
+use Rattle.memory.specs.Below.{Below}
+use Rattle.memory.specs.Least.{Least}
 use Rattle.choice.specs.Closest.{Closest}
-use Rattle.choice.specs.Least.{Least}
 use Rattle.paths.specs.Far.{farLength, Bounded}
 use Rattle.choice.proofs.Reach.{near-path}
 use Rattle.paths.proofs.Lower.{telescopes}

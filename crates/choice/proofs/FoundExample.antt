@@ -18,13 +18,13 @@ use Rattle.network.specs.declared.Verdict.the-variants.{Accepted}
 use Rattle.network.proofs.Accepted.{accepted-sound}
 use Rattle.network.proofs.Sounds.{sound-ends}
 use Rattle.method.specs.Choice.{choiceOf, choice}
-use Rattle.choice.specs.Below.{Below}
+use Rattle.memory.specs.Below.{Below}
+use Rattle.memory.specs.Least.{Least}
+use Rattle.memory.specs.Raised.{toldBy, Greater, Raised}
+use Rattle.memory.proofs.Bounds.{below-zero, below-raised}
 use Rattle.choice.specs.Closest.{Closest}
-use Rattle.choice.specs.Least.{Least}
 use Rattle.paths.specs.Far.{farLength, far}
 use Rattle.paths.specs.Graph.{Table}
-use Rattle.choice.specs.Raised.{toldBy, Greater, Raised}
-use Rattle.choice.proofs.Bounds.{below-zero, below-raised}
 use Rattle.choice.proofs.Found.{closest-none, closest-choice}
 use Rattle.paths.proofs.Telling.{distance-tells}
 use Rattle.paths.proofs.WalkExample.{floor, lengths, near, away, bounded, to-3, to-1, walk}

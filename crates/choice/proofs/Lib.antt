@@ -1,11 +1,6 @@
-pub mod Bounds
-pub mod Forgets
 pub mod Found
 pub mod FoundExample
-pub mod Leasts
 pub mod Looks
-pub mod Memories
-pub mod Raises
 pub mod Reach
 pub mod Ready
 pub mod Selects

@@ -18,14 +18,14 @@ use Rattle.paths.specs.Order.{distanceNumbers, pageNumbers, Searched}
 use Rattle.paths.specs.Through.{through}
 use Rattle.paths.specs.Walked.{Walked}
 use Rattle.paths.proofs.NodeLengths.{through-is}
-use Rattle.choice.specs.Below.{Below}
+use Rattle.memory.specs.Below.{Below}
+use Rattle.memory.specs.Memory.{boundsIn, pageFrom, distancesIn, Known}
+use Rattle.memory.specs.Raised.{lengthBy, Raised, AllRaised}
+use Rattle.memory.proofs.Bounds.{below-raised, raised-shared}
+use Rattle.memory.proofs.Memories.{page-raised, searched-distances, searched-bounds, searched-pages}
+use Rattle.memory.proofs.Raises.{part-same, raised-same}
 use Rattle.choice.specs.Calls.{Looking}
-use Rattle.choice.specs.Looked.{lengthBy, Looked, Followed}
-use Rattle.choice.specs.Memory.{boundsIn, pageFrom, distancesIn, Known}
-use Rattle.choice.specs.Raised.{Raised, AllRaised}
-use Rattle.choice.proofs.Bounds.{below-raised, raised-shared}
-use Rattle.choice.proofs.Memories.{page-raised, searched-distances, searched-bounds, searched-pages}
-use Rattle.choice.proofs.Raises.{part-same, raised-same}
+use Rattle.choice.specs.Looked.{Looked, Followed}
 
 module _ {s : Shape} {xs ix l : List ℕ} {t i : ℕ} {M page new : List ℕ} {r : ℕ} (p : Looking s xs ix l t i M) (size : length page ≡ pageNumbers)
     (S : Searched (netIn s xs) l page t) (A : AllRaised s xs ix l t (put (pageFrom t) pageNumbers M page) new r) where

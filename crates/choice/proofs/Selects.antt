@@ -13,9 +13,9 @@ use Rattle.paths.specs.Far.{farLength}
 use Rattle.paths.specs.Visits.{Visits}
 use Rattle.paths.proofs.Walks.{walk-path}
 use Rattle.method.specs.declared.Selected.{Selected}
+use Rattle.memory.specs.Memory.{boundsIn, leastIn, distancesIn}
 use Rattle.choice.specs.Chose.{Chose}
 use Rattle.choice.specs.Closest.{Closest, Nearest}
-use Rattle.choice.specs.Memory.{boundsIn, leastIn, distancesIn}
 use Rattle.choice.specs.Search.{Survey}
 use Rattle.choice.proofs.Found.{closest-none, closest-choice}
 

@@ -10,8 +10,8 @@ use lib.ListN.{getD}
 use Rattle.arith.specs.Sum.{sum}
 use Rattle.arith.proofs.Sums.{sum-lt}
 use Rattle.paths.specs.Far.{farLength}
-use Rattle.choice.specs.Least.{Least}
-use Rattle.choice.proofs.Leasts.{least-unique}
+use Rattle.memory.specs.Least.{Least}
+use Rattle.memory.proofs.Leasts.{least-unique}
 
 -- No bound is above this: the cap with the length of a source, which is less.
 abbrev pub most : ℕ

@@ -14,11 +14,12 @@ use Rattle.paths.specs.Far.{farLength, far}
 use Rattle.paths.specs.Graph.{Table}
 use Rattle.paths.proofs.Descent.{distance-path}
 use Rattle.paths.proofs.NodeLengths.{node-small}
+use Rattle.memory.specs.Memory.{leastAt, boundsIn, distancesIn, Known}
+use Rattle.memory.specs.Raised.{lengthBy}
+use Rattle.memory.proofs.Memories.{noted-bounds, noted-distances, noted-least, known-noted}
 use Rattle.choice.specs.Closest.{Closest, Nearest}
-use Rattle.choice.specs.Looked.{lengthBy, Looked, Followed}
-use Rattle.choice.specs.Memory.{leastAt, boundsIn, distancesIn, Known}
+use Rattle.choice.specs.Looked.{Looked, Followed}
 use Rattle.choice.specs.Search.{Survey}
-use Rattle.choice.proofs.Memories.{noted-bounds, noted-distances, noted-least, known-noted}
 use Rattle.choice.proofs.Slack.{slack, slack-falls}
 
 module _ {s : Shape} {net : Network} {l old new path : List ℕ} {i j r : ℕ} (lent : Survey net l) (K : Known s net l old i)

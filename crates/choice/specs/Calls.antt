@@ -9,7 +9,7 @@ use Rattle.network.specs.Resources.{resources, rooms}
 use Rattle.packed.specs.Packed.{part, netIn, Packed}
 use Rattle.packed.specs.declared.Shape.{Shape}
 use Rattle.index.specs.Index.{indexNumbers, Into, Out}
-use Rattle.choice.specs.Memory.{Known, Memory}
+use Rattle.memory.specs.Memory.{Known, Memory}
 use Rattle.choice.specs.Search.{Survey}
 
 -- The search for the sink t of commodity i, which is of least bound, over the arcs into each node.

@@ -12,7 +12,7 @@ use Rattle.packed.specs.declared.Shape.{Shape}
 use Rattle.method.specs.Choice.{choiceOf, choice}
 use Rattle.method.specs.declared.Selected.{Selected}
 use Rattle.paths.specs.Far.{farLength}
-use Rattle.choice.specs.Memory.{Memory}
+use Rattle.memory.specs.Memory.{Memory}
 
 -- The commodity and the first entries of the table are the choice, from 1 to 63 arcs; with the limited nodes behind them they are what it uses, and alpha is
 -- the length of that.

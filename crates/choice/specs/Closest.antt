@@ -1,22 +1,21 @@
 -- Where the search among the commodities ends: with a walk that is as long as the least bound.
 use mathlib.Core.Path.{_≡_}
 use mathlib.Core.List.{List}
-use Prim.Native.Nat.{ℕ, _+_, _<_}
+use Prim.Native.Nat.{ℕ, _<_}
 use lib.ListN.{getD, take}
 use Rattle.network.specs.Network.{Network, source, sink}
-use Rattle.network.specs.Resources.{nodeLength}
 use Rattle.packed.specs.declared.Shape.{Shape}
 use Rattle.paths.specs.Distances.{Feasible}
 use Rattle.paths.specs.Far.{farLength}
-use Rattle.paths.specs.Key.{lengthOf}
 use Rattle.paths.specs.Walk.{Walk}
-use Rattle.choice.specs.Memory.{boundsIn, leastIn, distancesIn, Memory}
+use Rattle.memory.specs.Memory.{boundsIn, leastIn, distancesIn, Memory}
+use Rattle.memory.specs.Raised.{lengthBy}
 
 -- The first r entries of the table are the walk of commodity i by the feasible table d, and its bound is the length of that.
 pub record Closest (net : Network) (l bounds d : List ℕ) (i : ℕ) (path : List ℕ) (r : ℕ) : Type 0 where
   pub feasible : Feasible net l d (sink net i)
   pub walk : Walk net l d (sink net i) (source net i) (take r path)
-  pub own : getD bounds i 0 ≡ lengthOf (getD d (source net i) 0) + nodeLength net l (source net i)
+  pub own : getD bounds i 0 ≡ lengthBy net l d i
   pub few : r < net .nodes
 
 -- The memory notes the commodity of least bound; where that is not far, it has such a walk. So no path of any commodity is shorter, and those of

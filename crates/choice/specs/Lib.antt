@@ -1,10 +1,5 @@
-pub mod Below
 pub mod Calls
 pub mod Chose
 pub mod Closest
-pub mod Forgotten
-pub mod Least
 pub mod Looked
-pub mod Memory
-pub mod Raised
 pub mod Search

@@ -1,21 +1,16 @@
 -- A search for the sink of one commodity, and what it tells of all; and the walk of one by its page.
 use mathlib.Core.Path.{_≡_}
 use mathlib.Core.List.{List}
-use Prim.Native.Nat.{ℕ, _+_, _≤_, _<_}
+use Prim.Native.Nat.{ℕ, _≤_, _<_}
 use lib.ListN.{getD}
 use Rattle.network.specs.Network.{Network, commodities, source, sink}
-use Rattle.network.specs.Resources.{nodeLength}
 use Rattle.packed.specs.declared.Shape.{Shape}
 use Rattle.paths.specs.Far.{far}
 use Rattle.paths.specs.Graph.{Table}
-use Rattle.paths.specs.Key.{lengthOf}
 use Rattle.paths.specs.Walk.{Walk}
+use Rattle.memory.specs.Memory.{boundsIn, distancesIn, Known}
+use Rattle.memory.specs.Raised.{lengthBy}
 use Rattle.choice.specs.Closest.{Closest}
-use Rattle.choice.specs.Memory.{boundsIn, distancesIn, Known}
-
--- The length in the distance of the source of commodity i, with the source's own.
-abbrev pub lengthBy : Network → List ℕ → List ℕ → ℕ → ℕ
-lengthBy net l d i = lengthOf (getD d (source net i) 0) + nodeLength net l (source net i)
 
 -- The page of t has the distances, the bounds of the commodities with that sink are the lengths in them, no bound has fallen, and r is the lowest-numbered
 -- commodity of least bound now.

@@ -2,28 +2,28 @@
 // hold on while lengths only grow. One of least bound is chosen once its walk arrives by the page of its sink, with a length that is its bound: then no path
 // of any commodity is shorter. Only where the walk is stuck is the sink searched, and what is found raises the bounds of all commodities.
 // The number of arcs, which a distance has beside the length, does not count between commodities.
-use crate::BOUNDS;
-use crate::DISTANCE_NUMBERS;
 use crate::INTO;
-use crate::LEAST;
 use crate::OUT;
-use crate::PAGES;
-use crate::raise::raise;
-use crate::raise::told;
 use index::INDEX_NUMBERS;
+use memory::BOUNDS;
+use memory::LEAST;
+use memory::PAGES;
+use memory::raise::raise;
+use memory::raise::told;
 use packed::SINKS;
 use packed::SOURCES;
 use packed::Shape;
-use search::PAGE_NUMBERS;
+use page::DISTANCE_NUMBERS;
+use page::PAGE_NUMBERS;
 use search::distances;
 use walk::walk;
 ghost use lib.ListN.{length};
 ghost use Rattle.network.specs.Network.{sink};
 ghost use Rattle.packed.specs.Packed.{netIn};
+ghost use Rattle.memory.specs.Memory.{boundsIn, distancesIn};
 ghost use Rattle.choice.specs.Calls.{Looking, Following, Choosing};
 ghost use Rattle.choice.specs.Closest.{Nearest};
 ghost use Rattle.choice.specs.Looked.{Looked, Followed};
-ghost use Rattle.choice.specs.Memory.{boundsIn, distancesIn};
 
 // The distances to t, the sink of commodity i, are searched for, and all bounds raised by them; the lowest-numbered commodity of least bound now. i is taken
 // for the contract.

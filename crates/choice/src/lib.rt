@@ -1,36 +1,21 @@
 // The path of an iteration: of all commodities the one whose sink is nearest to its source, and of its shortest paths with fewest arcs the first.
 mod lazy;
-pub mod memory;
-mod raise;
 
 use crate::lazy::nearest;
 use bounds::MOST_ARCS;
-use bounds::MOST_COMMODITIES;
 use bounds::MOST_NODES;
 use index::INDEX_NUMBERS;
+use memory::BOUNDS;
+use memory::LEAST;
 use method::Selected;
 use packed::SOURCES;
 use packed::Shape;
 use search::FAR_LENGTH;
-use search::PAGE_NUMBERS;
 use walk::visit;
 ghost use lib.ListN.{length};
 ghost use Rattle.packed.specs.Packed.{netIn};
 ghost use Rattle.choice.specs.Calls.{Choosing};
 ghost use Rattle.choice.specs.Chose.{Left};
-
-// What is remembered from choice to choice: the bounds of the commodities, the one of least bound, and a page for each node, from node 0 on. Where each begins,
-pub const BOUNDS: usize = 0;
-
-pub const LEAST: usize = MOST_COMMODITIES;
-
-pub const PAGES: usize = MOST_COMMODITIES + 1;
-
-// how many numbers of a page are distances, which come first, from node 0 on,
-pub const DISTANCE_NUMBERS: usize = MOST_NODES as usize + 1;
-
-// and how many numbers the memory takes in all.
-pub const MEMORY_NUMBERS: usize = PAGES + PAGE_NUMBERS * DISTANCE_NUMBERS;
 
 // A place for each arc of a path, which has fewer arcs than there are nodes, and for each of its nodes.
 pub const PATH_NUMBERS: usize = 2 * MOST_NODES as usize;

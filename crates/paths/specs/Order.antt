@@ -23,6 +23,10 @@ pageNumbers = 129
 abbrev pub nodeAt : List ℕ → ℕ → ℕ
 nodeAt page p = getD page (orderFrom + p) 0
 
+-- At the start the order is 1, 2, .., n.
+abbrev pub LinedUp : ℕ → List ℕ → Type 0
+LinedUp n page = (p : ℕ) → p < n → nodeAt page p ≡ p + 1
+
 -- Every place of the order has a node, and every node has a place.
 pub record Ordered (net : Network) (page : List ℕ) : Type 0 where
   pub node : (p : ℕ) → p < net .nodes → Node net (nodeAt page p)

@@ -19,9 +19,9 @@ use Rattle.method.specs.declared.Selected.{Selected}
 use Rattle.method.proofs.Reached.{Reached}
 use Rattle.method.proofs.Sized.{reached-sizes}
 use Rattle.paths.specs.Far.{farLength}
+use Rattle.memory.specs.Memory.{Memory}
 use Rattle.choice.specs.Calls.{Choosing}
 use Rattle.choice.specs.Chose.{Picked, Chose}
-use Rattle.choice.specs.Memory.{Memory}
 use Rattle.choice.proofs.Ready.{sound-survey}
 use Rattle.step.specs.Steps.{chosenIn}
 use Rattle.run.specs.Runs.{Space, Chooses}

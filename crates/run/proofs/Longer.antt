@@ -16,9 +16,9 @@ use Rattle.method.specs.Choice.{Choice, usedBy}
 use Rattle.method.specs.Iteration.{State, draw, update, grown, settled, advance}
 use Rattle.length.specs.Length.{growth}
 use Rattle.method.proofs.Times.{update-length}
-use Rattle.choice.specs.Memory.{Memory}
-use Rattle.choice.proofs.Forgets.{forgotten-memory}
-use Rattle.choice.proofs.Memories.{known-grown}
+use Rattle.memory.specs.Memory.{Memory}
+use Rattle.memory.proofs.Forgets.{forgotten-memory}
+use Rattle.memory.proofs.Memories.{known-grown}
 use Rattle.tables.specs.Tables.{longer}
 use Rattle.step.specs.Progress.{halves}
 use Rattle.run.specs.Noted.{Kept}

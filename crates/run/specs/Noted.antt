@@ -10,8 +10,8 @@ use Rattle.packed.specs.declared.Shape.{Shape}
 use Rattle.method.specs.Iteration.{State, weight, iteration}
 use Rattle.method.specs.Run.{ended}
 use Rattle.method.specs.Underway.{Underway}
-use Rattle.choice.specs.Forgotten.{Forgotten}
-use Rattle.choice.specs.Memory.{Memory}
+use Rattle.memory.specs.Forgotten.{Forgotten}
+use Rattle.memory.specs.Memory.{Memory}
 use Rattle.step.specs.declared.Progress.{Progress}
 use Rattle.run.specs.Runs.{Chooses}
 

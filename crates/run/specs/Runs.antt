@@ -9,8 +9,8 @@ use Rattle.packed.specs.Packed.{netIn, Lent, tableNumbers}
 use Rattle.packed.specs.declared.Shape.{Shape}
 use Rattle.method.specs.Choice.{Choice, choice}
 use Rattle.method.specs.Iteration.{State, initial, weight}
+use Rattle.memory.specs.Memory.{Memory}
 use Rattle.choice.specs.Calls.{Indexed}
-use Rattle.choice.specs.Memory.{Memory}
 
 -- What each part of a run is lent: an accepted network and both indexes of its arcs, with the capacities of its resources; a slice of this many numbers
 -- for the tables of the resources, and one for what a path uses.

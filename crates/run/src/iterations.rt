@@ -1,6 +1,6 @@
 // One iteration on the lent slices.
 use choice::ROOMS;
-use choice::memory::forget;
+use memory::pages::forget;
 use packed::LENGTHS;
 use packed::Shape;
 use step::Progress;
@@ -8,7 +8,7 @@ ghost use Prim.Native.Nat.{_≤_};
 ghost use lib.ListN.{length};
 ghost use Rattle.bounds.specs.Bounds.{mostNodes};
 ghost use Rattle.packed.specs.Packed.{netIn};
-ghost use Rattle.choice.specs.Memory.{memoryNumbers};
+ghost use Rattle.memory.specs.Memory.{memoryNumbers};
 ghost use Rattle.step.specs.Progress.{stateIn};
 ghost use Rattle.run.specs.Noted.{Iterating, Kept, Onward};
 ghost use Rattle.run.specs.Runs.{Space};

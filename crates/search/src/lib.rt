@@ -1,19 +1,15 @@
 // Distances to a sink by correcting labels: a node that has come nearer goes onto a list, and one after the other is taken out and the arcs into it
 // relaxed, until the list is empty. Which one is next is told by an order of the nodes, and a search leaves that to the next.
-pub mod fill;
-mod list;
-mod order;
 mod relax;
-mod sort;
 
-use crate::fill::fill;
-use crate::list::enlist;
-use crate::list::take_out;
-use crate::order::scan;
 use crate::relax::relax_into;
-use crate::sort::sort;
 use bounds::MOST_NODES;
 use packed::Shape;
+use page::fill::fill;
+use page::list::enlist;
+use page::list::take_out;
+use page::scan::scan;
+use page::sort::sort;
 ghost use mathlib.Core.Path.{_≡_};
 ghost use mathlib.Core.List.{_++_};
 ghost use Prim.Native.Nat.{_+_, _≤_, _<_};
@@ -29,12 +25,6 @@ pub const FAR_LENGTH: u64 = 0x8000_0000_0000;
 
 // A distance has the number of arcs beside the length: none of such a path is as far.
 const FAR: u64 = MOST_NODES * FAR_LENGTH;
-
-// A page has the distances by node, from place 0 on, and from this place on the nodes in the order in which a search looks at them.
-pub const ORDER: usize = MOST_NODES as usize + 1;
-
-// How many numbers that takes.
-pub const PAGE_NUMBERS: usize = ORDER + MOST_NODES as usize;
 
 // An order that a search has begun again so often is sorted for the next one.
 const MOST_ROUNDS: u64 = 2;

@@ -1,10 +1,10 @@
 // Relaxation: of one arc, and of all arcs into a node.
 // The network and the sink are taken for the contracts, which speak of them and of the search; the arcs are read from the index of those into each node.
-use crate::list::enlist;
 use bounds::MOST_NODES;
 use index::ARCS;
 use index::ENDS;
 use packed::Shape;
+use page::list::enlist;
 use paths::through;
 ghost use Prim.Native.Nat.{_+_, _<_};
 ghost use lib.ListN.{length};

@@ -12,8 +12,8 @@ use Rattle.packed.specs.declared.Shape.{Shape}
 use Rattle.method.specs.Iteration.{initial, weight}
 use Rattle.index.specs.Index.{indexNumbers}
 use Rattle.index.specs.Indexing.{Indexable}
+use Rattle.memory.specs.Memory.{memoryNumbers, Memory}
 use Rattle.choice.specs.Calls.{indexesNumbers}
-use Rattle.choice.specs.Memory.{memoryNumbers, Memory}
 use Rattle.step.specs.Progress.{stateIn, begun}
 
 -- The tables are those of the method's start, the memory holds by its lengths, and d is their D.

@@ -4,8 +4,8 @@ mod solves;
 
 use crate::solves::solve_in;
 use choice::INDEXES_NUMBERS;
-use choice::MEMORY_NUMBERS;
 use choice::PATH_NUMBERS;
+use memory::MEMORY_NUMBERS;
 use method::Answer;
 use packed::Shape;
 ghost use Rattle.packed.specs.Packed.{netIn, keptIn};

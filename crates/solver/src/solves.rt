@@ -3,8 +3,8 @@ use crate::outcomes::outcome;
 use choice::INTO;
 use choice::OUT;
 use choice::ROOMS;
-use choice::memory;
 use index::INDEX_NUMBERS;
+use memory::pages;
 use method::Answer;
 use packed::KEPT;
 use packed::LENGTHS;
@@ -46,8 +46,8 @@ fn prepare(
     loads::clear(&mut tables[LOADS..LOADS + m]);
     loads::clear(&mut tables[KEPT..KEPT + m]);
     loads::clear_flow(flow);
-    memory::begin(s.nodes, memory);
-    memory::forget(s.nodes, memory);
+    pages::begin(s.nodes, memory);
+    pages::forget(s.nodes, memory);
     weight
 }
 

@@ -10,7 +10,7 @@ use Rattle.bounds.specs.Bounds.{mostCommodities}
 use Rattle.network.specs.Network.{Network, source, sink}
 use Rattle.packed.specs.Packed.{netIn, sourcesFrom}
 use Rattle.packed.proofs.Columns.{part-at, commodities-is}
-use Rattle.choice.specs.Memory.{boundsIn, leastIn, memoryNumbers}
+use Rattle.memory.specs.Memory.{boundsIn, leastIn, memoryNumbers}
 use Rattle.choice.proofs.Selects.{selects-nothing, selects-closest, selects-path, selects-walk}
 use Rattle.choice.proofs.choose.Statement.{statement}
 use Rattle.choice.proofs.choose.Tie as tie

@@ -15,9 +15,8 @@ use Rattle.index.specs.Index.{indexNumbers}
 use Rattle.paths.specs.Order.{distanceNumbers}
 use Rattle.paths.specs.Through.{through}
 use Rattle.paths.proofs.NodeLengths.{through-is, node-small}
-use Rattle.choice.specs.Looked.{lengthBy}
-use Rattle.choice.specs.Memory.{pageFrom, distancesIn, boundsIn, Page}
-use Rattle.choice.specs.Raised.{toldBy}
+use Rattle.memory.specs.Memory.{pageFrom, distancesIn, boundsIn, Page}
+use Rattle.memory.specs.Raised.{toldBy, lengthBy}
 use Rattle.choice.proofs.Looks.{followed-walk, followed-none}
 use Rattle.choice.proofs.lazy.follow.Statement.{statement}
 use Rattle.choice.proofs.lazy.follow.Tie as tie

@@ -12,7 +12,7 @@ use Rattle.packed.specs.Packed.{netIn}
 use Rattle.packed.proofs.Columns.{commodities-is, part-length, put-length}
 use Rattle.paths.specs.Order.{pageNumbers}
 use Rattle.paths.proofs.NodeLengths.{through-is, node-small}
-use Rattle.choice.specs.Memory.{pageFrom, pageIn}
+use Rattle.memory.specs.Memory.{pageFrom, pageIn}
 use Rattle.choice.proofs.Looks.{looked}
 use Rattle.choice.proofs.lazy.look.Statement.{statement}
 use Rattle.choice.proofs.lazy.look.Tie as tie

@@ -12,8 +12,8 @@ use Rattle.bounds.specs.Bounds.{mostCommodities}
 use Rattle.network.specs.Network.{Network, commodities, sink}
 use Rattle.packed.specs.Packed.{netIn, sinksFrom}
 use Rattle.packed.proofs.Columns.{commodities-is, part-at}
+use Rattle.memory.specs.Memory.{boundsIn, leastAt, distancesIn, Known}
 use Rattle.choice.specs.Looked.{Looked, Followed}
-use Rattle.choice.specs.Memory.{boundsIn, leastAt, distancesIn, Known}
 use Rattle.choice.proofs.Slack.{slack}
 use Rattle.choice.proofs.Turns.{turn-falls, turn-noted}
 use Rattle.choice.proofs.lazy.nearest.Statement.{statement}

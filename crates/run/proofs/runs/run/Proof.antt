@@ -8,7 +8,7 @@ use Rattle.network.specs.Network.{Network}
 use Rattle.network.proofs.Sounds.{resources-within}
 use Rattle.packed.specs.Packed.{netIn}
 use Rattle.method.specs.Iteration.{State}
-use Rattle.choice.specs.Memory.{Memory}
+use Rattle.memory.specs.Memory.{Memory}
 use Rattle.step.specs.Progress.{stateIn}
 use Rattle.run.specs.Noted.{Noted, Iterated}
 use Rattle.run.proofs.Begun.{begin-noted, begin-running}

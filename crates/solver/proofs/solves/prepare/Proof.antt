@@ -11,7 +11,7 @@ use Rattle.network.proofs.Sounds.{sound-ends, room-within}
 use Rattle.method.specs.Iteration.{initial, weight}
 use Rattle.packed.specs.Packed.{part, put, netIn, lengthsFrom, loadsFrom, keptFrom}
 use Rattle.packed.proofs.Columns.{part-length, commodities-is}
-use Rattle.choice.proofs.Forgets.{begun-ordered, forgotten-memory}
+use Rattle.memory.proofs.Forgets.{begun-ordered, forgotten-memory}
 use Rattle.lengths.specs.Calls.{Startable}
 use Rattle.step.specs.Progress.{stateOf, begun}
 use Rattle.step.proofs.Tabled.{Tabled, tabled, part-size, with-lengths, with-loads, with-kept, in-slice}

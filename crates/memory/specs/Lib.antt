@@ -1,0 +1,5 @@
+pub mod Below
+pub mod Forgotten
+pub mod Least
+pub mod Memory
+pub mod Raised
