@@ -1,12 +1,11 @@
 // What every exported call that solves does, on byte slices: sizes and tables checked, then the call served with the office's own count. Document 01, "The floor and its flow".
-mod deliver;
 mod room;
 mod serve;
 
 use checks::numbers::host_number;
 use network::Verdict;
-ghost use Rattle.host.specs.Deliver.{slices};
-ghost use Rattle.host.specs.Host.{Hosted};
+ghost use Rattle.call.specs.Deliver.{slices};
+ghost use Rattle.call.specs.Host.{Hosted};
 
 // Solves the floor in the byte slices: 0 and the tables written, or a refusal's number * 1,000 + its place and no byte changed. A call with tables
 // of its own says whether one of them is too small (lacking), since that is refused here, in its place, and writes them once 0 is returned.

@@ -11,10 +11,10 @@ ghost use mathlib.Core.Path.{_≡_};
 ghost use Prim.Native.Nat.{_≤_};
 ghost use Rattle.bounds.specs.Bounds.{mostArcs, mostCommodities, offices};
 ghost use Rattle.network.specs.Verdict.{verdict};
-ghost use Rattle.host.specs.Deliver.{slices};
+ghost use Rattle.call.specs.Deliver.{slices};
 ghost use Rattle.numbers.specs.Numbers.{count};
-ghost use Rattle.host.specs.Host.{short, officeConditions};
-ghost use Rattle.host.specs.Serve.{callConditions};
+ghost use Rattle.call.specs.Host.{short, officeConditions};
+ghost use Rattle.call.specs.Serve.{callConditions};
 
 // A table is too small for what the call may write: one of its own, or one of those that every call has.
 fn short(

@@ -1,14 +1,14 @@
 // A call whose sizes have passed: its network read and checked, and the outcome delivered.
-use crate::deliver::deliver;
 use checks::items::check_items;
 use checks::numbers::host_number;
+use deliver::deliver;
 use network::Verdict;
 use packed::NET_NUMBERS;
 use packed::Shape;
 ghost use Rattle.packed.specs.Packed.{Packed};
 ghost use Rattle.decode.specs.Decode.{networkIn};
-ghost use Rattle.host.specs.Deliver.{slices};
-ghost use Rattle.host.specs.Serve.{Sizable, Judged};
+ghost use Rattle.call.specs.Deliver.{slices};
+ghost use Rattle.call.specs.Serve.{Sizable, Judged};
 
 // The call served, with a lent slice for the network.
 fn serve_in(

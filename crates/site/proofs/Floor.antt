@@ -7,9 +7,9 @@ use lib.ListN.{length}
 use Rattle.numbers.specs.Digits.{toBytes}
 use Rattle.numbers.specs.Numbers.{putAt}
 use Rattle.packed.specs.Part.{part, put}
-use Rattle.host.specs.Deliver.{slices}
-use Rattle.host.specs.Host.{Slices, Hosted}
-use Rattle.host.proofs.Equal.{same-slices}
+use Rattle.call.specs.Deliver.{slices}
+use Rattle.call.specs.Host.{Slices, Hosted}
+use Rattle.call.proofs.Equal.{same-slices}
 use Rattle.site.specs.Parts.{told, putOwn}
 use Rattle.site.specs.Site.{Site, precisionOf}
 use Rattle.site.specs.Turns.{partsOf, FloorServed}

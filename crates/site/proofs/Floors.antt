@@ -4,7 +4,7 @@ use Prim.Native.Nat.{ℕ, _+_, _<_}
 use native.Mathlib.Decide.{decLt}
 use native.Mathlib.Numerals.{add-one}
 use native.Mathlib.Omega.{arith}
-use Rattle.host.specs.Host.{Slices}
+use Rattle.call.specs.Host.{Slices}
 use Rattle.site.specs.Site.{Site, floorSent, sent}
 use Rattle.site.specs.Turns.{Guaranteed, FloorServed, FloorsServed}
 

@@ -16,11 +16,11 @@ use Rattle.packed.specs.Part.{part, put}
 use Rattle.packed.proofs.Columns.{part-length}
 use Rattle.packed.proofs.Replaced.{length-kept, part-early, part-late, drop-kept}
 use Rattle.network.proofs.HostNumber.{zero-accepted}
-use Rattle.host.specs.Host.{Slices, verdictIn, called, Served, Hosted}
-use Rattle.host.proofs.Equal.{same-slices}
-use Rattle.host.proofs.Hosts.{result-fits}
-use Rattle.host.proofs.Lengths.{lengths-kept}
-use Rattle.host.proofs.ReadBack.{taken-up}
+use Rattle.call.specs.Host.{Slices, verdictIn, called, Served, Hosted}
+use Rattle.call.proofs.Equal.{same-slices}
+use Rattle.call.proofs.Hosts.{result-fits}
+use Rattle.call.proofs.Lengths.{lengths-kept}
+use Rattle.call.proofs.ReadBack.{taken-up}
 use Rattle.site.specs.Parts.{told, own, putOwn}
 use Rattle.site.specs.Singly.{ownIn, Singly}
 use Rattle.site.specs.Site.{Site, networks, networkOf, precisionOf, lentTo, verdictOf, sent, listConditions, Sited}

@@ -6,7 +6,7 @@ use Rattle.network.specs.Verdict.{verdict, afterwards}
 use Rattle.network.specs.declared.Refusal.{Refusal}
 use Rattle.network.specs.declared.Verdict.the-variants.{Accepted, Refused}
 use Rattle.network.proofs.Decided.{no-refusal}
-use Rattle.host.specs.Host.{Slices}
+use Rattle.call.specs.Host.{Slices}
 use Rattle.site.specs.Site.{Site, networks, listConditions, Sited}
 use Rattle.site.specs.Turns.{FloorsServed}
 

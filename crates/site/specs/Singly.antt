@@ -5,8 +5,8 @@ use mathlib.Core.List.{List}
 use Prim.Native.Nat.{ℕ, suc, _*_, _<_}
 use lib.ListN.{drop}
 use Rattle.numbers.specs.Numbers.{count, numberAt}
-use Rattle.host.specs.Deliver.{slices}
-use Rattle.host.specs.Host.{Slices, Hosted}
+use Rattle.call.specs.Deliver.{slices}
+use Rattle.call.specs.Host.{Slices, Hosted}
 use Rattle.site.specs.Parts.{told, begins, own}
 use Rattle.site.specs.Site.{Site, networks, lentTo}
 

@@ -18,7 +18,7 @@ use Rattle.packed.specs.Part.{part, put}
 use Rattle.decode.specs.Decode.{networkIn}
 use Rattle.method.specs.Answer.{outcome}
 use Rattle.method.specs.Guarantee.{Guarantee}
-use Rattle.host.specs.Host.{Slices, verdictIn, called}
+use Rattle.call.specs.Host.{Slices, verdictIn, called}
 use Rattle.site.specs.Parts.{told, own, putOwn}
 
 -- What the call reads: the office, the list of floors, and the slices of which each floor has a part.

@@ -7,7 +7,7 @@ use Rattle.network.specs.declared.Verdict.the-variants.{Accepted}
 use Rattle.numbers.specs.Numbers.{count, items}
 use Rattle.method.specs.Answer.{outcome}
 use Rattle.method.specs.Guarantee.{Guarantee}
-use Rattle.host.specs.Host.{Slices}
+use Rattle.call.specs.Host.{Slices}
 use Rattle.site.specs.Parts.{begins, numbersIn}
 use Rattle.site.specs.Site.{Site, networkOf, precisionOf, verdictOf, floorSent, sent}
 use Rattle.site.specs.declared.parts.Parts.{Parts}

@@ -9,7 +9,7 @@ use network::Verdict;
 ghost use Prim.Native.Nat.{_<_};
 ghost use Rattle.bounds.specs.Bounds.{floorNumbers};
 ghost use Rattle.numbers.specs.Numbers.{items};
-ghost use Rattle.host.specs.Deliver.{slices};
+ghost use Rattle.call.specs.Deliver.{slices};
 ghost use Rattle.site.specs.Site.{Sited};
 ghost use Rattle.site.specs.Turns.{site, Listed, FloorServed, FloorsServed};
 

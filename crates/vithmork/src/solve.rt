@@ -1,6 +1,6 @@
 // The call that solves.
 ghost use mathlib.Core.Bool.{false};
-ghost use Rattle.host.specs.Host.{Hosted};
+ghost use Rattle.call.specs.Host.{Hosted};
 
 // Solves the floor in the byte slices: 0 and the tables written, or a refusal's number * 1,000 + its place and no byte changed.
 #[no_mangle]

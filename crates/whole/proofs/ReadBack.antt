@@ -13,8 +13,8 @@ use Rattle.numbers.specs.Numbers.{numberAt, written}
 use Rattle.numbers.proofs.Tables.{numberAt-written}
 use Rattle.decode.specs.Decode.{networkIn}
 use Rattle.method.specs.Answer.{Outcome, amounts, outcome}
-use Rattle.host.specs.Host.{Slices, verdictIn}
-use Rattle.host.proofs.ReadBack.{taken-up, accepted}
+use Rattle.call.specs.Host.{Slices, verdictIn}
+use Rattle.call.proofs.ReadBack.{taken-up, accepted}
 use Rattle.whole.specs.Rounded.{Rounded}
 use Rattle.whole.specs.Whole.{carried, lacks, totesOf, Whole}
 use Rattle.whole.proofs.Parted.{parted-length, parted-at}

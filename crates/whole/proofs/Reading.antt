@@ -16,8 +16,8 @@ use Rattle.decode.specs.Decode.{networkIn}
 use Rattle.decode.proofs.Items.{arcs-in, commodities-in, source-in}
 use Rattle.method.specs.Answer.{amounts, numbersOf, outcome}
 use Rattle.method.proofs.Drawn.{out-same}
-use Rattle.host.specs.Host.{Slices, Served}
-use Rattle.host.proofs.ReadBack.{amount-read, answer-read}
+use Rattle.call.specs.Host.{Slices, Served}
+use Rattle.call.proofs.ReadBack.{amount-read, answer-read}
 use Rattle.whole.specs.Read.{amountsIn, sentIn, Readable}
 use Rattle.whole.specs.Whole.{carried, parted, totesOf}
 use Rattle.whole.proofs.Parted.{parted-cong}

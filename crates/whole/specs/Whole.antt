@@ -11,7 +11,7 @@ use Rattle.network.specs.Verdict.{afterwards}
 use Rattle.numbers.specs.Numbers.{count, written}
 use Rattle.decode.specs.Decode.{networkIn}
 use Rattle.method.specs.Answer.{Outcome, amounts, outcome}
-use Rattle.host.specs.Host.{Slices, verdictIn, Hosted}
+use Rattle.call.specs.Host.{Slices, verdictIn, Hosted}
 
 -- What commodity i carries in the flow f: what leaves its source less what enters it, which is nothing in the solver's table.
 unfoldable pub carried : Network → (ℕ → ℕ → ℤ) → ℕ → ℕ

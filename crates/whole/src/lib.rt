@@ -4,7 +4,7 @@ mod sent;
 ghost use mathlib.Core.Path.{_≡_};
 ghost use Prim.Native.Nat.{_+_, _*_, _/_, _%_, _<_};
 ghost use Rattle.numbers.specs.Numbers.{count, items, numberAt, written, putAt};
-ghost use Rattle.host.specs.Deliver.{slices};
+ghost use Rattle.call.specs.Deliver.{slices};
 ghost use Rattle.whole.specs.Read.{sentIn, Readable};
 ghost use Rattle.whole.specs.Whole.{parted, Whole};
 

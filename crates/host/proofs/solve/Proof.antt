@@ -12,11 +12,11 @@ use Rattle.network.specs.Verdict.{Condition, verdict}
 use Rattle.network.specs.declared.Verdict.the-variants.{Accepted}
 use Rattle.decode.specs.Calls.{Shaped}
 use Rattle.decode.specs.Decode.{networkIn}
-use Rattle.host.specs.Deliver.{slices}
-use Rattle.host.specs.Host.{Slices, hostConditions, verdictIn}
-use Rattle.host.specs.Serve.{callConditions}
-use Rattle.host.proofs.Hosts.{an-office, has-counts, has-count, open-for, call-fits, call-counts, call-open, refused-in, accepted-in}
-use Rattle.host.proofs.Judged.{judged-of, served-refused, served-own}
+use Rattle.call.specs.Deliver.{slices}
+use Rattle.call.specs.Host.{Slices, hostConditions, verdictIn}
+use Rattle.call.specs.Serve.{callConditions}
+use Rattle.call.proofs.Hosts.{an-office, has-counts, has-count, open-for, call-fits, call-counts, call-open, refused-in, accepted-in}
+use Rattle.call.proofs.Judged.{judged-of, served-refused, served-own}
 use Rattle.host.proofs.solve.Statement.{statement}
 use Rattle.host.proofs.solve.Tie as tie
 

@@ -5,8 +5,8 @@ use mathlib.Core.Path.{_≡_, sym, ap, _∙_}
 use Rattle.network.specs.Refusal.{hostNumber}
 use Rattle.network.specs.Verdict.{verdict}
 use Rattle.network.specs.declared.Verdict.the-variants.{Accepted}
-use Rattle.host.specs.Deliver.{slices}
-use Rattle.host.specs.Host.{Slices}
+use Rattle.call.specs.Deliver.{slices}
+use Rattle.call.specs.Host.{Slices}
 use Rattle.site.specs.Site.{Site, listConditions}
 use Rattle.site.specs.Turns.{site}
 use Rattle.site.proofs.Listed.{listed, list-fits}

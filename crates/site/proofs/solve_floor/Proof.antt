@@ -11,8 +11,8 @@ use Rattle.numbers.specs.Numbers.{count, numberAt}
 use Rattle.numbers.proofs.Columns.{member-below}
 use Rattle.packed.specs.Part.{put}
 use Rattle.packed.proofs.Columns.{part-length, put-length}
-use Rattle.host.specs.Deliver.{slices}
-use Rattle.host.specs.Host.{Slices}
+use Rattle.call.specs.Deliver.{slices}
+use Rattle.call.specs.Host.{Slices}
 use Rattle.site.specs.Site.{Site}
 use Rattle.site.specs.Turns.{site}
 use Rattle.site.proofs.Fitting.{Fitting, fitting}

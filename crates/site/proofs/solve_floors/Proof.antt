@@ -8,8 +8,8 @@ use native.Mathlib.Omega.{arith}
 use lib.ListN.{length}
 use Rattle.bounds.specs.Bounds.{floorNumbers}
 use Rattle.numbers.specs.Numbers.{items}
-use Rattle.host.specs.Deliver.{slices}
-use Rattle.host.specs.Host.{Slices}
+use Rattle.call.specs.Deliver.{slices}
+use Rattle.call.specs.Host.{Slices}
 use Rattle.site.specs.Turns.{site, FloorsServed}
 use Rattle.site.proofs.Floors.{none-yet, one-more}
 use Rattle.site.proofs.solve_floors.Statement.{statement}

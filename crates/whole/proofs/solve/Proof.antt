@@ -11,9 +11,9 @@ use Rattle.network.specs.declared.Verdict.the-variants.{Accepted}
 use Rattle.numbers.specs.Numbers.{written}
 use Rattle.decode.specs.Decode.{networkIn}
 use Rattle.decode.proofs.Items.{commodities-in}
-use Rattle.host.specs.Deliver.{slices}
-use Rattle.host.specs.Host.{Slices, verdictIn, Hosted}
-use Rattle.host.proofs.ReadBack.{taken-up, answered, turned-down, had-room}
+use Rattle.call.specs.Deliver.{slices}
+use Rattle.call.specs.Host.{Slices, verdictIn, Hosted}
+use Rattle.call.proofs.ReadBack.{taken-up, answered, turned-down, had-room}
 use Rattle.whole.specs.Whole.{lacks}
 use Rattle.whole.proofs.Reading.{totes-are, readable}
 use Rattle.whole.proofs.solve.Statement.{statement}

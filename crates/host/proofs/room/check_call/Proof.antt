@@ -5,9 +5,9 @@ use mathlib.Core.Path.{sym, _∙_}
 use Rattle.network.proofs.Decided.{accepted-quiet}
 use Rattle.network.proofs.First.{refused-first, accepted-first, decides, passes}
 use Rattle.network.proofs.Sizes.{sizes-kept}
-use Rattle.host.specs.Deliver.{slices}
-use Rattle.host.specs.Host.{Slices, hostConditions}
-use Rattle.host.proofs.Hosts.{room}
+use Rattle.call.specs.Deliver.{slices}
+use Rattle.call.specs.Host.{Slices, hostConditions}
+use Rattle.call.proofs.Hosts.{room}
 use Rattle.host.proofs.room.check_call.Statement.{statement}
 use Rattle.host.proofs.room.check_call.Tie as tie
 

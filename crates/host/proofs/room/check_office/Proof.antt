@@ -9,7 +9,8 @@ use Rattle.bounds.specs.Bounds.{mostRunning, offices}
 use Rattle.network.specs.Sound.{Within}
 use Rattle.network.proofs.Bounds.{within}
 use Rattle.network.proofs.First.{decides, passes, none-left}
-use Rattle.host.specs.Host.{countOf, officeConditions}
+use Rattle.call.specs.Host.{countOf, officeConditions}
+use Rattle.call.proofs.Hosts.{no-office}
 use Rattle.host.proofs.room.check_office.Statement.{statement}
 use Rattle.host.proofs.room.check_office.Tie as tie
 
@@ -26,8 +27,7 @@ read-requires : tie.Need-read-requires
 read-requires c κs = omega (arith, an-office c .least, an-office c .most, entry c .pre)
 
 returns : tie.Need-returns
-unfolding officeConditions
-returns c = decides _ (c .before .outside .ensures) (c .if1 .taken)
+returns c = no-office _ _ (sym (c .before .outside .ensures) ∙ c .if1 .taken)
 
 returns-2 : tie.Need-returns-2
 unfolding officeConditions

@@ -9,7 +9,7 @@ use native.Mathlib.Nat.{mul-le-mul}
 use native.Mathlib.Omega.{arith}
 use Rattle.bounds.specs.Bounds.{answerNumbers}
 use Rattle.numbers.specs.Numbers.{count}
-use Rattle.host.specs.Host.{short}
+use Rattle.call.specs.Host.{short}
 use Rattle.host.proofs.room.short.Statement.{statement}
 use Rattle.host.proofs.room.short.Tie as tie
 

@@ -9,9 +9,9 @@ use Rattle.network.specs.Resources.{resources}
 use Rattle.network.specs.Verdict.{verdict, itemConditions}
 use Rattle.network.specs.declared.Verdict.the-variants.{Accepted}
 use Rattle.packed.specs.Packed.{netIn, Packed}
-use Rattle.host.specs.Deliver.{slices}
-use Rattle.host.specs.Host.{Slices}
-use Rattle.host.proofs.Judged.{fits, lends, judged-of, served-refused, served-accepted}
+use Rattle.call.specs.Deliver.{slices}
+use Rattle.call.specs.Host.{Slices}
+use Rattle.call.proofs.Judged.{fits, lends, judged-of, served-refused, served-accepted}
 use Rattle.host.proofs.serve.serve_in.Statement.{statement}
 use Rattle.host.proofs.serve.serve_in.Tie as tie
 

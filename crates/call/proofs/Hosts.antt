@@ -13,24 +13,25 @@ use Rattle.network.specs.Resources.{resources}
 use Rattle.network.specs.Sound.{Within, Counts}
 use Rattle.network.specs.Verdict.{Condition, verdict, outside, sizeConditions, itemConditions, verdictOn}
 use Rattle.network.specs.declared.Refusal.{Refusal}
+use Rattle.network.specs.declared.Refusal.the-variants.{Office}
 use Rattle.network.specs.declared.Verdict.{Verdict}
 use Rattle.network.specs.declared.Verdict.the-variants.{Accepted, Refused}
 use Rattle.network.proofs.Bounds.{within}
 use Rattle.network.proofs.Decided.{Quiet, accepted-quiet, quiet-accepted, refusal-has}
 use Rattle.network.proofs.Each.{Each, none, more, each-append, each-left, each-right}
-use Rattle.network.proofs.First.{first-refuses, first-accepts}
+use Rattle.network.proofs.First.{decides, first-refuses, first-accepts}
 use Rattle.network.proofs.HostNumber.{verdict-fits, items-fit}
 use Rattle.network.proofs.Or.{or-false-left, or-false-right}
 use Rattle.network.proofs.Sizes.{sizes-kept}
 use Rattle.numbers.specs.Numbers.{count, items}
 use Rattle.packed.specs.declared.Shape.{Shape}
 use Rattle.numbers.proofs.Columns.{length-column}
-use Rattle.host.specs.Deliver.{slices, Room, Open}
+use Rattle.call.specs.Deliver.{slices, Room, Open}
 use Rattle.decode.specs.Calls.{Shaped}
 use Rattle.decode.specs.Decode.{networkIn}
-use Rattle.host.specs.Host.{Slices, countOf, short, officeConditions, hostConditions, verdictIn}
-use Rattle.host.specs.Serve.{callConditions}
-use Rattle.host.proofs.Offices.{own, own-complete, own-count}
+use Rattle.call.specs.Host.{Slices, countOf, short, officeConditions, hostConditions, verdictIn}
+use Rattle.call.specs.Serve.{callConditions}
+use Rattle.call.proofs.Offices.{own, own-complete, own-count}
 
 -- Nothing is short: each table has its room, and the call lacks none of its own.
 pub room : (lacking : Bool) (k m r : ℕ) (s : Slices) → short lacking k m r s ≡ false →
@@ -48,6 +49,11 @@ room lacking k m r s h =
       ltb-false _ _ (or-false-right (ltb (count (s .flow)) (k * m) || ltb (count (s .lengths)) r || ltb (count (s .answer)) answerNumbers) _ four),
       or-false-left lacking _ h,
     )
+
+-- 16 comes before 11: what is no office has no count.
+pub no-office : (office : ℕ) (counts : List ℕ) → outside 1 offices office ≡ true → Refused Office ≡ verdict (officeConditions office counts)
+unfolding officeConditions
+no-office office counts h = decides _ refl h
 
 passed : (lacking : Bool) (k m r office : ℕ) (s : Slices) → Quiet (hostConditions lacking k m r office s) →
     (short lacking k m r s ≡ false) × (outside 1 offices office ≡ false) × (ltb mostRunning (countOf office (s .counts)) ≡ false)

@@ -22,10 +22,10 @@ use Rattle.numbers.proofs.Signed.{signed-read}
 use Rattle.numbers.proofs.Tables.{numberAt-written}
 use Rattle.method.specs.Answer.{amounts, numbersOf, outcome}
 use Rattle.method.specs.Fits.{Words}
-use Rattle.host.specs.Deliver.{Room}
-use Rattle.host.specs.Host.{Slices, countOf, raised, hostConditions, verdictIn, solved, Served}
-use Rattle.host.proofs.Counting.{count-small}
-use Rattle.host.proofs.Hosts.{lacks-none, has-count, not-full, open-for}
+use Rattle.call.specs.Deliver.{Room}
+use Rattle.call.specs.Host.{Slices, countOf, raised, hostConditions, verdictIn, solved, Served}
+use Rattle.call.proofs.Counting.{count-small}
+use Rattle.call.proofs.Hosts.{lacks-none, has-count, not-full, open-for}
 
 -- What an accepted call leaves, and a number written into a table.
 pub taken-up : {A : Type 0} {v : Verdict} → v ≡ Accepted → (x y : A) → afterwards v x y ≡ x

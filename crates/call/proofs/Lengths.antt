@@ -13,8 +13,8 @@ use Rattle.network.specs.declared.Verdict.the-variants.{Accepted, Refused}
 use Rattle.numbers.proofs.Tables.{length-written}
 use Rattle.method.specs.Answer.{numbersOf, outcome}
 use Rattle.method.specs.Guarantee.{Guarantee}
-use Rattle.host.specs.Host.{Slices, verdictIn, called}
-use Rattle.host.proofs.ReadBack.{had-room}
+use Rattle.call.specs.Host.{Slices, verdictIn, called}
+use Rattle.call.proofs.ReadBack.{had-room}
 
 module _ (lacking : Bool) (net : Network) (q office : ℕ) (old : Slices) (g : verdictIn lacking net q office old ≡ Accepted → Guarantee net q (outcome net q)) where
   lengths-after : (v : Verdict) → verdictIn lacking net q office old ≡ v →

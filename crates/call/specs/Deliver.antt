@@ -9,7 +9,7 @@ use Rattle.numbers.specs.Numbers.{count, written}
 use Rattle.method.specs.Answer.{outcome}
 use Rattle.method.specs.Guarantee.{Guarantee}
 use Rattle.method.specs.declared.Answer.{Answer}
-use Rattle.host.specs.Host.{Slices, countOf, solved}
+use Rattle.call.specs.Host.{Slices, countOf, solved}
 
 -- The four slices, for the contracts of parts.
 abbrev pub slices : List ℕ → List ℕ → List ℕ → List ℕ → Slices

@@ -1,9 +1,9 @@
--- `host::deliver::raise_count` meets its contract. Assumes nothing.
+-- `deliver::raise_count` meets its contract. Assumes nothing.
 use borrow.Author.Needs.{needs}
 use mathlib.Core.Path.{_∙_}
 use native.Mathlib.Omega.{arith}
-use Rattle.host.proofs.deliver.raise_count.Statement.{statement}
-use Rattle.host.proofs.deliver.raise_count.Tie as tie
+use Rattle.deliver.proofs.raise_count.Statement.{statement}
+use Rattle.deliver.proofs.raise_count.Tie as tie
 
 add-sum : tie.Need-add-sum
 add-sum c = omega (arith, c .read .ensures, c .before .before .before .pre .1)

@@ -1,15 +1,15 @@
--- `host::deliver::deliver` meets its contract: tables, answer and running count take their parts of the outcome. Assumes nothing.
+-- `deliver::deliver` meets its contract: tables, answer and running count take their parts of the outcome. Assumes nothing.
 use borrow.Author.Needs.{needs}
 use denote.Ref.{now}
 use mathlib.Core.Path.{ap, _∙_}
 use native.Mathlib.Omega.{arith}
 use Rattle.numbers.specs.Numbers.{written}
 use Rattle.method.specs.Answer.{numbersOf}
-use Rattle.host.specs.Host.{raised}
-use Rattle.host.proofs.Counting.{count-small}
-use Rattle.host.proofs.Equal.{same-slices}
-use Rattle.host.proofs.deliver.deliver.Statement.{statement}
-use Rattle.host.proofs.deliver.deliver.Tie as tie
+use Rattle.call.specs.Host.{raised}
+use Rattle.call.proofs.Counting.{count-small}
+use Rattle.call.proofs.Equal.{same-slices}
+use Rattle.deliver.proofs.deliver.Statement.{statement}
+use Rattle.deliver.proofs.deliver.Tie as tie
 
 -- from each call back to the one before it, and from the first to the function's entry
 abbrev entry : tie.After-write-tables → tie.Start

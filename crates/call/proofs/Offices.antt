@@ -11,7 +11,7 @@ use Rattle.numbers.specs.Digits.{fromBytes}
 use Rattle.numbers.specs.Numbers.{count, numberAt, putAt}
 use Rattle.packed.specs.Packed.{part, put}
 use Rattle.packed.proofs.Columns.{part-length}
-use Rattle.host.specs.Host.{countOf, raised}
+use Rattle.call.specs.Host.{countOf, raised}
 
 module _ (office : ℕ) (counts : List ℕ) (h : office - 1 < count counts) where
   abbrev pub own : List ℕ

@@ -7,8 +7,8 @@ use Rattle.network.specs.Sound.{Counts}
 use Rattle.network.specs.Verdict.{Condition, verdict, sizeConditions, itemConditions}
 use Rattle.packed.specs.declared.Shape.{Shape}
 use Rattle.decode.specs.Calls.{Shaped}
-use Rattle.host.specs.Deliver.{Open}
-use Rattle.host.specs.Host.{Slices, hostConditions, Served}
+use Rattle.call.specs.Deliver.{Open}
+use Rattle.call.specs.Host.{Slices, hostConditions, Served}
 
 -- 1 to 5, 11, 15 and 16, for n nodes, m arcs, r resources, k commodities and precision q: what is looked at before an item is read.
 abbrev pub callConditions : Bool → ℕ → ℕ → ℕ → ℕ → ℕ → ℕ → Slices → List Condition

@@ -2,7 +2,7 @@
 use mathlib.Core.Path.{_≡_, ap₂, _∙_}
 use mathlib.Core.List.{List}
 use Prim.Native.Nat.{ℕ}
-use Rattle.host.specs.Deliver.{slices}
+use Rattle.call.specs.Deliver.{slices}
 
 pub same-slices :
     {flow flow' lengths lengths' answer answer' counts counts' : List ℕ} → flow ≡ flow' → lengths ≡ lengths' → answer ≡ answer' → counts ≡ counts' →

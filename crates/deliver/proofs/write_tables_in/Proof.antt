@@ -1,4 +1,4 @@
--- `host::deliver::write_tables_in` meets its contract: each table takes its part of the outcome. Assumes nothing.
+-- `deliver::write_tables_in` meets its contract: each table takes its part of the outcome. Assumes nothing.
 use borrow.Author.Needs.{needs}
 use denote.Ref.{now}
 use mathlib.Core.Path.{_≡_, ap, ap₂, _∙_}
@@ -14,8 +14,8 @@ use Rattle.signed.specs.Signed.{twos}
 use Rattle.numbers.specs.Numbers.{written}
 use Rattle.packed.specs.Packed.{keptFrom, keptIn}
 use Rattle.packed.proofs.Columns.{arcs-is, commodities-is, part-length}
-use Rattle.host.proofs.deliver.write_tables_in.Statement.{statement}
-use Rattle.host.proofs.deliver.write_tables_in.Tie as tie
+use Rattle.deliver.proofs.write_tables_in.Statement.{statement}
+use Rattle.deliver.proofs.write_tables_in.Tie as tie
 
 -- from each call back to the one before it, and from the first to the function's entry
 abbrev entry : tie.After-solve → tie.Start

@@ -19,10 +19,10 @@ use Rattle.packed.specs.Packed.{put, netIn, Packed, Lent}
 use Rattle.packed.specs.declared.Shape.{Shape}
 use Rattle.packed.proofs.Columns.{arcs-is, commodities-is}
 use Rattle.method.specs.Answer.{outcome}
-use Rattle.host.specs.Deliver.{slices, Delivered}
-use Rattle.host.specs.Host.{Slices, solved, called, Served}
-use Rattle.host.specs.Serve.{Judged}
-use Rattle.host.proofs.Offices.{own, own-raised, own-kept}
+use Rattle.call.specs.Deliver.{slices, Delivered}
+use Rattle.call.specs.Host.{Slices, solved, called, Served}
+use Rattle.call.specs.Serve.{Judged}
+use Rattle.call.proofs.Offices.{own, own-raised, own-kept}
 
 module _ {s : Shape} {xs : List ℕ} (p : Packed s xs) (q : ℕ) (k : Counts (s .nodes) (s .arcs) (s .resources) (s .commodities) q)
     (r : s .resources ≡ resources (netIn s xs)) where

@@ -13,8 +13,8 @@ ghost use Rattle.numbers.specs.Numbers.{count, written};
 ghost use Rattle.method.specs.Answer.{numbersOf};
 ghost use Rattle.packed.specs.Packed.{netIn, Lent};
 ghost use Rattle.solver.specs.Solved.{Solving};
-ghost use Rattle.host.specs.Deliver.{slices, Room, Open, TablesWritten, Delivered};
-ghost use Rattle.host.specs.Host.{countOf, raised};
+ghost use Rattle.call.specs.Deliver.{slices, Room, Open, TablesWritten, Delivered};
+ghost use Rattle.call.specs.Host.{countOf, raised};
 
 // The seven numbers of the answer.
 fn put_answer(a: Answer, answer: &mut [u8])

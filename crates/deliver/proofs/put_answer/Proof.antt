@@ -1,8 +1,8 @@
--- `host::deliver::put_answer` meets its contract. Assumes nothing.
+-- `deliver::put_answer` meets its contract. Assumes nothing.
 use borrow.Author.Needs.{needs}
 use Rattle.method.specs.Answer.{numbersOf}
-use Rattle.host.proofs.deliver.put_answer.Statement.{statement}
-use Rattle.host.proofs.deliver.put_answer.Tie as tie
+use Rattle.deliver.proofs.put_answer.Statement.{statement}
+use Rattle.deliver.proofs.put_answer.Tie as tie
 
 returns : tie.Need-returns
 unfolding numbersOf

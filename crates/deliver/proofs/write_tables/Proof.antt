@@ -1,4 +1,4 @@
--- `host::deliver::write_tables` meets its contract: the work space is large enough for every accepted network. Assumes nothing.
+-- `deliver::write_tables` meets its contract: the work space is large enough for every accepted network. Assumes nothing.
 use borrow.Author.Needs.{needs}
 use mathlib.Core.Path.{sym, ap₂, _∙_}
 use Prim.Native.Nat.{_*_, _≤_}
@@ -7,8 +7,8 @@ use lib.IntN.{pos}
 use lib.ListN.{replicate, length-replicate}
 use lib.Seq.{length-take-le}
 use Rattle.packed.proofs.Columns.{arcs-is, commodities-is}
-use Rattle.host.proofs.deliver.write_tables.Statement.{statement}
-use Rattle.host.proofs.deliver.write_tables.Tie as tie
+use Rattle.deliver.proofs.write_tables.Statement.{statement}
+use Rattle.deliver.proofs.write_tables.Tie as tie
 
 -- 32 commodities on 256 arcs
 few : (s : tie.Start) → s .args .s .commodities * s .args .s .arcs ≤ 8192
