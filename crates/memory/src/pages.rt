@@ -1,4 +1,4 @@
-// The pages, as a run begins and after a halving: bounds and distances are forgotten then, since zeros are feasible whatever the lengths. The orders
+// What is remembered, as a run begins and after a halving: bounds and distances are forgotten then, since zeros are feasible whatever the lengths. The orders
 // are kept, which serve by any lengths.
 use crate::LEAST;
 use crate::PAGES;
