@@ -12,7 +12,7 @@ named=6 sum=0 sums=()
 while read -r file; do
     count=$(lines "$file") sum=$((sum + count))
     case $file in bounds/specs/Bounds.antt | method/specs/Fits.antt) named=$((named + count)) ;; esac
-    case $file in host/specs/Host.antt | whole/specs/Whole.antt | site/specs/Site.antt) sums+=("$sum") sum=0 ;; esac
+    case $file in call/specs/Host.antt | whole/specs/Whole.antt | site/specs/Site.antt) sums+=("$sum") sum=0 ;; esac
 done < <(sed -nE "s#$row.*#\1#p" "$page")
 solve=${sums[0]} whole=${sums[1]} site=${sums[2]}
 

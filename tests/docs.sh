@@ -99,7 +99,7 @@ while IFS='|' read -r _ file _; do
     done
     read_so_far="$read_so_far$file "
 done < <(grep -E '^\| `[a-z_]+/specs/[A-Za-z]+\.antt` \| [0-9]+ \|' "$page")
-for contract in host/specs/Host whole/specs/Whole site/specs/Site dimacs/specs/Result report/specs/Listed records/specs/Records; do
+for contract in call/specs/Host whole/specs/Whole site/specs/Site dimacs/specs/Result report/specs/Listed records/specs/Records; do
     case $read_so_far in *" $contract.antt "*) ;; *) fault "$page: lacks $contract" ;; esac
 done
 
