@@ -2,7 +2,7 @@
 // contracts.
 use crate::ORDER;
 ghost use Prim.Native.Nat.{_≤_};
-ghost use Rattle.paths.specs.Listing.{Listing, Enlisted, TakenOut};
+ghost use Rattle.paths.specs.Listing.{Listing, Met, TakenOut};
 ghost use Rattle.paths.specs.Scan.{Taking};
 
 // The node at this place of the order leaves the list.
@@ -15,16 +15,19 @@ pub fn take_out(n: u64, page: &[u64], at: usize, listed: &mut [u64], size: usize
     v
 }
 
-// Node v comes onto the list, unless it is there. How many are on it now.
-pub fn enlist(n: u64, v: u64, listed: &mut [u64], size: usize) -> usize
+// Node v comes onto the list where come says so, unless it is there. How many are on it now. The flag is written in any case: a jump over that would often be
+// foretold wrongly, which costs more.
+pub fn enlist(come: bool, n: u64, v: u64, listed: &mut [u64], size: usize) -> usize
     requires listing { ⌜ Listing n (now listed) size ⌝ }
     requires node { ⌜ (1 ≤ v) × (v ≤ n) ⌝ }
-    ensures { λ r. ⌜ Enlisted n (now (listed .entry)) size v (now (listed .exit)) r ⌝ }
+    ensures { λ r. ⌜ Met come n (now (listed .entry)) size v (now (listed .exit)) r ⌝ }
 {
     let at = v as usize;
-    if listed[at] != 0 {
-        return size;
+    let was = listed[at];
+    let mut flag = was;
+    if come {
+        flag = 1;
     }
-    listed[at] = 1;
-    size + 1
+    listed[at] = flag;
+    size + (flag - was) as usize
 }

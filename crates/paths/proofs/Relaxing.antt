@@ -7,8 +7,9 @@ use mathlib.Core.List.{List, [], _∷_}
 use Prim.Native.Nat.{ℕ, zero, suc, _≤_, _<_}
 use native.Mathlib.Omega.{arith}
 use lib.ListN.{length, getD, set, length-set}
-use lib.Seq.{getD-set-same}
+use lib.Seq.{getD-set-same, set-getD}
 use borrow.Author.Tests.{ltb-true, ltb-false, lt-ltb, le-ltb}
+use lib.Dec.{ltb}
 use Rattle.arith.proofs.Sums.{sum-lt}
 use Rattle.network.specs.Network.{Network}
 use Rattle.paths.specs.Distances.{via}
@@ -23,10 +24,13 @@ set-entry (a ∷ d) zero x (suc u) = inl refl
 set-entry (a ∷ d) (suc v) x zero = inl refl
 set-entry (a ∷ d) (suc v) x (suc u) = ⊎-elim inl (λ (h : (u ≡ v) × (getD (set d v x) u 0 ≡ x)). inr (ap suc (h .0), h .1)) (set-entry d v x u)
 
--- The way y is compared with the distance of where it starts, and stored there if it is nearer.
+-- The way y is compared with the distance of where it starts, and the nearer of the two stored there; or nothing is, where that is as before.
 module _ {d : List ℕ} {u y : ℕ} where
-  pub takes : y < getD d u 0 → Taken y u d true (set d u y)
-  takes b = let t = lt-ltb y (getD d u 0) b in record { told = sym t; entries = rw t refl }
+  pub takes : {x : ℕ} → y < getD d u 0 → x ≡ y → Taken y u d (ltb y (getD d u 0)) (set d u x)
+  takes b e = record { told = refl; entries = rw (lt-ltb y (getD d u 0) b, e) refl }
+
+  pub takes-back : {x : ℕ} → getD d u 0 ≤ y → x ≡ getD d u 0 → Taken y u d (ltb y (getD d u 0)) (set d u x)
+  takes-back b e = record { told = refl; entries = rw (le-ltb y (getD d u 0) b, e) (set-getD d u 0) }
 
   pub takes-not : getD d u 0 ≤ y → Taken y u d false d
   takes-not b = let t = le-ltb y (getD d u 0) b in record { told = sym t; entries = rw t refl }

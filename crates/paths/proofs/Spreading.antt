@@ -17,7 +17,7 @@ use Rattle.network.specs.Path.{leads}
 use Rattle.network.specs.Resources.{nodeLength}
 use Rattle.paths.specs.Distances.{via, over}
 use Rattle.index.specs.Index.{arcAt, endAt}
-use Rattle.paths.specs.Listing.{Enlisted}
+use Rattle.paths.specs.Listing.{Enlisted, Met}
 use Rattle.paths.specs.Order.{Ordered}
 use Rattle.paths.specs.Relax.{shortens, relaxed}
 use Rattle.paths.specs.Searching.{Searching, Passed, Spread}
@@ -86,7 +86,7 @@ module _ {net : Network} {into l : List ℕ} {t v a p u e : ℕ} {d listed : Lis
       })
 
   -- It does: its start is on the list.
-  pub searching-spread :
+  searching-spread :
       {x listed′ : List ℕ} {r : ℕ} → net .nodes ≤ mostNodes → shortens l d a u e v ≡ true → x ≡ relaxed l d a u e v → Enlisted (net .nodes) listed size u listed′ r →
       Spread net l t (Passed into v (p + 1)) d size x listed′ r
   searching-spread {listed′ = listed′} few shorter q E =
@@ -111,3 +111,10 @@ module _ {net : Network} {into l : List ℕ} {t v a p u e : ℕ} {d listed : Lis
           (λ (w : getD (relaxed l d a u e v) x 0 ≡ getD d x 0). w)
           (λ (w : Shortened l d a u e v (relaxed l d a u e v) x). absurd (omega (arith, E .has, ap (λ k. getD listed′ k 0) (w .at))))
           (relaxed-entry l d a u e v x)
+
+  -- Either: its start comes onto the list where it does.
+  pub searching-met :
+      {x listed′ : List ℕ} {r : ℕ} (b : Bool) → net .nodes ≤ mostNodes → b ≡ shortens l d a u e v → x ≡ relaxed l d a u e v →
+      Met b (net .nodes) listed size u listed′ r → Spread net l t (Passed into v (p + 1)) d size x listed′ r
+  searching-met true few told q M = searching-spread few (sym told) q (M .came refl)
+  searching-met false few told q M = let (same, none) = M .stayed refl in rw (same, none) (searching-still (sym told) q)

@@ -62,7 +62,7 @@ fn distances_in(
 {
     let n = s.nodes;
     reset(n, sink, page);
-    let mut size = enlist(n, sink, listed, 0);
+    let mut size = enlist(true, n, sink, listed, 0);
     let mut from = 0;
     let mut rounds = 0;
     while size > 0 {

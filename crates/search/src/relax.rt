@@ -6,21 +6,45 @@ use index::ENDS;
 use packed::Shape;
 use page::list::enlist;
 use paths::through;
-ghost use Prim.Native.Nat.{_+_, _<_};
-ghost use lib.ListN.{length};
+ghost use mathlib.Core.Path.{_≡_};
+ghost use mathlib.Core.Bool.{true};
+ghost use Prim.Native.Nat.{_+_, _≤_, _<_};
+ghost use lib.ListN.{length, getD};
 ghost use Rattle.packed.specs.Packed.{netIn};
 ghost use Rattle.paths.specs.Calls.{Reaching, Entering};
 ghost use Rattle.paths.specs.Relax.{Taken};
 ghost use Rattle.paths.specs.Searching.{Any, Passed, Spread, Reached};
 
-// A way from u that is so far is taken where it is nearer; whether it is.
+// A way from u that is so far is taken where it is nearer; whether it is. The entry is written in any case: which of the two is the nearer cannot be foretold,
+// and a wrong guess costs more than a store.
 fn relax(way: u64, u: usize, dist: &mut [u64]) -> bool
     requires { ⌜ u < length (now dist) ⌝ }
     ensures { λ r. ⌜ Taken way u (now (dist .entry)) r (now (dist .exit)) ⌝ }
 {
-    if way < dist[u] {
-        dist[u] = way;
-        return true;
+    let old = dist[u];
+    let mut nearest = old;
+    if way < old {
+        nearest = way;
+    }
+    dist[u] = nearest;
+    way < old
+}
+
+// There are more arcs than nodes, so that many of them stand side by side: few then are nearer, and stores to one entry wait for each other.
+fn crowded(begin: usize, end: usize) -> bool {
+    if end <= begin {
+        return false;
+    }
+    end - begin > MOST_NODES as usize
+}
+
+// There a look before saves the store. Where it says so, the way is no nearer.
+fn passed_by(crowd: bool, way: u64, u: usize, dist: &[u64]) -> bool
+    requires { ⌜ u < length (now dist) ⌝ }
+    ensures { λ r. ⌜ (r ≡ true → getD (now (dist .entry)) u 0 ≤ way) ⌝ }
+{
+    if crowd {
+        return way >= dist[u];
     }
     false
 }
@@ -35,6 +59,7 @@ fn reach(
     sink: u64,
     v: u64,
     onward: u64,
+    crowd: bool,
     p: usize,
     dist: &mut [u64],
     listed: &mut [u64],
@@ -45,10 +70,12 @@ fn reach(
 {
     let e = into[ARCS + p] as usize;
     let u = into[ENDS + p];
-    if relax(MOST_NODES * lengths[e] + onward, u as usize, dist) {
-        return enlist(s.nodes, u, listed, size);
+    let way = MOST_NODES * lengths[e] + onward;
+    if passed_by(crowd, way, u as usize, dist) {
+        return size;
     }
-    size
+    let nearer = relax(way, u as usize, dist);
+    enlist(nearer, s.nodes, u, listed, size)
 }
 
 // Every arc into v is relaxed, one after the other. How many are on the search's list now.
@@ -71,6 +98,7 @@ pub fn relax_into(
     let mut count = size;
     let mut p = into[v as usize] as usize;
     let end = into[v as usize + 1] as usize;
+    let crowd = crowded(p, end);
     while p < end {
         count = reach(
             s,
@@ -80,6 +108,7 @@ pub fn relax_into(
             sink,
             v,
             onward,
+            crowd,
             p,
             dist,
             listed,

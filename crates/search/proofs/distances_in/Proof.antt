@@ -90,7 +90,7 @@ loop-holds c =
     let R = reset-at E in
     let s = first R in
     record {
-      searching = begun (s .args .page .now) (s .pre .0) (R .reset .kept .1 .1 .0) (R .reset .ensures) (E .enlist .ensures);
+      searching = begun (s .args .page .now) (s .pre .0) (R .reset .kept .1 .1 .0) (R .reset .ensures) (E .enlist .ensures .came refl);
       pages = refl;
       flags = refl;
     }
@@ -174,7 +174,7 @@ same-length : tie.Need-same-length Inv-loop μ-loop
 same-length c = c .before .before .sort .kept .1 .0 ∙ whole (c .before .before .before .before .before .before)
 
 same-length-2 : tie.Need-same-length-2 Inv-loop μ-loop
-same-length-2 c = let a = c .before .before .before .before .before .before in a .loop .inv .flags ∙ enlist-at a .enlist .kept .1 .1 .0
+same-length-2 c = let a = c .before .before .before .before .before .before in a .loop .inv .flags ∙ enlist-at a .enlist .kept .1 .1 .1 .0
 
 returns : tie.Need-returns Inv-loop μ-loop
 unfolding netIn
@@ -187,7 +187,7 @@ same-length-3 : tie.Need-same-length-3 Inv-loop μ-loop
 same-length-3 c = whole (c .before .before)
 
 same-length-4 : tie.Need-same-length-4 Inv-loop μ-loop
-same-length-4 c = let a = c .before .before in a .loop .inv .flags ∙ enlist-at a .enlist .kept .1 .1 .0
+same-length-4 c = let a = c .before .before in a .loop .inv .flags ∙ enlist-at a .enlist .kept .1 .1 .1 .0
 
 returns-2 : tie.Need-returns-2 Inv-loop μ-loop
 returns-2 c =

@@ -27,18 +27,18 @@ record Relaxing (net : Network) (into l : List ℕ) (t v : ℕ) (dist₀ listed�
   flags : length listed ≡ length listed₀
 
 abbrev Inv-loop : tie.InvT-loop
-Inv-loop s net into lengths sink v dist₀ listed₀ size x onward count₀ p₀ end dist listed count p =
+Inv-loop s net into lengths sink v dist₀ listed₀ size x onward count₀ p₀ end crowd dist listed count p =
     Relaxing (netIn s net) into lengths sink v dist₀ listed₀ size dist listed count p
 
 abbrev μ-loop : tie.MeasureT-loop
-μ-loop s net into lengths sink v dist₀ listed₀ size x onward count₀ p₀ end dist listed count p = end - p
+μ-loop s net into lengths sink v dist₀ listed₀ size x onward count₀ p₀ end crowd dist listed count p = end - p
 
 -- the function's entry, seen from behind the call of `through`; that, seen from a turn; and the turn, seen from behind the call of `reach`
 abbrev first : tie.After-through Inv-loop μ-loop → tie.Start Inv-loop μ-loop
 first c = c .before .before .before .before .before .before
 
 abbrev through-at : tie.At-loop Inv-loop μ-loop → tie.After-through Inv-loop μ-loop
-through-at c = c .before .before .before .before
+through-at c = c .before .before .before .before .before
 
 abbrev entry : tie.At-loop Inv-loop μ-loop → tie.Start Inv-loop μ-loop
 entry c = first (through-at c)
@@ -91,7 +91,7 @@ shared-slice-read-end c = next (first (c .before .before .before))
 
 loop-holds : tie.Need-loop-holds Inv-loop μ-loop
 loop-holds c =
-    let s = first (c .before .before .before) in
+    let s = first (c .before .before .before .before) in
     record { spread = spread-none (s .pre .searching); head = refl; from = le-refl _; dists = refl; flags = refl }
 
 reach-requires : tie.Need-reach-requires Inv-loop μ-loop
@@ -121,7 +121,7 @@ loop-again : tie.Need-loop-again Inv-loop μ-loop
 loop-again c =
     let R = c .before .before .before .before in
     let I = turn R .before .loop .inv in
-    let k = R .reach .kept .1 .1 .1 .1 .1 .1 .1 .1 in
+    let k = R .reach .kept .1 .1 .1 .1 .1 .1 .1 .1 .1 in
     record {
       spread = spread-more (I .spread) (R .reach .ensures .spread);
       head = R .reach .ensures .head ∙ I .head;
@@ -145,5 +145,5 @@ pub relax-into-spec : {M : Type 1} → statement M
 relax-into-spec =
     tie.close (tie.spec Inv-loop μ-loop through-requires (λ c. omega (arith, small c)) (λ c. omega (arith, small c))
     (λ c. let s = first c in omega (arith, s .pre .index .arcs .nodes, s .pre .node)) (λ c. room (first (c .before)))
-    (λ c. omega (arith, small (c .before), entry-small (first (c .before)))) mul-p shared-slice-read-p add-end mul-end shared-slice-read-end loop-holds
+    (λ c. omega (arith, small (c .before), entry-small (first (c .before)))) mul-p shared-slice-read-p add-end mul-end shared-slice-read-end (λ c κs. tt) loop-holds
     reach-requires add-p loop-less loop-again same-length same-length-2 returns)
