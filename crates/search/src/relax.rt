@@ -30,7 +30,7 @@ fn relax(way: u64, u: usize, dist: &mut [u64]) -> bool
     way < old
 }
 
-// There are more arcs than nodes, so that many of them stand side by side: few then are nearer, and stores to one entry wait for each other.
+// More arcs than there may be nodes: many stand side by side, so that few are nearer, and stores to the one entry would wait for each other.
 fn crowded(begin: usize, end: usize) -> bool {
     if end <= begin {
         return false;
@@ -38,7 +38,7 @@ fn crowded(begin: usize, end: usize) -> bool {
     end - begin > MOST_NODES as usize
 }
 
-// There a look before saves the store. Where it says so, the way is no nearer.
+// There a look before saves the store: it says so only where the way is no nearer.
 fn passed_by(crowd: bool, way: u64, u: usize, dist: &[u64]) -> bool
     requires { ⌜ u < length (now dist) ⌝ }
     ensures { λ r. ⌜ (r ≡ true → getD (now (dist .entry)) u 0 ≤ way) ⌝ }
@@ -50,7 +50,7 @@ fn passed_by(crowd: bool, way: u64, u: usize, dist: &[u64]) -> bool
 }
 
 // The arc at place p, one of those into v, is relaxed, and the node that it comes from goes onto the list if that brings it nearer. How many are on the list now.
-// onward is what the way has beside the arc's own length: it is the same for all arcs into v.
+// onward is what the way has beside the arc's own length: it is the same for all arcs into v, as is whether they are a crowd.
 fn reach(
     s: Shape,
     net: &[u64],
@@ -59,11 +59,11 @@ fn reach(
     sink: u64,
     v: u64,
     onward: u64,
-    crowd: bool,
     p: usize,
     dist: &mut [u64],
     listed: &mut [u64],
     size: usize,
+    crowd: bool,
 ) -> usize
     requires { ⌜ Reaching (netIn s (now net)) (now into) (now lengths) sink v onward p (now dist) (now listed) size ⌝ }
     ensures { λ r. ⌜ Reached (netIn s (now (net .entry))) (now (lengths .entry)) sink v (Passed (now (into .entry)) v (p + 1)) (now (dist .entry)) size (now (dist .exit)) (now (listed .exit)) r ⌝ }
@@ -108,11 +108,11 @@ pub fn relax_into(
             sink,
             v,
             onward,
-            crowd,
             p,
             dist,
             listed,
             count,
+            crowd,
         );
         p += 1;
     }

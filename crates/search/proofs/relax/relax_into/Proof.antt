@@ -121,7 +121,7 @@ loop-again : tie.Need-loop-again Inv-loop μ-loop
 loop-again c =
     let R = c .before .before .before .before in
     let I = turn R .before .loop .inv in
-    let k = R .reach .kept .1 .1 .1 .1 .1 .1 .1 .1 .1 in
+    let k = R .reach .kept .1 .1 .1 .1 .1 .1 .1 .1 in
     record {
       spread = spread-more (I .spread) (R .reach .ensures .spread);
       head = R .reach .ensures .head ∙ I .head;
