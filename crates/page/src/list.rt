@@ -15,8 +15,8 @@ pub fn take_out(n: u64, page: &[u64], at: usize, listed: &mut [u64], size: usize
     v
 }
 
-// Node v comes onto the list where come says so, unless it is there. How many are on it now. The flag is written in any case: a jump over that would often be
-// foretold wrongly, which costs more.
+// Node v comes onto the list where come says so, unless it is there. How many are on it now. The flag is written in any case, which is quicker than a jump
+// over the store.
 pub fn enlist(come: bool, n: u64, v: u64, listed: &mut [u64], size: usize) -> usize
     requires listing { ⌜ Listing n (now listed) size ⌝ }
     requires node { ⌜ (1 ≤ v) × (v ≤ n) ⌝ }

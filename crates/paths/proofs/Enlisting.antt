@@ -1,6 +1,6 @@
 -- A node comes onto the list of a search, unless it is there.
 -- Assumes nothing.
-use mathlib.Core.Path.{_≡_, sym, ap, _∙_}
+use mathlib.Core.Path.{_≡_, ap, _∙_}
 use mathlib.Core.Bool.{Bool, true, false}
 use mathlib.Core.Logic.{⊎-elim}
 use mathlib.Core.List.{List}
@@ -14,7 +14,8 @@ use Rattle.paths.proofs.Flags.{flagged-set, flagged-was}
 use Rattle.paths.proofs.Listings.{listing-flag}
 use Rattle.paths.proofs.Relaxing.{set-entry}
 
-apart : {b : Bool} → b ≡ true → b ≡ false → ⊥
+-- No test is both.
+pub apart : {b : Bool} → b ≡ true → b ≡ false → ⊥
 apart t f = let z : _≡_ {A = ℕ} 0 1 = cc in omega arith
 
 module _ {n : ℕ} {listed : List ℕ} {size : ℕ} (L : Listing n listed size) (v : ℕ) (node : (1 ≤ v) × (v ≤ n)) where

@@ -15,8 +15,8 @@ ghost use Rattle.paths.specs.Calls.{Reaching, Entering};
 ghost use Rattle.paths.specs.Relax.{Taken};
 ghost use Rattle.paths.specs.Searching.{Any, Passed, Spread, Reached};
 
-// A way from u that is so far is taken where it is nearer; whether it is. The entry is written in any case: which of the two is the nearer cannot be foretold,
-// and a wrong guess costs more than a store.
+// A way from u that is so far is taken where it is nearer; whether it is. The entry is written in any case, which is quicker than a jump over the store
+// (docs/SPEED.md, "Labels without jumps").
 fn relax(way: u64, u: usize, dist: &mut [u64]) -> bool
     requires { ⌜ u < length (now dist) ⌝ }
     ensures { λ r. ⌜ Taken way u (now (dist .entry)) r (now (dist .exit)) ⌝ }
