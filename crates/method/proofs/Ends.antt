@@ -19,7 +19,6 @@ use Rattle.network.specs.Sound.{Sound}
 use Rattle.packing.proofs.Count.{count-below}
 use Rattle.packing.proofs.Run as packing
 use Rattle.method.specs.Choice.{Choice, choice}
-use Rattle.method.specs.Ending.{Ending}
 use Rattle.method.specs.Iteration.{State, initial, advance, iteration}
 use Rattle.method.specs.Run.{ended, nth, runs, run}
 use Rattle.method.specs.Sizes.{Sizes}
@@ -40,7 +39,7 @@ pub record Final (net : Network) (q : ℕ) (t : State) : Type 0 where
   pub underway : Underway net q prior
 
 module _ (net : Network) (q : ℕ) (sound : Sound net q) (joined : (l : List ℕ) → (c : Choice) × (choice net l ≡ some c)) where
-  iteration-some : (s : State) (c : Choice) → choice net (s .lengths) ≡ some c → iteration net q s ≡ advance net q c s
+  pub iteration-some : (s : State) (c : Choice) → choice net (s .lengths) ≡ some c → iteration net q s ≡ advance net q c s
   unfolding iteration
   iteration-some s c h = rw (h, iteration) refl
 
@@ -146,34 +145,30 @@ module _ (net : Network) (q : ℕ) (sound : Sound net q) (joined : (l : List ℕ
   unfolding run threshold
   run-final = ends (resources net * (q * level (resources net) q)) (initial net) (reached-start net q sound) underway-start start-enough
 
-  final-count : (t : State) (f : Final net q t) → t .count ≡ suc (f .prior .count)
+  pub final-count : (t : State) (f : Final net q t) → t .count ≡ suc (f .prior .count)
   unfolding advance
   final-count t f = ap (λ t. t .count) (f .is)
 
-  final-at : (t : State) (f : Final net q t) → t ≡ nth net q (t .count)
+  -- It is the state after as many iterations as it counts.
+  pub final-at : (t : State) (f : Final net q t) → t ≡ nth net q (t .count)
   unfolding nth
   final-at t f =
       f .is ∙
       (sym (iteration-some (f .prior) (f .choosing) (f .chosen)) ∙ (ap (iteration net q) (f .underway .at) ∙ ap (nth net q) (sym (final-count t f))))
 
-  final-few : (t : State) (f : Final net q t) → t .count ≤ resources net * (q * level (resources net) q - 1) + 1
-  unfolding seen
+  -- Before it no load was at the threshold.
+  pub final-before : (t : State) (f : Final net q t) (j : ℕ) → j < t .count → ended net q (nth net q j) ≡ false
+  final-before t f j l = f .underway .before j (omega (arith, final-count t f))
+
+  -- It comes after at most m * (T - 1) + 1 iterations, so the number m * T with which the run is defined never ends it.
+  pub final-few : (t : State) (f : Final net q t) → t .count ≤ resources net * (threshold (resources net) q - 1) + 1
+  unfolding seen threshold
   final-few t f =
       omega (
         arith,
         final-count t f,
         count-below (program net q sound) (f .reached .valid .run) (f .reached .below),
       )
-
-  pub run-ends : Ending net q
-  unfolding threshold
-  run-ends =
-      record {
-        steps = final-at (run net q) run-final;
-        last = run-final .full;
-        before = λ j l. run-final .underway .before j (omega (arith, final-count (run net q) run-final));
-        few = final-few (run net q) run-final;
-      }
 
   -- Every state of the run is of the sizes that a program's words hold.
   pub run-sizes : (j : ℕ) → j ≤ run net q .count → Sizes net (nth net q j)
@@ -182,9 +177,9 @@ module _ (net : Network) (q : ℕ) (sound : Sound net q) (joined : (l : List ℕ
   run-sizes (suc j) l =
       let s : State = nth net q j in
       let c = joined (s .lengths) in
-      let r = reached-nth j (λ i b. run-ends .before i (omega arith)) in
+      let r = reached-nth j (λ i b. final-before (run net q) run-final i (omega arith)) in
       rw (iteration-some s (c .0) (c .1)) (next-sizes net q sound s r (c .0) (c .1))
 
   -- ... the last one too.
   pub final-sizes : Sizes net (run net q)
-  final-sizes = rw (run-ends .steps) (run-sizes (run net q .count) (le-refl (run net q .count)))
+  final-sizes = rw (final-at (run net q) run-final) (run-sizes (run net q .count) (le-refl (run net q .count)))

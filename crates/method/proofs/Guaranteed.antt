@@ -10,8 +10,8 @@ use native.Mathlib.Nat.{mul-pos, mul-le-mul-right, le-of-mul-le-mul-left}
 use native.Mathlib.Omega.{arith}
 use borrow.Author.Tests.{leb-true}
 use lib.Dec.{leb, lit≤}
-use lib.IntN.{ℤ}
-use lib.ListN.{getD}
+use lib.IntN.{ℤ, pos}
+use lib.ListN.{getD, replicate}
 use Rattle.arith.proofs.Exists.{exists-true}
 use Rattle.length.specs.Level.{level, threshold}
 use Rattle.network.specs.Network.{Network, arcs, commodities, source}
@@ -22,18 +22,19 @@ use Rattle.network.specs.Sound.{Sound}
 use Rattle.network.proofs.Resources.{arcs-le, place-high, room-arc, room-node}
 use Rattle.network.proofs.Sounds.{sound-ends, resources-within, room-within}
 use Rattle.network.proofs.Duality.{Bounds}
+use Rattle.network.proofs.Keeping.{keeping}
 use Rattle.packing.proofs.Count.{count-all}
 use Rattle.packing.proofs.Near.{near, near-two, near-share}
 use Rattle.packing.proofs.Health.{positive-alpha}
 use Rattle.packing.proofs.Run as packing
-use Rattle.method.specs.Answer.{fullest, unjoined, outcomeOf, outcome}
+use Rattle.method.specs.Answer.{fullest, amounts, unjoined, outcomeOf, outcome}
 use Rattle.method.specs.Choice.{Choice, choice}
 use Rattle.method.specs.Guarantee.{Guarantee}
 use Rattle.method.specs.Iteration.{State, initial, weight, advance, iteration}
 use Rattle.method.specs.Run.{ended, nth, runs, run}
 use Rattle.method.specs.Sizes.{Sizes}
 use Rattle.method.proofs.Bound.{bounded, unjoined-bounded}
-use Rattle.method.proofs.Ends.{Final, run-final, run-ends, final-sizes}
+use Rattle.method.proofs.Ends.{Final, run-final, final-at, final-before, final-sizes}
 use Rattle.method.proofs.Fitting.{unjoined-fits, state-fits}
 use Rattle.method.proofs.Fullest.{Fullest, is-fullest}
 use Rattle.method.proofs.Instance.{seen, iterated}
@@ -44,7 +45,7 @@ use Rattle.method.proofs.Table.{in-zero, zero-flow, zero-carries, zero-
 
 -- T * ce ≤ ye and ye / ce ≤ yb / cb give T * cb ≤ yb.
 ratio-le : (T ce cb ye yb : ℕ) → 0 < ce → T * ce ≤ ye → ye * cb ≤ yb * ce → T * cb ≤ yb
-ratio-le T ce cb ye yb pos h k = le-of-mul-le-mul-left {k = ce} (omega (arith, mul-le-mul-right cb h)) pos
+ratio-le T ce cb ye yb l h k = le-of-mul-le-mul-left {k = ce} (omega (arith, mul-le-mul-right cb h)) l
 
 -- What chooses by some lengths chooses by any.
 pub always : (net : Network) (m : List ℕ) (c : Choice) → choice net m ≡ some c → (l : List ℕ) → (d : Choice) × (choice net l ≡ some d)
@@ -121,7 +122,7 @@ module _ (net : Network) (q : ℕ) (sound : Sound net q) where
         by-best (unset e z) = absurd (omega (arith, alpha-pos))
         by-best (kept e far) = sym e
 
-    upper : (d : ℕ) (g : ℕ → ℕ → ℤ) → Flow net g → Keeps net d g → AtMost net g d (t .bound) (t .alpha)
+    upper : (d : ℕ) (g : ℕ → ℕ → ℤ) → Flow net g → Keeps net 1 d g → AtMost net g d (t .bound) (t .alpha)
     upper = by-best (valid .best)
       where
         by-best : Best net (t .bound) (t .alpha) (t .bestLengths) → Bounds net (t .bound) (t .alpha)
@@ -154,28 +155,36 @@ module _ (net : Network) (q : ℕ) (sound : Sound net q) where
           absurd (none (f .choosing .commodity) (c .commodity) (f .choosing .path, c .path)),
     )
 
-    final-guarantee : Sizes net t → run net q ≡ nth net q (t .count) → Guarantee net q (outcomeOf net t)
+    -- The scale by the fullest resource: sizes and uses are within the loads, and no load over capacity is greater.
+    scale-keeps : Keeps net (room net b) (getD (t .loads) b 0) (amounts net (t .flow))
+    scale-keeps =
+        keeping net (room net b) (getD (t .loads) b 0) (amounts net (t .flow))
+        (λ e l.
+        omega (
+          arith,
+          mul-le-mul-right (room net b) (valid .table .within e l),
+          full .greatest e (omega (arith, arcs-le net)),
+          ap (λ c. c * getD (t .loads) b 0) (room-arc net e l),
+        ))
+        (λ v l h.
+        omega (
+          arith,
+          mul-le-mul-right (room net b) (valid .table .limits v h),
+          full .greatest (place net v) (omega (arith, place-high net v l h)),
+          ap (λ c. c * getD (t .loads) b 0) (room-node net v l h),
+        ))
+
+    final-guarantee :
+        Sizes net t → run net q ≡ t → t ≡ nth net q (t .count) → ((j : ℕ) → j < t .count → ended net q (nth net q j) ≡ false) →
+        Guarantee net q (outcomeOf net t)
     unfolding outcomeOf
-    final-guarantee sizes steps =
+    final-guarantee sizes is at before =
         record {
           joins = chosen-joins sizes;
           flow = valid .table .flows;
           total = valid .table .carries;
           sources = λ i l. valid .table .sources i;
-          capacities = λ e l.
-              omega (
-                arith,
-                mul-le-mul-right (room net b) (valid .table .within e l),
-                full .greatest e (omega (arith, arcs-le net)),
-                ap (λ c. c * getD (t .loads) b 0) (room-arc net e l),
-              );
-          limits = λ v l h.
-              omega (
-                arith,
-                mul-le-mul-right (room net b) (valid .table .limits v h),
-                full .greatest (place net v) (omega (arith, place-high net v l h)),
-                ap (λ c. c * getD (t .loads) b 0) (room-node net v l h),
-              );
+          keeps = scale-keeps;
           some-load = loaded;
           upper = upper;
           some-alpha = alpha-pos;
@@ -183,7 +192,9 @@ module _ (net : Network) (q : ℕ) (sound : Sound net q) where
           -- The figures are read off the statement: what is shown here is that they are enough, 14 * 4 ≤ 8 * 7.
           closer = near-within _ _ _ (lit≤ tt) (omega (arith, program net q sound .precision-low)) refl;
           nearer = near-by;
-          steps = steps;
+          steps = is ∙ at;
+          last = λ some. rw (← at) (f .full);
+          before = before;
           count = few;
           fits = state-fits net q sound t sizes inside (valid .table) (valid .bests) weighed;
         }
@@ -197,8 +208,10 @@ module _ (net : Network) (q : ℕ) (sound : Sound net q) where
         flow = zero-flow net (commodities net * arcs net);
         total = zero-carries net (commodities net * arcs net);
         sources = λ i l. in-zero net (commodities net * arcs net) i (source net i);
-        capacities = λ e l. omega (arith, zero-load net (commodities net * arcs net) e);
-        limits = λ v l h. omega (arith, zero-use net (commodities net * arcs net) v);
+        keeps =
+            keeping net 1 1 (amounts net (replicate (commodities net * arcs net) (pos 0)))
+            (λ e l. omega (arith, zero-load net (commodities net * arcs net) e))
+            (λ v l h. omega (arith, zero-use net (commodities net * arcs net) v));
         some-load = omega arith;
         upper =
             unjoined-bounded net (sound-ends net q sound)
@@ -208,6 +221,8 @@ module _ (net : Network) (q : ℕ) (sound : Sound net q) where
         closer = omega arith;
         nearer = omega arith;
         steps = still net q (resources net * threshold (resources net) q) h;
+        last = λ some. absurd (omega arith);
+        before = λ j l. absurd (omega arith);
         count = omega arith;
         fits = unjoined-fits net;
       }
@@ -222,4 +237,6 @@ module _ (net : Network) (q : ℕ) (sound : Sound net q) where
       by-choice none h = unjoined-guarantee h
       by-choice (some c) h =
           let some-path = always net (initial net .lengths) c h in
-          final-guarantee (run net q) (run-final net q sound some-path) (final-sizes net q sound some-path) (run-ends net q sound some-path .steps)
+          let final = run-final net q sound some-path in
+          final-guarantee (run net q) final (final-sizes net q sound some-path) refl (final-at net q sound some-path (run net q) final)
+          (final-before net q sound some-path (run net q) final)

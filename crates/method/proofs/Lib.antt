@@ -19,12 +19,14 @@ pub mod Least
 pub mod Listed
 pub mod Once
 pub mod Orders
+pub mod Plan
 pub mod Programs
 pub mod Reached
 pub mod Shortest
 pub mod Sized
 pub mod Table
 pub mod Tied
+pub mod Tightest
 pub mod Times
 pub mod TwoArcs
 pub mod Unique

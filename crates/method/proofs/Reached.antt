@@ -94,7 +94,7 @@ module _ (net : Network) (q : ℕ) (sound : Sound net q) where
       by-test false = refl
 
   -- A chosen path has length.
-  chosen-pos : (s : State) → Valid net q s → (c : Choice) → Chosen net (s .lengths) c → 1 ≤ pathLength (s .lengths) (usedBy net c)
+  pub chosen-pos : (s : State) → Valid net q s → (c : Choice) → Chosen net (s .lengths) c → 1 ≤ pathLength (s .lengths) (usedBy net c)
   chosen-pos s v c x =
       omega (
         arith,
@@ -134,11 +134,12 @@ module _ (net : Network) (q : ℕ) (sound : Sound net q) where
 
   which-step : (s : State) → Valid net q s → (c : Choice) → advance net q c s .best ≤ advance net q c s .count
   unfolding advance
-  which-step s v c = by-test (ltb (weight net (s .lengths) * s .alpha) (s .bound * pathLength (s .lengths) (usedBy net c)))
+  which-step s v c = by-test (ltb (weight net (s .lengths) * s .alpha) (s .bound * pathLength (s .lengths) (usedBy net c))) _ (omega arith)
     where
-      by-test : (t : Bool) → cond t (suc (s .count)) (s .best) ≤ suc (s .count)
-      by-test true = omega arith
-      by-test false = omega (arith, v .which)
+      -- Only that the number is none of a later iteration: which one it is, is shown in proofs/Tightest.
+      by-test : (t : Bool) (x : ℕ) → x ≤ suc (s .count) → cond t x (s .best) ≤ suc (s .count)
+      by-test true x h = h
+      by-test false x h = omega (arith, v .which)
 
   lengths-length : (s : State) → Valid net q s → (c : Choice) → length (advance net q c s .lengths) ≡ resources net
   unfolding advance grown

@@ -49,7 +49,7 @@ module _ (s t : ℕ) where
   unfolding ones back
   flow ls lt e = record { balance = λ i v b low high ns nt. omega (arith, commodity-at s i b, commodity-at t i b); one-way = λ i e b l c. refl }
 
-  pub keeps : Keeps (net s t) 1 ones
+  pub keeps : Keeps (net s t) 1 1 ones
   unfolding ones loadOf sum ahead back
   keeps = record { within = λ e b. omega (arith, arc-at 1 e b); limits = λ v b h. absurd (true≢false (sym h ∙ none v)) }
     where

@@ -47,15 +47,11 @@ initial net =
 unfoldable pub weight : Network → List ℕ → ℕ
 weight net l = sum (resources net) (λ e. room net e * getD l e 0)
 
--- The least of g and the capacities of the resources of a list.
-unfoldable pub lowest : List ℕ → ℕ → List ℕ → ℕ
-lowest capacities g [] = g
-lowest capacities g (e ∷ p) = lowest capacities (min g (getD capacities e 0)) p
-
 -- The draw g: the least capacity of what the path uses.
 unfoldable pub draw : List ℕ → List ℕ → ℕ
 draw capacities [] = 0
-draw capacities (e ∷ p) = lowest capacities (getD capacities e 0) p
+draw capacities (e ∷ []) = getD capacities e 0
+draw capacities (e ∷ (d ∷ p)) = min (getD capacities e 0) (draw capacities (d ∷ p))
 
 -- The list xs with x replaced by f e x at each place e of a list in turn.
 unfoldable pub update : (ℕ → ℕ → ℕ) → List ℕ → List ℕ → List ℕ

@@ -1,11 +1,11 @@
 pub mod Answer
 pub mod Choice
 pub mod Chosen
-pub mod Ending
 pub mod Fits
 pub mod Guarantee
 pub mod Iteration
 pub mod Order
 pub mod Run
 pub mod Sizes
+pub mod Tightest
 pub mod Underway

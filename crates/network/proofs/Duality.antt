@@ -44,7 +44,7 @@ use-bound k m d f c l within =
 
 -- No flow, over any divisor, carries more than bound / alpha.
 abbrev pub Bounds : Network → ℕ → ℕ → Type 0
-Bounds net bound alpha = (d : ℕ) (f : ℕ → ℕ → ℤ) → Flow net f → Keeps net d f → AtMost net f d bound alpha
+Bounds net bound alpha = (d : ℕ) (f : ℕ → ℕ → ℤ) → Flow net f → Keeps net 1 d f → AtMost net f d bound alpha
 
 -- The lengths of the nodes, by those of the resources.
 abbrev pub nodeLengths : Network → (ℕ → ℕ) → ℕ → ℕ
@@ -90,12 +90,12 @@ module _ (net : Network) (ends : Ends net) (l : ℕ → ℕ) (alpha : ℕ) where
       by-mark e l false m = inl (flow .one-way i e b l m)
 
   -- A node without a limit has no length, and the use of one with a limit is within it.
-  within-limit : (d : ℕ) (f : ℕ → ℕ → ℤ) → Keeps net d f → (v : ℕ) → v ≤ net .nodes →
+  within-limit : (d : ℕ) (f : ℕ → ℕ → ℤ) → Keeps net 1 d f → (v : ℕ) → v ≤ net .nodes →
       nodeLengths net l v * useOf net f v ≤ nodeLengths net l v * (d * limit net v)
   within-limit d f keeps v b = by-test (limited net v) refl
     where
       by-test : (t : Bool) → limited net v ≡ t → cond t (l (place net v)) 0 * useOf net f v ≤ cond t (l (place net v)) 0 * (d * limit net v)
-      by-test true h = mul-le-mul-left (l (place net v)) (keeps .limits v b h)
+      by-test true h = omega (arith, mul-le-mul-left (l (place net v)) (keeps .limits v b h))
       by-test false h = omega arith
 
   -- Potentials that fall from alpha at the sources to 0 at the sinks: the capacities times the lengths, over alpha, bound every flow.
@@ -116,7 +116,7 @@ module _ (net : Network) (ends : Ends net) (l : ℕ → ℕ) (alpha : ℕ) where
             (λ i. used f i + (passed f i + alpha * inflow net (f i) (source net i)))
             (λ i b. potential-bound net ends (f i) l (nodeLengths net l) (pi i) (rho i) (source net i) (sink net i) alpha (ends .sources i b) (pot i b)
             (one-balanced f flow i b)),
-        use-bound (commodities net) (arcs net) d (λ i e. size (f i e)) (capacity net) l (λ e b. mul-le-mul-left (l e) (keeps .within e b)),
+        use-bound (commodities net) (arcs net) d (λ i e. size (f i e)) (capacity net) l (λ e b. omega (arith, mul-le-mul-left (l e) (keeps .within e b))),
         use-bound (commodities net) (net .nodes) d (λ i v. max (inflow net (f i) (suc v)) (outflow net (f i) (suc v))) (λ v. limit net (suc v))
             (λ v. nodeLengths net l (suc v)) (λ v b. within-limit d f keeps (suc v) b),
         weight-parts net l,

@@ -9,6 +9,7 @@ pub mod Faults
 pub mod First
 pub mod Given
 pub mod HostNumber
+pub mod Keeping
 pub mod Leads
 pub mod Limits
 pub mod Loops
@@ -21,6 +22,7 @@ pub mod Paths
 pub mod Plain
 pub mod Potential
 pub mod Resources
+pub mod Scaled
 pub mod Search
 pub mod Shortcuts
 pub mod Sizes

@@ -1,6 +1,6 @@
 -- Multicommodity flows in whole amounts: f i e is the amount of commodity i on arc e, from its tail to its head or, if it is negative, the other
 -- way. Source document 000, section 3.1: the directed case, and for reversible arcs the undirected one.
--- A flow in fractions is one in whole amounts over a common divisor d: it keeps the capacities where the whole amounts keep d times them.
+-- A flow in fractions is one in whole amounts over a common divisor d.
 use mathlib.Core.Path.{_≡_}
 use mathlib.Core.Bool.{true, false, cond}
 use Prim.Native.Nat.{ℕ, _+_, _*_, _≤_, _<_, max}
@@ -37,10 +37,10 @@ loadOf net f e = sum (commodities net) (λ i. size (f i e))
 unfoldable pub useOf : Network → (ℕ → ℕ → ℤ) → ℕ → ℕ
 useOf net f v = sum (commodities net) (λ i. max (inflow net (f i) v) (outflow net (f i) v))
 
--- Keeping d times the capacities, and d times the limits.
-pub record Keeps (net : Network) (d : ℕ) (f : ℕ → ℕ → ℤ) : Type 0 where
-  pub within : (e : ℕ) → e < arcs net → loadOf net f e ≤ d * capacity net e
-  pub limits : (v : ℕ) → v ≤ net .nodes → limited net v ≡ true → useOf net f v ≤ d * limit net v
+-- The flow times a over d keeps the capacities and the limits, said without division.
+pub record Keeps (net : Network) (a d : ℕ) (f : ℕ → ℕ → ℤ) : Type 0 where
+  pub within : (e : ℕ) → e < arcs net → a * loadOf net f e ≤ d * capacity net e
+  pub limits : (v : ℕ) → v ≤ net .nodes → limited net v ≡ true → a * useOf net f v ≤ d * limit net v
 
 -- What leaves the sources, each commodity's own amount at its own source.
 unfoldable pub leaving : Network → (ℕ → ℕ → ℤ) → ℕ

@@ -1,5 +1,4 @@
 pub mod PowerAtMost
-pub mod Best
 pub mod Capacity
 pub mod Count
 pub mod Euler

@@ -18,7 +18,7 @@ use Rattle.network.specs.Verdict.{outside, loose, verdict, sizeConditions, arcC
 use Rattle.network.specs.Visited.{visited}
 use Rattle.method.specs.Answer.{fullest, amounts, unjoined, outcomeOf, outcome}
 use Rattle.method.specs.Choice.{words, endsAt, paths, candidates, sooner, least, choice}
-use Rattle.method.specs.Iteration.{initial, weight, lowest, draw, update, pushed, grown, settled, advance, iteration}
+use Rattle.method.specs.Iteration.{initial, weight, draw, update, pushed, grown, settled, advance, iteration}
 use Rattle.method.specs.Run.{ended, runs, run}
 use Rattle.lines.specs.Meaning.{shaped, given, problemLine, sourceOrSink, terminalLine, arcLine, lettered, meaning}
 use Rattle.lines.specs.Number.{digit, every, fromDigits, numberOf}
@@ -73,6 +73,6 @@ unfolding
     terminalLine sourceOrSink problemLine given shaped numberOf fromDigits every digit wordsOf filled keep blank linesOf lineFeed pieces lead
     verdictOn itemConditions commodityConditions limitConditions arcConditions sizeConditions verdict loose outside loadOf amounts ceil upFrom upTo exists flat sum scale
     mark start growth halving level threshold levels leads follow pathLength words endsAt paths candidates sooner least choice initial weight
-    lowest draw update pushed grown settled advance iteration ended runs run fullest unjoined outcomeOf outcome bind ahead back
+    draw update pushed grown settled advance iteration ended runs run fullest unjoined outcomeOf outcome bind ahead back
     limitsBelow place resources rooms station uses visited
 listings = tt

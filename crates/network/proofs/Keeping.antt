@@ -1,0 +1,13 @@
+-- To keep the capacities and the limits is no more than the two inequalities: a flow that meets them is one that `upper` speaks of.
+-- Assumes nothing.
+use mathlib.Core.Path.{_≡_}
+use mathlib.Core.Bool.{true}
+use Prim.Native.Nat.{ℕ, _*_, _≤_, _<_}
+use lib.IntN.{ℤ}
+use Rattle.network.specs.Flow.{Keeps, loadOf, useOf}
+use Rattle.network.specs.Network.{Network, arcs, capacity, limit, limited}
+
+pub keeping :
+    (net : Network) (a d : ℕ) (f : ℕ → ℕ → ℤ) → ((e : ℕ) → e < arcs net → a * loadOf net f e ≤ d * capacity net e) →
+    ((v : ℕ) → v ≤ net .nodes → limited net v ≡ true → a * useOf net f v ≤ d * limit net v) → Keeps net a d f
+keeping net a d f within limits = record { within = within; limits = limits }
