@@ -11,7 +11,7 @@ use lib.Seq.{drop-cons}
 use Rattle.method.specs.Iteration.{draw}
 
 -- g, lowered to the least capacity of the arcs of a list.
-unfoldable lowest : List ℕ → ℕ → List ℕ → ℕ
+unfoldable pub lowest : List ℕ → ℕ → List ℕ → ℕ
 lowest caps g [] = g
 lowest caps g (e ∷ p) = lowest caps (min g (getD caps e 0)) p
 
