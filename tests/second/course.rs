@@ -1,7 +1,8 @@
 //! What docs/COURSE.md tells of figures.
 
-use crate::guarantee::{by_the_first, share, SLIPPED};
-use crate::listed::{cut, listed, most, Listed};
+use crate::guarantee::{by_the_first, promised, share, SLIPPED};
+use crate::listed::{listed, most, Listed};
+use crate::rounded::Fraction;
 use crate::slip_floors::two_feeders;
 use crate::slipped::{run, Slip};
 use crate::told::printed;
@@ -17,12 +18,13 @@ pub fn told() -> Vec<String> {
 
 fn two_lines(floor: &Listed) -> Vec<String> {
     let (total, bound) = (floor.total(), floor.bound());
+    let per_cent = total.over(bound).over(Fraction::new(1_u64, 100_u64));
     let carry = |belt| format!("{} of {}", floor.over(floor.belt(belt)), floor.capacity(belt));
     vec![
         format!("a line of 150 by station 3. It could carry {}.", most(&floor.net)),
         format!("Total {}, bound {}", floor.over(floor.upper()), floor.bound_fraction()),
-        format!("could carry from {total:.3} to {bound:.3}"),
-        format!("at least {:.1} per cent of the best", cut(total / bound * 100.0, 1)),
+        format!("could carry from {} to {}", total.down(3), bound.up(3)),
+        format!("at least {} per cent of the best", per_cent.down(1)),
         format!("by station 3 carry {}", carry(3)),
         format!("by station 2 carry {}", carry(1)),
     ]
@@ -30,14 +32,15 @@ fn two_lines(floor: &Listed) -> Vec<String> {
 
 fn cross(floor: &Listed) -> Vec<String> {
     let most = most(&floor.net);
-    let share = cut(floor.total() / most as f64, 3);
+    let share = floor.total().over(Fraction::new(most, 1_u64)).down(3);
+    let room = floor.capacity(2) * floor.lower() - floor.belt(2);
     vec![
         format!("all of 100. It could carry {most}."),
-        format!("| the listing's | {} | {share:.3} |", floor.over(floor.upper())),
+        format!("| the listing's | {} | {share} |", floor.over(floor.upper())),
         format!("Bound {}", floor.bound_fraction()),
         format!("has the row {}/{}", floor.belt(3), floor.lower()),
         format!("carries {} of {}", floor.over(floor.belt(2)), floor.capacity(2)),
-        format!("and {} more would fit", floor.capacity(2) as f64 - floor.carried(2)),
+        format!("and {} more would fit", Fraction::new(room, floor.lower()).short()),
     ]
 }
 
@@ -52,19 +55,21 @@ fn slips() -> Vec<String> {
     let net = two_feeders();
     let [right, slipped] = [Slip::None, Slip::GrowthDown].map(|slip| run(&net, SLIPPED, slip));
     let (length, choices) = (slipped.lengths[0], by_the_first(&slipped));
-    let [got, promised] = share(&slipped);
+    let (total, share, promised) = (slipped.total(), share(&slipped), promised("closer"));
+    let bound = right.bound().fraction();
     vec![
-        format!("gives {:.4} with the bound {:.4}", right.total(), right.bound().value()),
-        format!("total is {:.4}, a share of {got} where {promised} is", slipped.total()),
+        format!("gives {} with the bound {}", right.total().down(4), bound.up(4)),
+        format!("total is {}, a share of {share} where {promised} is", total.down(4)),
         format!("once its length is {length}, the feeder of 3 takes {choices} choices"),
     ]
 }
 
-/// Rounded belts no longer balance at station 2.
+/// Belts rounded to the nearest tote no longer balance at station 2.
 fn feeders(floor: &Listed) -> Vec<String> {
+    let nearest = |of: Fraction| (2 * of.upper + of.lower) / (2 * of.lower);
     let [line, other] = [3, 4].map(|belt| floor.belt(belt));
-    let [one, each] = [3, 4].map(|belt| floor.carried(belt).round());
-    let (enter, leave) = (floor.total().round(), one + 4.0 * each);
+    let [one, each] = [3, 4].map(|belt| nearest(floor.carried(belt)));
+    let (enter, leave) = (nearest(floor.total()), one + 4 * each);
     vec![
         format!("It could carry {}.", most(&floor.net)),
         format!("total {}, bound {}", floor.over(floor.upper()), floor.bound_fraction()),
