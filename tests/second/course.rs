@@ -13,6 +13,7 @@ pub fn told() -> Vec<String> {
     told.push(one_by_one());
     told.extend(slips());
     told.extend(feeders(&listed("feeders")));
+    told.extend(printing(listed("feeders").total(), listed("two_lines").bound()));
     told
 }
 
@@ -66,10 +67,9 @@ fn slips() -> Vec<String> {
 
 /// Belts rounded to the nearest tote no longer balance at station 2.
 fn feeders(floor: &Listed) -> Vec<String> {
-    let nearest = |of: Fraction| (2 * of.upper + of.lower) / (2 * of.lower);
     let [line, other] = [3, 4].map(|belt| floor.belt(belt));
-    let [one, each] = [3, 4].map(|belt| nearest(floor.carried(belt)));
-    let (enter, leave) = (nearest(floor.total()), one + 4 * each);
+    let [one, each] = [3, 4].map(|belt| nearest(floor.carried(belt), 1));
+    let (enter, leave) = (nearest(floor.total(), 1), one + 4 * each);
     vec![
         format!("It could carry {}.", most(&floor.net)),
         format!("total {}, bound {}", floor.over(floor.upper()), floor.bound_fraction()),
@@ -78,4 +78,23 @@ fn feeders(floor: &Listed) -> Vec<String> {
         format!("{line} + 4 * {other} = {}", line + 4 * other),
         format!("{enter} would enter and {one} + 4 * {each} = {leave} leave"),
     ]
+}
+
+/// To the nearest thousandth a total may come out too large, and a bound too small.
+fn printing(total: Fraction, bound: Fraction) -> Vec<String> {
+    let [above, below] = [total, bound].map(|of| Fraction::new(nearest(of, 1000), 1000_u64));
+    assert!(total.upper * above.lower < above.upper * total.lower, "the total rounds up");
+    assert!(below.upper * bound.lower < bound.upper * below.lower, "the bound rounds down");
+    let told = |exact, printed, nearest| {
+        format!("is {exact}.., so it is printed as {printed}. To the nearest it would be {nearest}")
+    };
+    vec![
+        format!("listing {}", told(total.down(4), total.down(3), above.down(3))),
+        format!("error 1 {}", told(bound.down(7), bound.up(3), below.down(3))),
+    ]
+}
+
+/// The nearest number of parts of which so many make one.
+fn nearest(of: Fraction, of_one: u128) -> u128 {
+    (2 * of.upper * of_one + of.lower) / (2 * of.lower)
 }
