@@ -12,6 +12,7 @@ pub const SLIPPED: u64 = 16;
 
 pub fn told() -> Vec<String> {
     let mut told = room::told();
+    told.extend(for_e());
     told.extend(share_rows());
     told.extend(near::told());
     told.push(format!("{} where V is {}", to_the_nearest(), carried_whole()));
@@ -20,6 +21,24 @@ pub fn told() -> Vec<String> {
     told.extend(divided());
     told.extend(last_bound());
     told
+}
+
+/// Of the 5 in 8q + 5, what (1 + 1/q)^q lacks to e and what (65/64)^65 costs in its place, in
+/// eighths of a power of 1 + 1/q and rounded up.
+fn for_e() -> Vec<String> {
+    let of_e = |q: f64| 8.0 / (1.0 / q).ln_1p();
+    let lacks = |q| of_e(q) - 8.0 * q;
+    let costs = |q| of_e(q) * (65.0 * (1.0_f64 / 64.0).ln_1p() - 1.0);
+    let (most_lacking, most) = (lacks(16.0), costs(16.0));
+    for q in (4..=16).map(f64::from) {
+        assert!(lacks(q) < 4.0 && lacks(q) + costs(q) <= 5.0 && costs(q) <= most);
+    }
+    let up = |eighths: f64| format!("{:.2}", (eighths * 100.0).ceil() / 100.0);
+    let (first, last, both) = (up(lacks(4.0)), up(most_lacking), up(most_lacking + most));
+    vec![
+        format!("lacks to e: {first} at q = 4 and {last} at q = 16"),
+        format!("highest at q = 16, where it is {}; with the {last} it makes {both} of", up(most)),
+    ]
 }
 
 /// The promises at each precision, rounded down to the fourth place.
@@ -59,12 +78,12 @@ pub fn by_the_first(run: &Run) -> u64 {
 fn growth_down() -> Vec<String> {
     let net = two_feeders();
     let run = run(&net, SLIPPED, Slip::GrowthDown);
-    let (share, near) = (share(&run), promised("near"));
+    let (share, near, closer) = (share(&run), promised("near"), promised("closer"));
     vec![
         format!("When both lengths are {} neither grows", run.lengths[0]),
         format!("After {} of them", by_the_first(&run)),
         format!("{} of a bound of {}", run.total().down(4), run.bound().fraction().up(4)),
-        format!("a share of {share} where `near` promises {near}"),
+        format!("a share of {share} where `near` promises {near} and `closer` {closer}"),
     ]
 }
 
