@@ -28,17 +28,20 @@ static void fill(void)
 
 static void print(void)
 {
-    printf("total %.3f\n", vithmork_scaled(answer, vithmork_get(answer, VITHMORK_DRAWN)));
-    printf("bound %.3f\n", vithmork_bound(answer));
-    for (size_t p = 0; p < PAIRS; p++)
+    printf("total %.3f\n", vithmork_total_thousandths(answer) / 1000.0);
+    printf("bound %.3f\n", vithmork_bound_thousandths(answer) / 1000.0);
+    for (size_t p = 0; p < PAIRS; p++) {
+        uint64_t total = vithmork_pair_total(belts, BELTS, pairs, p, flow);
         printf("pair %u to %u carries %.3f\n", (unsigned)pair[p][0], (unsigned)pair[p][1],
-               vithmork_scaled(answer, vithmork_pair_total(belts, BELTS, pairs, p, flow)));
+               vithmork_thousandths(answer, total) / 1000.0);
+    }
     for (size_t e = 0; e < BELTS; e++) {
         uint64_t load = 0;
         for (size_t p = 0; p < PAIRS; p++)
             load += vithmork_size(vithmork_get_signed(flow, p * BELTS + e));
         printf("belt %u to %u carries %.3f of %u\n", (unsigned)belt[e][0],
-               (unsigned)belt[e][1], vithmork_scaled(answer, load), (unsigned)belt[e][2]);
+               (unsigned)belt[e][1], vithmork_thousandths(answer, load) / 1000.0,
+               (unsigned)belt[e][2]);
     }
     printf("choices %u, so far %u\n", (unsigned)vithmork_get(answer, VITHMORK_CHOICES),
            (unsigned)vithmork_count(counts, OFFICE));

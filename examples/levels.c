@@ -48,7 +48,8 @@ static void solve(void)
         exit(1);
     }
     printf("total %.3f, bound %.3f\n",
-           vithmork_scaled(answer, vithmork_get(answer, VITHMORK_DRAWN)), vithmork_bound(answer));
+           vithmork_total_thousandths(answer) / 1000.0,
+           vithmork_bound_thousandths(answer) / 1000.0);
 }
 
 /* What each pair sends over a belt, negative from head to tail. */
@@ -58,11 +59,11 @@ static void print_belt(size_t e)
     for (size_t p = 0; p < PAIRS; p++)
         load += vithmork_size(vithmork_get_signed(flow, p * BELTS + e));
     printf("belt %u to %u carries %.3f of %u:", (unsigned)belt[e][0], (unsigned)belt[e][1],
-           vithmork_scaled(answer, load), (unsigned)belt[e][2]);
+           vithmork_thousandths(answer, load) / 1000.0, (unsigned)belt[e][2]);
     for (size_t p = 0; p < PAIRS; p++) {
         int64_t amount = vithmork_get_signed(flow, p * BELTS + e);
-        printf(" pair %u %.3f%s", (unsigned)p + 1, vithmork_scaled_signed(answer, amount),
-               p + 1 < PAIRS ? "," : "\n");
+        printf(" pair %u %.3f%s", (unsigned)p + 1,
+               vithmork_thousandths_signed(answer, amount) / 1000.0, p + 1 < PAIRS ? "," : "\n");
     }
 }
 
@@ -73,7 +74,7 @@ static void print_stations(void)
         for (size_t p = 0; p < PAIRS; p++)
             use += vithmork_station_use(belts, BELTS, p, flow, limit[i][0]);
         printf("station %u passes %.3f of %u\n", (unsigned)limit[i][0],
-               vithmork_scaled(answer, use), (unsigned)limit[i][1]);
+               vithmork_thousandths(answer, use) / 1000.0, (unsigned)limit[i][1]);
     }
 }
 

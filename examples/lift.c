@@ -46,7 +46,8 @@ static void solve(const char *what, size_t limits_len)
         exit(1);
     }
     printf("%s: total %.3f, bound %.3f\n", what,
-           vithmork_scaled(answer, vithmork_get(answer, VITHMORK_DRAWN)), vithmork_bound(answer));
+           vithmork_total_thousandths(answer) / 1000.0,
+           vithmork_bound_thousandths(answer) / 1000.0);
 }
 
 /* What each station with a limit passes of all pairs, by the plan of the last call. */
@@ -57,7 +58,7 @@ static void print_stations(void)
         for (size_t p = 0; p < PAIRS; p++)
             use += vithmork_station_use(belts, BELTS, p, flow, limit[i][0]);
         printf("  station %u passes %.3f of %u\n", (unsigned)limit[i][0],
-               vithmork_scaled(answer, use), (unsigned)limit[i][1]);
+               vithmork_thousandths(answer, use) / 1000.0, (unsigned)limit[i][1]);
     }
 }
 

@@ -42,7 +42,8 @@ static void solve(uint64_t office, uint64_t q)
         return;
     }
     printf("total %.3f, bound %.3f, choices %u, so far %u\n",
-           vithmork_scaled(answer, vithmork_get(answer, VITHMORK_DRAWN)), vithmork_bound(answer),
+           vithmork_total_thousandths(answer) / 1000.0,
+           vithmork_bound_thousandths(answer) / 1000.0,
            (unsigned)vithmork_get(answer, VITHMORK_CHOICES),
            (unsigned)vithmork_count(counts, office));
 }

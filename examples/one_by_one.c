@@ -27,8 +27,9 @@ static void fill(void)
         vithmork_put_pair(pairs, p, pair[p][0], pair[p][1]);
 }
 
-/* Solves for some pairs, adds each belt's amounts to carried, returns the total. */
-static double solve(size_t first, size_t number, double *carried)
+/* Solves for some pairs, adds each belt's load to carried and returns the total, all in
+ * thousandths and rounded down. */
+static uint64_t solve(size_t first, size_t number, uint64_t *carried)
 {
     uint64_t returned = vithmork_solve(
         STATIONS, PRECISION, OFFICE, belts, sizeof belts, pairs + VITHMORK_PAIRS_BYTES(first),
@@ -40,32 +41,35 @@ static double solve(size_t first, size_t number, double *carried)
                refusal.place);
         exit(1);
     }
-    for (size_t p = 0; p < number; p++)
-        for (size_t e = 0; e < BELTS; e++)
-            carried[e] +=
-                vithmork_scaled(answer, vithmork_size(vithmork_get_signed(flow, p * BELTS + e)));
-    return vithmork_scaled(answer, vithmork_get(answer, VITHMORK_DRAWN));
+    for (size_t e = 0; e < BELTS; e++) {
+        uint64_t load = 0;
+        for (size_t p = 0; p < number; p++)
+            load += vithmork_size(vithmork_get_signed(flow, p * BELTS + e));
+        carried[e] += vithmork_thousandths(answer, load);
+    }
+    return vithmork_total_thousandths(answer);
 }
 
-static void print(const char *what, double total, const double *carried)
+static void print(const char *what, uint64_t total, const uint64_t *carried)
 {
-    printf("%s %.3f\n", what, total);
+    printf("%s %.3f\n", what, total / 1000.0);
     for (size_t e = 0; e < BELTS; e++)
         printf("  belt %u to %u: %.3f of %u\n", (unsigned)belt[e][0], (unsigned)belt[e][1],
-               carried[e], (unsigned)belt[e][2]);
+               carried[e] / 1000.0, (unsigned)belt[e][2]);
 }
 
 int main(void)
 {
-    double sum = 0, apart[BELTS] = {0}, shared[BELTS] = {0};
+    uint64_t sum = 0, apart[BELTS] = {0}, shared[BELTS] = {0};
     fill();
     for (size_t p = 0; p < PAIRS; p++) {
-        double total = solve(p, 1, apart);
-        printf("pair %u to %u alone %.3f\n", (unsigned)pair[p][0], (unsigned)pair[p][1], total);
+        uint64_t total = solve(p, 1, apart);
+        printf("pair %u to %u alone %.3f\n", (unsigned)pair[p][0], (unsigned)pair[p][1],
+               total / 1000.0);
         sum += total;
     }
     print("added up", sum, apart);
     print("in one call", solve(0, PAIRS, shared), shared);
-    printf("bound %.3f\n", vithmork_bound(answer));
+    printf("bound %.3f\n", vithmork_bound_thousandths(answer) / 1000.0);
     return 0;
 }

@@ -58,11 +58,13 @@ static void print_plan(size_t f, const uint8_t *answer)
     const uint8_t *its_pairs = pairs + vithmork_floor_begin(floors, f, VITHMORK_FLOOR_PAIRS);
     const uint8_t *its_flow = flow + vithmork_floor_begin(floors, f, VITHMORK_FLOOR_FLOW);
     printf("total %.3f, bound %.3f, choices %u\n",
-           vithmork_scaled(answer, vithmork_get(answer, VITHMORK_DRAWN)), vithmork_bound(answer),
+           vithmork_total_thousandths(answer) / 1000.0,
+           vithmork_bound_thousandths(answer) / 1000.0,
            (unsigned)vithmork_get(answer, VITHMORK_CHOICES));
     for (size_t p = 0; p < site[f].k; p++) {
         uint64_t total = vithmork_pair_total(its_belts, site[f].m, its_pairs, p, its_flow);
-        printf("  pair %u carries %.3f\n", (unsigned)p + 1, vithmork_scaled(answer, total));
+        printf("  pair %u carries %.3f\n", (unsigned)p + 1,
+               vithmork_thousandths(answer, total) / 1000.0);
     }
 }
 

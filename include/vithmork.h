@@ -20,9 +20,9 @@ extern "C" {
  * or returns: a host then has to be looked at anew. The second rises with what
  * is new beside that, the third with what is put right. */
 #define VITHMORK_VERSION_MAJOR 4
-#define VITHMORK_VERSION_MINOR 2
+#define VITHMORK_VERSION_MINOR 3
 #define VITHMORK_VERSION_PATCH 0
-#define VITHMORK_VERSION "4.2.0"
+#define VITHMORK_VERSION "4.3.0"
 
 /* Bounds. What lies outside them is refused, so a host need not test first. */
 enum {
@@ -460,9 +460,51 @@ static inline uint64_t vithmork_station_use(const uint8_t *belts, size_t m, size
     return in < out ? out : in;
 }
 
+/* The next four functions are for printing. They give thousandths of a tote an hour as
+ * whole numbers, exactly: 1138425 is 1138.425. Amounts and the total are rounded down, since
+ * a total rounded up promises what the plan does not carry. The bound is rounded up, since
+ * rounded down it is no bound. printf("%.3f", thousandths / 1000.0) prints the same digits. */
+
+/* The size of an amount of the flow table, or of a sum that is at most DRAWN, times the
+ * scale and rounded down. The product with CAPACITY is below 2^64, but 1000 times that need
+ * not be: so the whole totes and the remainder are multiplied apart. */
+static inline uint64_t vithmork_thousandths(const uint8_t *answer, uint64_t amount)
+{
+    uint64_t parts = amount * vithmork_get(answer, VITHMORK_SCALE_CAPACITY);
+    uint64_t load = vithmork_get(answer, VITHMORK_SCALE_LOAD);
+    return parts / load * 1000 + parts % load * 1000 / load;
+}
+
+/* The same of an amount with its sign: its size is rounded down. */
+static inline int64_t vithmork_thousandths_signed(const uint8_t *answer, int64_t amount)
+{
+    int64_t size = (int64_t)vithmork_thousandths(answer, vithmork_size(amount));
+    return amount < 0 ? -size : size;
+}
+
+/* The total carried, rounded down. */
+static inline uint64_t vithmork_total_thousandths(const uint8_t *answer)
+{
+    return vithmork_thousandths(answer, vithmork_get(answer, VITHMORK_DRAWN));
+}
+
+/* The bound, rounded up. D and ALPHA are below 2^58, so ten times a remainder fits, and
+ * the three digits are found one by one. */
+static inline uint64_t vithmork_bound_thousandths(const uint8_t *answer)
+{
+    uint64_t alpha = vithmork_get(answer, VITHMORK_BOUND_ALPHA);
+    uint64_t quotient = vithmork_get(answer, VITHMORK_BOUND_D) / alpha;
+    uint64_t remainder = vithmork_get(answer, VITHMORK_BOUND_D) % alpha;
+    for (int digit = 0; digit < 3; digit++) {
+        quotient = quotient * 10 + remainder * 10 / alpha;
+        remainder = remainder * 10 % alpha;
+    }
+    return remainder == 0 ? quotient : quotient + 1;
+}
+
 /* The size of an amount of the flow table, or the sum of some, in totes an hour:
- * times the scale, and rounded as a double is. The exact fraction is in the
- * answer. */
+ * times the scale, and rounded as a double is, which may be up. The exact fraction is
+ * in the answer. */
 static inline double vithmork_scaled(const uint8_t *answer, uint64_t amount)
 {
     return (double)(amount * vithmork_get(answer, VITHMORK_SCALE_CAPACITY)) /
@@ -476,6 +518,7 @@ static inline double vithmork_scaled_signed(const uint8_t *answer, int64_t amoun
     return amount < 0 ? -size : size;
 }
 
+/* The bound in totes an hour, rounded as a double is, which may be down. */
 static inline double vithmork_bound(const uint8_t *answer)
 {
     return (double)vithmork_get(answer, VITHMORK_BOUND_D) /

@@ -1,6 +1,7 @@
 /* What the header adds to the calls: versions, absent slices, marks, signed
- * amounts, limits, counts, totes, floors of a site, a station's use and a pair's own
- * total. Compiled as C99 and as C++17; exits with 1 if something is otherwise. */
+ * amounts, limits, counts, totes, floors of a site, a station's use, a pair's own
+ * total and what is printed in thousandths. Compiled as C99 and as C++17; exits with
+ * 1 if something is otherwise. */
 #include "vithmork.h"
 
 #include <stdio.h>
@@ -152,6 +153,88 @@ static void scaled(void)
     expect("-8 scaled", vithmork_scaled_signed(answer, -8) == -6.0, 1);
 }
 
+/* An amount, alone and as all that was drawn, and with either sign. */
+static void carried(uint64_t amount, uint64_t capacity, uint64_t load, uint64_t due)
+{
+    vithmork_put(answer, VITHMORK_DRAWN, amount);
+    vithmork_put(answer, VITHMORK_SCALE_CAPACITY, capacity);
+    vithmork_put(answer, VITHMORK_SCALE_LOAD, load);
+    expect("an amount in thousandths", vithmork_thousandths(answer, amount), due);
+    expect("the total in thousandths", vithmork_total_thousandths(answer), due);
+    if (amount > INT64_MAX)
+        return;
+    expect("an amount ahead in thousandths",
+           vithmork_thousandths_signed(answer, (int64_t)amount) == (int64_t)due, 1);
+    expect("an amount back in thousandths",
+           vithmork_thousandths_signed(answer, -(int64_t)amount) == -(int64_t)due, 1);
+}
+
+/* Rounded down, and an exact thousandth kept: small, with a load of 2,000,000, of which a
+ * thousandth is 2,000, with the product near 2^64 and the load near 2^21, and the total of
+ * examples/two_docks.csv. */
+static void amounts_down(void)
+{
+    carried(0, 1, 1, 0);
+    carried(7, 1, 1, 7000);
+    carried(8, 3, 4, 6000);
+    carried(1, 3, 4, 750);
+    carried(1, 2, 3, 666);
+    carried(2000000, 1, 2000000, 1000);
+    carried(1999999, 1, 2000000, 999);
+    carried(2000, 1, 2000000, 1);
+    carried(1999, 1, 2000000, 0);
+    carried(2097150, 1, 2097151, 999);
+    carried(UINT64_C(18446744073709551), 1000, 2097151, UINT64_C(8796097216513999));
+    carried(UINT64_MAX, 1, 2097151, UINT64_C(8796097216514000));
+    carried(14780000, 1, 17900, 825698);
+    carried(INT64_MAX, 1, 2097151, UINT64_C(4398048608257000));
+    expect("the greatest amount back",
+           vithmork_thousandths_signed(answer, INT64_MIN) == -INT64_C(4398048608257000), 1);
+}
+
+static void bounded(uint64_t d, uint64_t alpha, uint64_t due)
+{
+    vithmork_put(answer, VITHMORK_BOUND_D, d);
+    vithmork_put(answer, VITHMORK_BOUND_ALPHA, alpha);
+    expect("the bound in thousandths", vithmork_bound_thousandths(answer), due);
+}
+
+/* Rounded up, and an exact thousandth kept: small, with either number near 2^58 and as
+ * little as can be above or below a thousandth, and the bound of examples/two_docks.csv. */
+static void bound_up(void)
+{
+    const uint64_t most = (UINT64_C(1) << 58) - 1;
+    bounded(0, 1, 0);
+    bounded(5, 1, 5000);
+    bounded(6, 4, 1500);
+    bounded(2, 3, 667);
+    bounded(1001, 1000, 1001);
+    bounded(10010, 10000, 1001);
+    bounded(10001, 10000, 1001);
+    bounded(12345, 10000, 1235);
+    bounded(most, most, 1000);
+    bounded(most - 1, most, 1000);
+    bounded(most, most - 1, 1001);
+    bounded(1, most, 1);
+    bounded(most, UINT64_C(1) << 39, UINT64_C(524288000));
+    bounded(most + 1 - (UINT64_C(1) << 39), UINT64_C(1) << 39, UINT64_C(524287000));
+    bounded(UINT64_C(1525282853522600), UINT64_C(1715768773288), 888980);
+}
+
+/* A double of thousandths is printed with the digits of the whole number. */
+static void printed(void)
+{
+    char by_double[40], by_digits[40];
+    for (uint64_t thousandths = 0; thousandths < UINT64_C(1) << 40;
+         thousandths += 1 + thousandths / 999) {
+        snprintf(by_double, sizeof by_double, "%.3f", thousandths / 1000.0);
+        snprintf(by_digits, sizeof by_digits, "%llu.%03llu",
+                 (unsigned long long)(thousandths / 1000),
+                 (unsigned long long)(thousandths % 1000));
+        expect("a printed number", (uint64_t)(strcmp(by_double, by_digits) != 0), 0);
+    }
+}
+
 /* Amounts by hand: pair 1 sends 7 + 2 from station 1 and has 3 of them come back;
  * on the reversible belt from 3 to 1 pair 3 has 1 that runs from 1 to 3. */
 static void by_hand(void)
@@ -287,6 +370,9 @@ int main(void)
     toted();
     listed();
     scaled();
+    amounts_down();
+    bound_up();
+    printed();
     by_hand();
     of_a_plan();
     in_whole_totes();

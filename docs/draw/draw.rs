@@ -19,6 +19,8 @@ mod pictures;
 mod places;
 mod plot;
 mod points;
+#[path = "../../tests/second/rounded.rs"]
+mod rounded;
 mod sides;
 #[path = "../../tests/second/slipped.rs"]
 mod slipped;

@@ -1,40 +1,38 @@
 //! The figures of a picture, from what the programs print: stored listings, and the stored
-//! output of the C examples.
+//! output of the C examples. They are exact until they are written.
 
 use crate::dimacs;
 use crate::network::{Arc, Network};
+use crate::rounded::Fraction;
 
-/// `amounts` are the pairs', below zero from head to tail, where the program prints them.
+/// `amounts` are the pairs' in thousandths, below zero from head to tail, where the program
+/// prints them.
 pub struct Belt {
     pub tail: usize,
     pub head: usize,
     pub capacity: u64,
-    pub load: f64,
-    pub amounts: Vec<f64>,
+    pub load: Fraction,
+    pub amounts: Vec<i64>,
     pub reversible: bool,
 }
 
 impl Belt {
-    pub fn new(arc: &Arc, load: f64) -> Belt {
+    pub fn new(arc: &Arc, load: Fraction) -> Belt {
         let (tail, head) = (arc.tail as usize, arc.head as usize);
         Belt { tail, head, capacity: arc.capacity, load, amounts: Vec::new(), reversible: false }
     }
 
     /// What goes from tail to head, and what from head to tail.
-    pub fn ways(&self) -> [f64; 2] {
-        [1.0, -1.0].map(|sign| self.amounts.iter().map(|amount| (sign * amount).max(0.0)).sum())
+    pub fn ways(&self) -> [Fraction; 2] {
+        let going = |sign: i64| self.amounts.iter().map(move |amount| (sign * amount).max(0));
+        [1, -1].map(|sign| printed_as(going(sign).sum()))
     }
 }
 
 pub struct Plan {
     pub belts: Vec<Belt>,
-    pub total: f64,
-    pub bound: f64,
-}
-
-/// Rounded up to so many parts of one: what nothing exceeds is never told too low.
-pub fn up(number: f64, parts: f64) -> f64 {
-    (number * parts).ceil() / parts
+    pub total: Fraction,
+    pub bound: Fraction,
 }
 
 pub fn read(path: &str) -> String {
@@ -59,11 +57,12 @@ pub fn listed(name: &str) -> Plan {
 }
 
 /// The rows of this name: the fields between, and upper over lower.
-fn fractions(listing: &str, row: &str) -> Vec<(String, f64)> {
+fn fractions(listing: &str, row: &str) -> Vec<(String, Fraction)> {
     let fields = listing.lines().map(|line| line.split(',').collect::<Vec<_>>());
     let named = fields.filter(|fields| fields[0] == row);
-    let number = |field: &str| field.parse::<f64>().expect("a fraction has two numbers");
-    named.map(|of| (of[1..3].join(","), number(of[3]) / number(of[4]))).collect()
+    let number = |field: &str| field.parse::<u64>().expect("a fraction has two numbers");
+    let fraction = |of: &[&str]| Fraction::new(number(of[3]), number(of[4]));
+    named.map(|of| (of[1..3].join(","), fraction(&of))).collect()
 }
 
 /// The belts that an example prints, none of them marked as reversible.
@@ -73,35 +72,50 @@ pub fn printed(text: &str) -> Vec<Belt> {
 }
 
 /// Behind a belt's load and capacity may stand the pairs, each with its amount.
-fn carrying(numbers: &[f64]) -> Belt {
+fn carrying(numbers: &[i64]) -> Belt {
     let [tail, head, load, capacity, pairs @ ..] = numbers else { panic!("a belt has four") };
-    let arc = Arc::one_way(*tail as u64, *head as u64, *capacity as u64);
+    let [tail, head, capacity] = [tail, head, capacity].map(|number| whole(*number) as u64);
     let amounts = pairs.chunks(2).map(|pair| pair[1]).collect();
-    Belt { amounts, ..Belt::new(&arc, *load) }
+    Belt { amounts, ..Belt::new(&Arc::one_way(tail, head, capacity), printed_as(*load)) }
 }
 
 /// What leaves a pair's source less what enters it.
-pub fn carried(belts: &[Belt], pair: usize, source: usize) -> f64 {
-    let out = |belt: &Belt| f64::from(belt.tail == source) - f64::from(belt.head == source);
-    belts.iter().map(|belt| out(belt) * belt.amounts[pair]).sum()
+pub fn carried(belts: &[Belt], pair: usize, source: usize) -> Fraction {
+    let out = |belt: &Belt| i64::from(belt.tail == source) - i64::from(belt.head == source);
+    printed_as(belts.iter().map(|belt| out(belt) * belt.amounts[pair]).sum())
 }
 
 /// What a table of an example is set to; its comments have no numbers.
 pub fn table(source: &str, name: &str) -> Vec<usize> {
     let set = after(after(source, name), "=").split(';').next().unwrap_or_default();
-    numbers(set).iter().map(|number| *number as usize).collect()
+    numbers(set).into_iter().map(whole).collect()
 }
 
 /// The number behind these words.
-pub fn figure(text: &str, words: &str) -> f64 {
-    numbers(after(text, words))[0]
+pub fn figure(text: &str, words: &str) -> Fraction {
+    printed_as(numbers(after(text, words))[0])
 }
 
 fn after<'a>(text: &'a str, words: &str) -> &'a str {
     text.split_once(words).expect("the text has these words").1
 }
 
-pub fn numbers(text: &str) -> Vec<f64> {
+/// The size of so many thousandths, and a whole number of which there are so many.
+pub fn printed_as(thousandths: i64) -> Fraction {
+    Fraction::new(thousandths.unsigned_abs(), 1000_u64)
+}
+
+pub fn whole(thousandths: i64) -> usize {
+    thousandths as usize / 1000
+}
+
+/// The numbers of a text, in thousandths: none has more than three places.
+pub fn numbers(text: &str) -> Vec<i64> {
     let other = |c: char| !(c.is_ascii_digit() || c == '.' || c == '-');
-    text.split(other).filter_map(|word| word.parse().ok()).collect()
+    let thousandths = |word: &str| {
+        let (whole, places) = word.split_once('.').unwrap_or((word, ""));
+        format!("{whole}{places:0<3}").parse().ok()
+    };
+    let words = text.split(other).filter(|word| word.contains(|c: char| c.is_ascii_digit()));
+    words.filter_map(thousandths).collect()
 }

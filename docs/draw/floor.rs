@@ -3,7 +3,9 @@
 
 use crate::figures::Belt;
 use crate::points::{distance, middle, shifted, stepped, Point};
+use crate::rounded::Fraction;
 use crate::svg::{line, Svg};
+use std::cmp::Ordering;
 
 pub const DARK: &str = "#444";
 pub const GREY: &str = "#c6cdd6";
@@ -71,7 +73,7 @@ impl Layout {
 
     fn band(&self, svg: &mut Svg, belt: &Belt, way: &Way) {
         let path = way.path();
-        let (load, capacity) = (self.tote * belt.load, self.tote * belt.capacity as f64);
+        let (load, capacity) = (self.tote * belt.load.value(), self.tote * belt.capacity as f64);
         let colour = colour(belt.load, belt.capacity);
         svg.stroke(&path, GREY, capacity);
         svg.stroke(&path, colour, load);
@@ -88,8 +90,8 @@ impl Layout {
     }
 
     /// What goes each way of a straight belt, apart, in the direction in which it goes.
-    fn lanes(&self, svg: &mut Svg, ways: [f64; 2], Way { start, bent, end }: &Way) {
-        let [forth, back] = ways.map(|amount| self.tote * amount);
+    fn lanes(&self, svg: &mut Svg, ways: [Fraction; 2], Way { start, bent, end }: &Way) {
+        let [forth, back] = ways.map(|amount| self.tote * amount.value());
         let between = (forth - back) / 2.0;
         let ends = [stepped(*start, *bent, 0.0, between), stepped(*end, *bent, 0.0, -between)];
         svg.stroke(&line(ends), "white", 1.5);
@@ -103,7 +105,7 @@ impl Layout {
     }
 
     /// Drawn over a station that is limited, with what passes there below it.
-    pub fn limited(&self, svg: &mut Svg, station: usize, passes: f64, limit: u64) {
+    pub fn limited(&self, svg: &mut Svg, station: usize, passes: Fraction, limit: u64) {
         let at = self.at(station);
         double_ring(svg, at, RADIUS, colour(passes, limit));
         svg.text(shifted(at, 0.0, 4.0), &station.to_string());
@@ -124,16 +126,16 @@ impl Way {
     }
 }
 
-fn of(load: f64, capacity: u64) -> String {
-    format!("{load:.1} of {capacity}")
+fn of(load: Fraction, capacity: u64) -> String {
+    format!("{} of {capacity}", load.down(1))
 }
 
-/// A belt is full if its load, to the tenth that is printed, is its capacity.
-fn colour(load: f64, capacity: u64) -> &'static str {
-    match load - capacity as f64 {
-        over if over >= 0.05 => RED,
-        over if over > -0.05 => ORANGE,
-        _ => BLUE,
+/// A belt is full if its load is its capacity, and not a little less.
+fn colour(load: Fraction, capacity: u64) -> &'static str {
+    match load.upper.cmp(&(u128::from(capacity) * load.lower)) {
+        Ordering::Greater => RED,
+        Ordering::Equal => ORANGE,
+        Ordering::Less => BLUE,
     }
 }
 

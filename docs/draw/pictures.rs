@@ -1,10 +1,12 @@
 //! The pictures of floors.
 
-use crate::figures::{carried, example, figure, listed, numbers, printed, read, table, up, Belt};
+use crate::figures::{carried, example, figure, listed, numbers, printed, read, table, Belt};
+use crate::figures::{printed_as, whole};
 use crate::floor::{arrowhead, double_ring, BLUE, DARK, GREY, ORANGE, RED};
-use crate::network::Network;
+use crate::network::{Arc, Network};
 use crate::places::{CROSS, LEVELS, LINE, TWO_DOCKS};
 use crate::points::shifted;
+use crate::rounded::Fraction;
 use crate::svg::{line, Svg};
 
 const WIDTH: u32 = 860;
@@ -31,14 +33,14 @@ pub fn two_docks() -> String {
 
 pub fn stuck() -> String {
     let (plan, net) = (listed("cross"), example("cross"));
-    assert_eq!(plan.belts[2].load, 0.0, "the listing's plan leaves the belt across empty");
+    assert_eq!(plan.belts[2].load.upper, 0, "the listing's plan leaves the belt across empty");
     let (amount, filled) = filled(&net, &[1, 2, 3, 4]);
     let mut svg = Svg::new(WIDTH, 331, "Two plans for a floor with a belt across");
     svg.heading((LEFT, 25.0), &format!("stuck: {amount}"));
     CROSS.draw(&mut svg, &filled);
     svg.text_from((LEFT, 43.0), "route 1, 2, 3, 4 is filled; every other meets a full belt");
     svg.panel(HALF, |svg| {
-        svg.heading((LEFT, 25.0), &format!("the listing's plan: {:.1}", plan.total));
+        svg.heading((LEFT, 25.0), &format!("the listing's plan: {}", plan.total.down(1)));
         svg.text_from((LEFT, 43.0), "only routes 1, 2, 4 and 1, 3, 4 are used");
         CROSS.draw(svg, &plan.belts);
     });
@@ -52,8 +54,9 @@ fn filled(net: &Network, route: &[u64]) -> (u64, Vec<Belt>) {
     let on = |tail, head| route.windows(2).any(|step| step == [tail, head]);
     let taken = net.arcs.iter().filter(|arc| on(arc.tail, arc.head));
     let amount = taken.map(|arc| arc.capacity).min().expect("the route has belts");
-    let load = |tail, head| if on(tail, head) { amount as f64 } else { 0.0 };
-    let belts = net.arcs.iter().map(|arc| Belt::new(arc, load(arc.tail, arc.head)));
+    let load = |tail, head| if on(tail, head) { amount } else { 0 };
+    let loaded = |arc: &Arc| Belt::new(arc, Fraction::new(load(arc.tail, arc.head), 1_u64));
+    let belts = net.arcs.iter().map(loaded);
     (amount, belts.collect())
 }
 
@@ -61,14 +64,14 @@ pub fn one_by_one() -> String {
     let text = read("tests/one_by_one.expected");
     let (apart, together) = text.split_once("in one call").expect("it is solved both ways");
     let mut svg = Svg::new(WIDTH, 280, "Three pairs on one line, one by one and in one call");
-    let sum = figure(apart, "added up");
-    svg.heading((LEFT, 25.0), &format!("one by one, added up: {sum:.1}"));
+    let sum = figure(apart, "added up").down(1);
+    svg.heading((LEFT, 25.0), &format!("one by one, added up: {sum}"));
     svg.text_from((LEFT, 43.0), "each pair as if the line were its own");
     alone(&mut svg, apart);
     LINE.draw(&mut svg, &printed(apart));
     svg.panel(HALF, |svg| {
-        let total = numbers(together)[0];
-        svg.heading((LEFT, 25.0), &format!("in one call: {total:.1}"));
+        let total = printed_as(numbers(together)[0]).down(1);
+        svg.heading((LEFT, 25.0), &format!("in one call: {total}"));
         svg.text_from((LEFT, 43.0), "the three pairs share the line");
         LINE.draw(svg, &printed(together));
     });
@@ -81,12 +84,14 @@ pub fn one_by_one() -> String {
 fn alone(svg: &mut Svg, text: &str) {
     let pairs = text.lines().filter(|line| line.starts_with("pair"));
     for (of, up) in pairs.map(numbers).zip([80.0, 46.0, 46.0]) {
-        let [from, to] = [of[0], of[1]].map(|station| LINE.at(station as usize));
+        let [source, sink] = [of[0], of[1]].map(whole);
+        let [from, to] = [source, sink].map(|station| LINE.at(station));
         let (base, tip) = (shifted(from, 8.0, -up), shifted(to, -8.0, -up));
         svg.stroke(&line([base, shifted(tip, -8.0, 0.0)]), DARK, 1.5);
         arrowhead(svg, DARK, shifted(tip, -8.0, 0.0), tip, 9.0);
         let middle = ((base.0 + tip.0) / 2.0, base.1 - 7.0);
-        svg.text(middle, &format!("pair {} to {} alone: {:.1}", of[0], of[1], of[2]));
+        let total = printed_as(of[2]).down(1);
+        svg.text(middle, &format!("pair {source} to {sink} alone: {total}"));
     }
 }
 
@@ -99,12 +104,12 @@ pub fn levels() -> String {
     let mut svg = Svg::new(WIDTH, 298, "A lift with a limit and an aisle that runs either way");
     LEVELS.draw(&mut svg, &belts);
     for belt in belts.iter().filter(|belt| belt.reversible) {
-        let [east, west] = belt.ways();
+        let [east, west] = belt.ways().map(|way| way.down(1));
         let at = shifted(LEVELS.at(belt.tail), 120.0, 29.0);
-        svg.text(at, &format!("{east:.1} east, {west:.1} west"));
+        svg.text(at, &format!("{east} east, {west} west"));
     }
     for of in text.lines().filter(|line| line.starts_with("station")).map(numbers) {
-        LEVELS.limited(&mut svg, of[0] as usize, of[1], of[2] as u64);
+        LEVELS.limited(&mut svg, whole(of[0]), printed_as(of[1]), whole(of[2]) as u64);
     }
     svg.heading((LEFT, 245.0), &carries(figure(&text, "total"), figure(&text, "bound")));
     svg.text_from((LEFT, 265.0), &pairs(&belts, &source));
@@ -118,18 +123,19 @@ fn pairs(belts: &[Belt], source: &str) -> String {
     let name = |station: usize| LEVELS.stations[station - 1].1;
     let ends = table(source, "pair[PAIRS][2]");
     let each = ends.chunks(2).enumerate().map(|(pair, ends)| {
-        let carried = carried(belts, pair, ends[0]);
-        format!("{} to {} {carried:.1}", name(ends[0]), name(ends[1]))
+        let carried = carried(belts, pair, ends[0]).down(1);
+        format!("{} to {} {carried}", name(ends[0]), name(ends[1]))
     });
     format!("pairs: {}", each.collect::<Vec<_>>().join(", "))
 }
 
-fn most(bound: f64) -> String {
-    format!("no plan carries more than {:.1} totes an hour", up(bound, 10.0))
+fn most(bound: Fraction) -> String {
+    format!("no plan carries more than {} totes an hour", bound.up(1))
 }
 
-fn carries(total: f64, bound: f64) -> String {
-    format!("total {total:.1} totes an hour, no plan carries more than {:.1}", up(bound, 10.0))
+fn carries(total: Fraction, bound: Fraction) -> String {
+    let (total, bound) = (total.down(1), bound.up(1));
+    format!("total {total} totes an hour, no plan carries more than {bound}")
 }
 
 fn key(svg: &mut Svg, y: f64, key: &[(&str, &str, f64)]) {

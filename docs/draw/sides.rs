@@ -2,7 +2,7 @@
 //! belt's load asks for, that belt's length, D, and what D stays below. All are drawn as
 //! powers of 1 + 1/q over 2^36; lengths, and with them D, count times 2 to the halvings.
 
-use crate::figures::{example, up};
+use crate::figures::example;
 use crate::method::{level, weight, SCALE};
 use crate::plot::{Plot, LEFT};
 use crate::slipped::{run_seen, Run, Slip};
@@ -62,7 +62,7 @@ fn draw(svg: &mut Svg, plot: &Plot, moments: &[Moment], end: &Run) {
     plot.curve(svg, &plot.points(&weight), WEIGHT);
     plot.curve(svg, &plot.points(&upper), UPPER);
     let above = length.iter().zip(&load).map(|(length, load)| length - load).fold(0.0, f64::max);
-    let above = up(above, 100.0);
+    let above = (above * 100.0).ceil() / 100.0;
     let near = format!("the fullest belt's length: 2^H c(b) l(b), at most {above:.2} above");
     let asked = "what its load asks for: 2^36 (1 + 1/q)^(Y(b)/c(b))";
     plot.along(svg, &room[1], (60, -8.0), UPPER, "room for roundings: an eighth of L");
@@ -87,6 +87,6 @@ fn moment(run: &Run, end: &Run) -> Moment {
         load: run.loads[b] as f64 / capacity as f64,
         length: powers(doubled(capacity * run.lengths[b]), q),
         weight: powers(doubled(all), q),
-        drawn: share * run.drawn as f64 / end.least.value(),
+        drawn: share * run.drawn as f64 / end.least.fraction().value(),
     }
 }

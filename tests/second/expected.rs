@@ -8,10 +8,12 @@ mod call;
 mod contracts;
 mod method;
 mod network;
+mod rounded;
 mod site_page;
 mod solver;
 
 use network::{network, Arc, Network, Solution};
+use rounded::Fraction;
 use std::process::ExitCode;
 
 /// Request C-20: how many offices there are, and the most that the count of one may be
@@ -102,14 +104,15 @@ fn numbers(text: &str) -> Vec<u64> {
 fn print_floor(Example { net, q, .. }: &Example) {
     let solution = solver::solve(net, *q);
     let m = net.arcs.len();
-    println!("total {:.3}", scaled(&solution, solution.answer[0]));
-    println!("bound {:.3}", bound(&solution));
+    println!("total {}", total(&solution).down(3));
+    println!("bound {}", bound(&solution).up(3));
     for (pair, row) in net.commodities.iter().zip(solution.flow.chunks(m)) {
-        let carried = scaled(&solution, carried(net, row, pair.source));
-        println!("pair {} to {} carries {carried:.3}", pair.source, pair.sink);
+        let carried = scaled(&solution, carried(net, row, pair.source)).down(3);
+        println!("pair {} to {} carries {carried}", pair.source, pair.sink);
     }
     for (arc, load) in net.arcs.iter().zip(loads(net, &solution)) {
-        println!("belt {} to {} carries {load:.3} of {}", arc.tail, arc.head, arc.capacity);
+        let load = load.down(3);
+        println!("belt {} to {} carries {load} of {}", arc.tail, arc.head, arc.capacity);
     }
     let choices = solution.answer[5];
     println!("choices {choices}, so far {choices}");
@@ -134,9 +137,9 @@ fn print_levels(Example { net, q, .. }: &Example) {
 fn print_stations(before: &str, net: &Network, solution: &Solution) {
     for node in net.limited_nodes() {
         let rows = solution.flow.chunks(net.arcs.len());
-        let passes = scaled(solution, rows.map(|row| through(net, row, node)).sum());
+        let passes = scaled(solution, rows.map(|row| through(net, row, node)).sum()).down(3);
         let limit = net.limits[node as usize - 1];
-        println!("{before}station {node} passes {passes:.3} of {limit}");
+        println!("{before}station {node} passes {passes} of {limit}");
     }
 }
 
@@ -174,27 +177,31 @@ fn print_run(net: &Network, q: u64, office: u64, counts: &mut [u64]) {
         return println!("refused: 11 (full count), place 0");
     }
     let solution = solver::solve(net, q);
-    let (total, choices) = (scaled(&solution, solution.answer[0]), solution.answer[5]);
+    let choices = solution.answer[5];
     *count += choices;
-    print!("total {total:.3}, bound {:.3}, ", bound(&solution));
+    print!("total {}, bound {}, ", total(&solution).down(3), bound(&solution).up(3));
     println!("choices {choices}, so far {count}");
 }
 
+/// What is added up are thousandths, rounded down each.
 fn print_one_by_one(Example { net, q, .. }: &Example) {
-    let (mut sum, mut apart) = (0.0, vec![0.0; net.arcs.len()]);
+    let thousandths = |fraction: Fraction| fraction.parts(1000);
+    let (mut sum, mut apart) = (0, vec![0; net.arcs.len()]);
     for pair in &net.commodities {
         let alone = Network { commodities: vec![*pair], ..net.clone() };
         let solution = solver::solve(&alone, *q);
-        let total = scaled(&solution, solution.answer[0]);
-        println!("pair {} to {} alone {total:.3}", pair.source, pair.sink);
-        sum += total;
-        apart.iter_mut().zip(loads(net, &solution)).for_each(|(load, more)| *load += more);
+        let total = total(&solution);
+        println!("pair {} to {} alone {}", pair.source, pair.sink, total.down(3));
+        sum += thousandths(total);
+        let loads = loads(net, &solution).into_iter().map(thousandths);
+        apart.iter_mut().zip(loads).for_each(|(load, more)| *load += more);
     }
-    print_loads("added up", sum, net, &apart);
+    let added = |thousandths: u128| Fraction::new(thousandths, 1000_u64);
+    let apart: Vec<_> = apart.into_iter().map(added).collect();
+    print_loads("added up", added(sum), net, &apart);
     let together = solver::solve(net, *q);
-    let total = scaled(&together, together.answer[0]);
-    print_loads("in one call", total, net, &loads(net, &together));
-    println!("bound {:.3}", bound(&together));
+    print_loads("in one call", total(&together), net, &loads(net, &together));
+    println!("bound {}", bound(&together).up(3));
 }
 
 fn print_reversible(Example { net, q, .. }: &Example) {
@@ -209,10 +216,12 @@ fn print_reversible(Example { net, q, .. }: &Example) {
 fn print_amounts(net: &Network, solution: &Solution) {
     let rows: Vec<_> = solution.flow.chunks(net.arcs.len()).collect();
     for (e, (arc, load)) in net.arcs.iter().zip(loads(net, solution)).enumerate() {
-        print!("belt {} to {} carries {load:.3} of {}:", arc.tail, arc.head, arc.capacity);
+        let load = load.down(3);
+        print!("belt {} to {} carries {load} of {}:", arc.tail, arc.head, arc.capacity);
         let amounts = rows.iter().zip(1..).map(|(row, pair)| {
             let size = scaled(solution, row[e].unsigned_abs());
-            format!(" pair {pair} {:.3}", if row[e] < 0 { -size } else { size })
+            let sign = if row[e] < 0 && size.parts(1000) > 0 { "-" } else { "" };
+            format!(" pair {pair} {sign}{}", size.down(3))
         });
         println!("{}", amounts.collect::<Vec<_>>().join(","));
     }
@@ -228,14 +237,13 @@ fn two_for_one(net: &Network) -> Network {
 }
 
 fn print_total(what: &str, solution: &Solution) {
-    let total = scaled(solution, solution.answer[0]);
-    println!("{what}total {total:.3}, bound {:.3}", bound(solution));
+    println!("{what}total {}, bound {}", total(solution).down(3), bound(solution).up(3));
 }
 
-fn print_loads(what: &str, total: f64, net: &Network, loads: &[f64]) {
-    println!("{what} {total:.3}");
+fn print_loads(what: &str, total: Fraction, net: &Network, loads: &[Fraction]) {
+    println!("{what} {}", total.down(3));
     for (arc, load) in net.arcs.iter().zip(loads) {
-        println!("  belt {} to {}: {load:.3} of {}", arc.tail, arc.head, arc.capacity);
+        println!("  belt {} to {}: {} of {}", arc.tail, arc.head, load.down(3), arc.capacity);
     }
 }
 
@@ -247,17 +255,21 @@ fn carried(net: &Network, row: &[i64], source: u64) -> u64 {
     sum.unsigned_abs()
 }
 
-fn scaled(solution: &Solution, amount: u64) -> f64 {
+fn scaled(solution: &Solution, amount: u64) -> Fraction {
     let [_, capacity, load, ..] = solution.answer;
-    amount as f64 * capacity as f64 / load as f64
+    Fraction::new(u128::from(amount) * u128::from(capacity), load)
 }
 
-fn bound(solution: &Solution) -> f64 {
-    solution.answer[3] as f64 / solution.answer[4] as f64
+fn total(solution: &Solution) -> Fraction {
+    scaled(solution, solution.answer[0])
+}
+
+fn bound(solution: &Solution) -> Fraction {
+    Fraction::new(solution.answer[3], solution.answer[4])
 }
 
 /// What each arc carries of all commodities in both directions, scaled.
-fn loads(net: &Network, solution: &Solution) -> Vec<f64> {
+fn loads(net: &Network, solution: &Solution) -> Vec<Fraction> {
     let m = net.arcs.len();
     let amounts = |e| solution.flow.iter().skip(e).step_by(m);
     let load = |e| amounts(e).map(|amount| amount.unsigned_abs()).sum();

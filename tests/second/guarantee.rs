@@ -1,5 +1,6 @@
 //! What docs/GUARANTEE.md tells of figures outside of what it quotes.
 
+use crate::rounded::Fraction;
 use crate::shares::shares;
 use crate::slip_floors::{merge, one_feeder, two_belts, two_feeders};
 use crate::slipped::{run, run_seen, Run, Slip};
@@ -11,6 +12,7 @@ pub const SLIPPED: u64 = 16;
 
 pub fn told() -> Vec<String> {
     let mut told = room::told();
+    told.extend(for_e());
     told.extend(share_rows());
     told.extend(near::told());
     told.push(format!("{} where V is {}", to_the_nearest(), carried_whole()));
@@ -21,10 +23,28 @@ pub fn told() -> Vec<String> {
     told
 }
 
-/// The promises at each precision, cut after the fourth place.
+/// Of the 5 in 8q + 5, what (1 + 1/q)^q lacks to e and what (65/64)^65 costs in its place, in
+/// eighths of a power of 1 + 1/q and rounded up.
+fn for_e() -> Vec<String> {
+    let of_e = |q: f64| 8.0 / (1.0 / q).ln_1p();
+    let lacks = |q| of_e(q) - 8.0 * q;
+    let costs = |q| of_e(q) * (65.0 * (1.0_f64 / 64.0).ln_1p() - 1.0);
+    let (most_lacking, most) = (lacks(16.0), costs(16.0));
+    for q in (4..=16).map(f64::from) {
+        assert!(lacks(q) < 4.0 && lacks(q) + costs(q) <= 5.0 && costs(q) <= most);
+    }
+    let up = |eighths: f64| format!("{:.2}", (eighths * 100.0).ceil() / 100.0);
+    let (first, last, both) = (up(lacks(4.0)), up(most_lacking), up(most_lacking + most));
+    vec![
+        format!("lacks to e: {first} at q = 4 and {last} at q = 16"),
+        format!("highest at q = 16, where it is {}; with the {last} it makes {both} of", up(most)),
+    ]
+}
+
+/// The promises at each precision, rounded down to the fourth place.
 fn share_rows() -> Vec<String> {
     let names = ["1 - 2/q", "1 - 7/(4q)", "(8q - 9)/(8q + 5)"];
-    let cut = |[upper, lower]: [u64; 2]| format!(" 0.{:04} |", upper * 10_000 / lower);
+    let cut = |[upper, lower]: [u64; 2]| format!(" {} |", Fraction::new(upper, lower).down(4));
     let row = |(i, name): (usize, &str)| {
         let shares: String = (4..=16).map(|q| cut(shares(q)[i].1)).collect();
         format!("| {name} |{shares}")
@@ -38,11 +58,16 @@ fn carried_whole() -> String {
     line.expect("the plan is told").to_string()
 }
 
-/// Total over bound, and what `near` promises of it.
-pub fn share(run: &Run) -> [String; 2] {
-    let [upper, lower] = shares(run.q)[0].1;
-    let got = run.total() / run.bound().value();
-    [format!("{got:.3}"), (upper as f64 / lower as f64).to_string()]
+/// Total over bound.
+pub fn share(run: &Run) -> String {
+    run.total().over(run.bound().fraction()).down(3)
+}
+
+/// What a promise has of it there.
+pub fn promised(name: &str) -> String {
+    let named = shares(SLIPPED).into_iter().find(|(other, _)| *other == name);
+    let [upper, lower] = named.expect("there is such a promise").1;
+    Fraction::new(upper, lower).down(4)
 }
 
 /// Choices over belt 1, each of which drew its capacity.
@@ -53,12 +78,12 @@ pub fn by_the_first(run: &Run) -> u64 {
 fn growth_down() -> Vec<String> {
     let net = two_feeders();
     let run = run(&net, SLIPPED, Slip::GrowthDown);
-    let [got, promised] = share(&run);
+    let (share, near, closer) = (share(&run), promised("near"), promised("closer"));
     vec![
         format!("When both lengths are {} neither grows", run.lengths[0]),
         format!("After {} of them", by_the_first(&run)),
-        format!("{:.4} of a bound of {:.0}", run.total(), run.bound().value()),
-        format!("a share of {got} where `near` promises {promised}"),
+        format!("{} of a bound of {}", run.total().down(4), run.bound().fraction().up(4)),
+        format!("a share of {share} where `near` promises {near} and `closer` {closer}"),
     ]
 }
 
@@ -68,11 +93,11 @@ fn halving_down() -> Vec<String> {
     let run = run_seen(&net, SLIPPED, Slip::HalvingDown, |run| {
         gone = gone.or((run.lengths[0] == 0).then_some(run.halvings));
     });
-    let (total, bound) = (run.total(), run.bound().value());
+    let (total, bound) = (run.total().down(4), run.bound().fraction().up(4));
     vec![
         format!("After {} halvings it has none", gone.expect("a length comes to 0")),
         format!("{} choices over the feeder end the run", by_the_first(&run)),
-        format!("{total:.4} of {bound:.0}, a share of {}", share(&run)[0]),
+        format!("{total} of {bound}, a share of {}", share(&run)),
     ]
 }
 
@@ -89,9 +114,9 @@ fn divided() -> Vec<String> {
 fn last_bound() -> Vec<String> {
     let net = two_belts();
     let run = run(&net, 4, Slip::LastBound);
-    let (least, last) = (run.least.value(), run.last.value());
+    let (least, last) = (run.least.fraction().up(4), run.last.fraction().up(4));
     vec![
-        format!("choice {} meets {least:.0}", run.least.iteration),
-        format!("the last choice meets {last:.0}. The plan of {}", run.total()),
+        format!("choice {} meets {least}", run.least.iteration),
+        format!("the last choice meets {last}. The plan of {}", run.total().down(2)),
     ]
 }

@@ -1,6 +1,7 @@
 //! The floors of examples/ and their listings, with the figures of a row as pages write them.
 
 use crate::network::{Network, Solution};
+use crate::rounded::Fraction;
 use crate::{dimacs, solver};
 use std::collections::VecDeque;
 
@@ -29,20 +30,20 @@ impl Listed {
         self.solution.answer[0] * self.solution.answer[1]
     }
 
-    pub fn total(&self) -> f64 {
-        self.upper() as f64 / self.lower() as f64
+    pub fn total(&self) -> Fraction {
+        Fraction::new(self.upper(), self.lower())
     }
 
-    pub fn bound(&self) -> f64 {
-        self.solution.answer[3] as f64 / self.solution.answer[4] as f64
+    pub fn bound(&self) -> Fraction {
+        Fraction::new(self.solution.answer[3], self.solution.answer[4])
     }
 
     pub fn belt(&self, number: usize) -> u64 {
         self.solution.loads[number - 1] * self.solution.answer[1]
     }
 
-    pub fn carried(&self, number: usize) -> f64 {
-        self.belt(number) as f64 / self.lower() as f64
+    pub fn carried(&self, number: usize) -> Fraction {
+        Fraction::new(self.belt(number), self.lower())
     }
 
     pub fn capacity(&self, number: usize) -> u64 {
@@ -52,28 +53,13 @@ impl Listed {
     /// A fraction over the lower number of the total, and that of the bound.
     pub fn over(&self, upper: u64) -> String {
         let lower = self.lower();
-        format!("{upper}/{lower} = {}", short(upper as f64 / lower as f64))
+        format!("{upper}/{lower} = {}", Fraction::new(upper, lower).short())
     }
 
     pub fn bound_fraction(&self) -> String {
         let [_, _, _, weight, alpha, ..] = self.solution.answer;
-        format!("{weight}/{alpha} = {:.3}", self.bound())
+        format!("{weight}/{alpha} = {}", self.bound().up(3))
     }
-}
-
-/// To three places, or whole.
-fn short(number: f64) -> String {
-    if number.fract() == 0.0 {
-        format!("{number}")
-    } else {
-        format!("{number:.3}")
-    }
-}
-
-/// Cut after so many places.
-pub fn cut(number: f64, places: i32) -> f64 {
-    let scale = 10f64.powi(places);
-    (number * scale).floor() / scale
 }
 
 /// With a comma after each three digits.

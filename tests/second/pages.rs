@@ -21,6 +21,7 @@ mod near;
 mod network;
 mod random;
 mod room;
+mod rounded;
 mod search;
 mod shapes;
 mod shares;

@@ -3,7 +3,7 @@
 
 use crate::call::Call;
 use crate::network::{network, Network};
-use crate::{after, arc, bound, carried, constant, items, numbers, scaled, solver};
+use crate::{after, arc, bound, carried, constant, items, numbers, scaled, solver, total};
 
 struct Floor {
     net: Network,
@@ -54,12 +54,13 @@ fn floors(source: &str, belts: &[Vec<u64>]) -> Vec<Floor> {
 /// Says how many choices were made.
 fn print_plan(net: &Network, q: u64) -> u64 {
     let solution = solver::solve(net, q);
-    let (total, choices) = (scaled(&solution, solution.answer[0]), solution.answer[5]);
-    println!("0, total {total:.3}, bound {:.3}, choices {choices}", bound(&solution));
+    let (total, bound) = (total(&solution).down(3), bound(&solution).up(3));
+    let choices = solution.answer[5];
+    println!("0, total {total}, bound {bound}, choices {choices}");
     let rows = solution.flow.chunks(net.arcs.len());
     for ((pair, row), number) in net.commodities.iter().zip(rows).zip(1..) {
-        let total = scaled(&solution, carried(net, row, pair.source));
-        println!("  pair {number} carries {total:.3}");
+        let total = scaled(&solution, carried(net, row, pair.source)).down(3);
+        println!("  pair {number} carries {total}");
     }
     choices
 }

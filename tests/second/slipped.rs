@@ -5,6 +5,7 @@
 use crate::method::{fraction_below, fullest, grown, halved, start, threshold, weight};
 use crate::method::{MARK, SCALE};
 use crate::network::Network;
+use crate::rounded::Fraction;
 use crate::solver::{choose, Choice};
 
 /// Document 01, "Where the method slips"; its first slip has three places.
@@ -28,8 +29,8 @@ pub struct Met {
 }
 
 impl Met {
-    pub fn value(self) -> f64 {
-        self.weight as f64 / self.alpha as f64
+    pub fn fraction(self) -> Fraction {
+        Fraction::new(self.weight, self.alpha)
     }
 }
 
@@ -137,9 +138,9 @@ impl<'a> Run<'a> {
     }
 
     /// V, what the plan carries.
-    pub fn total(&self) -> f64 {
+    pub fn total(&self) -> Fraction {
         let (upper, lower) = self.scale();
-        self.drawn as f64 * upper as f64 / lower as f64
+        Fraction::new(u128::from(self.drawn) * u128::from(upper), lower)
     }
 
     pub fn bound(&self) -> Met {

@@ -13,6 +13,7 @@ mod call;
 mod dimacs;
 mod method;
 mod network;
+mod rounded;
 mod shares;
 mod slip_floors;
 mod slipped;
@@ -128,8 +129,7 @@ fn show_row([slip, m, q]: [&str; 3], [v, b, n, w, c, o]: [&str; 6], breaks: &str
 }
 
 fn figures(run: &Run) -> [String; 3] {
-    let (total, bound) = (run.total(), run.bound().value());
-    [format!("{total:.4}"), format!("{bound:.4}"), run.iterations.to_string()]
+    [run.total().down(4), run.bound().fraction().up(4), run.iterations.to_string()]
 }
 
 /// The run without a slip is the second solver's.
@@ -202,15 +202,15 @@ fn within(run: &Run) -> Fact {
 fn best(run: &Run) -> Fact {
     let (bound, least) = (run.bound(), run.least);
     let says = format!(
-        "best: choice {} met {} / {} = {:.4}, choice {} gives {} / {} = {:.4}",
+        "best: choice {} met {} / {} = {}, choice {} gives {} / {} = {}",
         least.iteration,
         least.weight,
         least.alpha,
-        least.value(),
+        least.fraction().up(4),
         bound.iteration,
         bound.weight,
         bound.alpha,
-        bound.value()
+        bound.fraction().up(4)
     );
     let smaller = fraction_below(least.weight, least.alpha, bound.weight, bound.alpha);
     Fact { holds: !smaller, says }

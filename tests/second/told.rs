@@ -1,7 +1,8 @@
 //! What each page tells of figures, in the page's own words.
 
-use crate::listed::{cut, grouped, listed, most};
+use crate::listed::{grouped, listed, most};
 use crate::method::{grown, halved, level, start, threshold};
+use crate::rounded::Fraction;
 use crate::{course, guarantee};
 
 pub fn all() -> Vec<(&'static str, String)> {
@@ -24,13 +25,13 @@ fn readme() -> Vec<String> {
         [1, 3, 4, 6, 7].map(|belt| grouped(floor.belt(belt)));
     vec![
         format!("from {} of it at q = 4 to {} at q = 16", share(4), share(16)),
-        format!("{upper} / {lower} = {:.1} totes an hour", floor.total()),
-        format!("{} / {} = {:.1}", grouped(weight), grouped(alpha), floor.bound()),
+        format!("{upper} / {lower} = {} totes an hour", floor.total().down(3)),
+        format!("{} / {} = {}", grouped(weight), grouped(alpha), floor.bound().up(3)),
         format!("here it is {}", most(&floor.net)),
         format!("{choices} routes were chosen"),
         format!("the lengths at the {which}th gave the bound"),
-        format!("{gate} / {lower} = {:.1} of the {}", floor.carried(1), floor.capacity(1)),
-        format!("the first carries {} of {}", floor.carried(6), floor.capacity(6)),
+        format!("{gate} / {lower} = {} of the {}", floor.carried(1).down(3), floor.capacity(1)),
+        format!("the first carries {} of {}", floor.carried(6).short(), floor.capacity(6)),
         format!("{from_a} + {from_b} reach the merge, and {first} + {second} leave it"),
         format!("`belt,1,2,{},{},{}`", floor.belt(1), floor.lower(), floor.capacity(1)),
         format!("the upper number of a bound has {} here", weight.to_string().len()),
@@ -38,9 +39,9 @@ fn readme() -> Vec<String> {
     ]
 }
 
-/// 1 - 7/(4q), cut after the second place.
-fn share(q: u64) -> f64 {
-    cut((4.0 * q as f64 - 7.0) / (4.0 * q as f64), 2)
+/// 1 - 7/(4q), rounded down to the second place.
+fn share(q: u64) -> String {
+    Fraction::new(4 * q - 7, 4 * q).down(2)
 }
 
 fn promised() -> String {
