@@ -28,6 +28,7 @@ use Rattle.paths.specs.Graph.{Table}
 use Rattle.choice.proofs.Found.{closest-none, closest-choice}
 use Rattle.paths.proofs.Telling.{distance-tells}
 use Rattle.paths.proofs.WalkExample.{floor, lengths, near, away, bounded, to-3, to-1, walk}
+use Rattle.paths.proofs.Walking.{walk-arrived}
 
 -- Twice the commodity from 1 to 3.
 abbrev twice : Network
@@ -120,7 +121,7 @@ bounds =
 -- its walk is as long,
 closest : Closest twice lengths (3 ∷ 3 ∷ []) near 0 (2 ∷ []) 1
 unfolding nodeLength station pathLength
-closest = record { feasible = to-3 _ _ .feasible; walk = walk _ _; own = refl; few = omega arith }
+closest = record { feasible = to-3 _ _ .feasible; arrived = walk-arrived (to-3 _ _ .feasible) (walk _ _) refl (omega arith); own = refl }
 
 -- and it is chosen, with the path of one arc.
 found : (choice twice lengths ≡ some (choiceOf 0 (2 ∷ []))) × (pathLength lengths (uses twice 1 (2 ∷ [])) ≡ 3)
