@@ -26,7 +26,7 @@ use Rattle.choice.specs.Closest.{Closest}
 use Rattle.paths.specs.Far.{farLength, far}
 use Rattle.paths.specs.Graph.{Table}
 use Rattle.choice.proofs.Found.{closest-none, closest-choice}
-use Rattle.paths.proofs.Telling.{distance-tells}
+use Rattle.paths.proofs.Telling.{distance-length}
 use Rattle.paths.proofs.WalkExample.{floor, lengths, near, away, bounded, to-3, to-1, walk}
 use Rattle.paths.proofs.Walking.{walk-arrived}
 
@@ -60,7 +60,7 @@ table-3 : Table twice lengths near 3 far
 table-3 =
     record {
       distances = to-3 _ _;
-      tells = distance-tells (ends twice (accepted .0)) (omega arith) (to-3 _ _);
+      some-path = distance-length (ends twice (accepted .0)) (omega arith) (to-3 _ _);
       capped = λ v b. four (λ v. getD near v 0 ≤ far) (omega arith) (omega arith) (omega arith) (omega arith) v (omega arith);
     }
 
@@ -68,7 +68,7 @@ table-1 : Table parted lengths away 1 far
 table-1 =
     record {
       distances = to-1 _ _;
-      tells = distance-tells (ends parted (accepted .1)) (omega arith) (to-1 _ _);
+      some-path = distance-length (ends parted (accepted .1)) (omega arith) (to-1 _ _);
       capped = λ v b. four (λ v. getD away v 0 ≤ far) (omega arith) (omega arith) (omega arith) (omega arith) v (omega arith);
     }
 
