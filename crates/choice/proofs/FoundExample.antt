@@ -26,8 +26,9 @@ use Rattle.choice.specs.Closest.{Closest}
 use Rattle.paths.specs.Far.{farLength, far}
 use Rattle.paths.specs.Graph.{Table}
 use Rattle.choice.proofs.Found.{closest-none, closest-choice}
-use Rattle.paths.proofs.Telling.{distance-tells}
+use Rattle.paths.proofs.Telling.{distance-length}
 use Rattle.paths.proofs.WalkExample.{floor, lengths, near, away, bounded, to-3, to-1, walk}
+use Rattle.paths.proofs.Walking.{walk-arrived}
 
 -- Twice the commodity from 1 to 3.
 abbrev twice : Network
@@ -59,7 +60,7 @@ table-3 : Table twice lengths near 3 far
 table-3 =
     record {
       distances = to-3 _ _;
-      tells = distance-tells (ends twice (accepted .0)) (omega arith) (to-3 _ _);
+      some-path = distance-length (ends twice (accepted .0)) (omega arith) (to-3 _ _);
       capped = λ v b. four (λ v. getD near v 0 ≤ far) (omega arith) (omega arith) (omega arith) (omega arith) v (omega arith);
     }
 
@@ -67,7 +68,7 @@ table-1 : Table parted lengths away 1 far
 table-1 =
     record {
       distances = to-1 _ _;
-      tells = distance-tells (ends parted (accepted .1)) (omega arith) (to-1 _ _);
+      some-path = distance-length (ends parted (accepted .1)) (omega arith) (to-1 _ _);
       capped = λ v b. four (λ v. getD away v 0 ≤ far) (omega arith) (omega arith) (omega arith) (omega arith) v (omega arith);
     }
 
@@ -120,7 +121,7 @@ bounds =
 -- its walk is as long,
 closest : Closest twice lengths (3 ∷ 3 ∷ []) near 0 (2 ∷ []) 1
 unfolding nodeLength station pathLength
-closest = record { feasible = to-3 _ _ .feasible; walk = walk _ _; own = refl; few = omega arith }
+closest = record { feasible = to-3 _ _ .feasible; arrived = walk-arrived (to-3 _ _ .feasible) (walk _ _) refl (omega arith); own = refl }
 
 -- and it is chosen, with the path of one arc.
 found : (choice twice lengths ≡ some (choiceOf 0 (2 ∷ []))) × (pathLength lengths (uses twice 1 (2 ∷ [])) ≡ 3)

@@ -83,7 +83,7 @@ module _ {net : Network} {l bounds d : List ℕ} {i : ℕ} where
       {path : List ℕ} {r : ℕ} → Feasible net l d (sink net i) → getD bounds i 0 ≡ lengthBy net l d i → Walked net l d (source net i) (sink net i) path r →
       Followed net l bounds d i path r
   followed-walk F own W =
-      record { arrived = λ b. record { feasible = F; walk = W .arrived b; own = own; few = W .few }; stuck = λ z q. W .stuck z }
+      record { arrived = λ b. record { feasible = F; arrived = W .arrived b; own = own }; stuck = λ z q. W .stuck z }
 
   pub followed-none : {path : List ℕ} → (getD bounds i 0 ≡ lengthBy net l d i → ⊥) → Followed net l bounds d i path 0
   followed-none other = record { arrived = λ b. absurd (omega arith); stuck = λ z q. absurd (other q) }

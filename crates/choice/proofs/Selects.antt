@@ -4,14 +4,13 @@ use mathlib.Core.Path.{_≡_, sym, _∙_}
 use mathlib.Core.List.{List}
 use Prim.Native.Nat.{ℕ, _≤_, _<_}
 use native.Mathlib.Omega.{arith}
-use lib.ListN.{length, getD, take, length-take}
+use lib.ListN.{getD, take}
 use Rattle.network.specs.Network.{Network, source, sink}
 use Rattle.network.specs.Path.{Path}
 use Rattle.network.proofs.Paths.{path-some}
 use Rattle.packed.specs.declared.Shape.{Shape}
 use Rattle.paths.specs.Far.{farLength}
 use Rattle.paths.specs.Visits.{Visits}
-use Rattle.paths.proofs.Walks.{walk-path}
 use Rattle.method.specs.declared.Selected.{Selected}
 use Rattle.memory.specs.Memory.{boundsIn, leastIn, distancesIn}
 use Rattle.choice.specs.Chose.{Chose}
@@ -43,7 +42,7 @@ module _ {s : Shape} {net : Network} {l memory walked : List ℕ} {r x : ℕ} (H
     selects-closest = N .closest (rw own at b)
 
     pub selects-path : Path net u (sink net i) (take r walked)
-    selects-path = rw from (walk-path (selects-closest .walk))
+    selects-path = rw from (selects-closest .arrived .leads-to)
 
     -- and with what its nodes use behind them it is the choice.
     pub selects-walk : (k : ℕ) (path : List ℕ) → Visits net u r walked path k → Chose net l (selected i r k x) path
@@ -51,15 +50,15 @@ module _ {s : Shape} {net : Network} {l memory walked : List ℕ} {r x : ℕ} (H
         let ends = H .fit .ends in
         let L = N .memory-of .least in
         let found = closest-choice (N .memory-of .below) L ends (H .few) selects-closest in
-        let arc = path-some net (source net i) (sink net i) (take r walked) (ends .apart i (L .among)) (walk-path (selects-closest .walk)) in
+        let arc = path-some net (source net i) (sink net i) (take r walked) (ends .apart i (L .among)) (selects-closest .arrived .leads-to) in
         record {
           nothing = λ q. absurd (omega arith);
           something = λ c. record {
             chosen = rw (visits .path) (found .0);
             used = rw (visits .path, ← from) (visits .used);
             alpha = rw (visits .used, from) (found .1 ∙ sym own);
-            some-arc = omega (arith, arc, length-take r walked);
-            few-arcs = omega (arith, selects-closest .few, H .few);
+            some-arc = omega (arith, arc, selects-closest .arrived .arcs);
+            few-arcs = omega (arith, selects-closest .arrived .few, H .few);
             some-more = visits .low;
             few-used = visits .high;
           };

@@ -95,7 +95,7 @@ module _ {net : Network} {l d old new : List ℕ} (ends : Ends net) (few : net .
       ⊎-elim
       (λ (h : far ≤ getD d (source net i) 0). omega (arith, B .capped i b))
       (λ (h : getD d (source net i) 0 < far).
-      let w = T .tells (source net i) (ends .sources i b) .some-path h in
+      let w = T .some-path (source net i) (ends .sources i b) h in
       omega (arith, B .lower i b (w .0) (rw q (w .1)), w .2, uses-length net l (source net i) t (w .0) (w .1)))
       (le-or-lt far (getD d (source net i) 0)) in
       ⊎-elim

@@ -46,7 +46,7 @@ table-same {net} {t = t} ends sink same T =
                 );
           };
       capped = λ v b. omega (arith, same v b, T .capped v b);
-      tells = λ v node. rw (same v (node .1)) (T .tells v node);
+      some-path = λ v node. rw (same v (node .1)) (T .some-path v node);
     }
 
 -- With no node on the list the search is done.

@@ -14,7 +14,7 @@ use Rattle.paths.specs.Searching.{Searching, Any, Passed}
 use Rattle.paths.proofs.Labels.{labels-rest}
 use Rattle.network.proofs.Leads.{leads-into}
 use Rattle.paths.proofs.Listings.{listing-none}
-use Rattle.paths.proofs.Telling.{distance-tells}
+use Rattle.paths.proofs.Telling.{distance-length}
 
 module _ {net : Network} {l : List ℕ} {t : ℕ} {d listed : List ℕ} {size : ℕ} where
   -- With no node on the list the labels are the distances.
@@ -22,7 +22,7 @@ module _ {net : Network} {l : List ℕ} {t : ℕ} {d listed : List ℕ} {size : 
   searching-end few S none =
       let D =
       labels-rest (S .labels) (λ u e w h. S .feasible u e w h tt (listing-none (S .listing) none w (leads-into net u e w h (S .fit .ends)))) in
-      record { distances = D; capped = S .labels .capped; tells = distance-tells (S .fit .ends) few D }
+      record { distances = D; capped = S .labels .capped; some-path = distance-length (S .fit .ends) few D }
 
   -- A node is taken out: the arcs into it are to be relaxed.
   pub searching-out :

@@ -14,13 +14,15 @@ use Rattle.network.specs.Ends.{Node}
 use Rattle.network.specs.Network.{Network}
 use Rattle.network.specs.Path.{leads}
 use Rattle.paths.specs.Calls.{Leaving}
-use Rattle.paths.specs.Distances.{Way}
+use Rattle.paths.specs.Distances.{Way, Feasible}
 use Rattle.index.specs.Index.{arcAt, endAt}
 use Rattle.paths.specs.Tight.{Tight}
 use Rattle.paths.specs.Walk.{Walk, stop, step}
-use Rattle.paths.specs.Walked.{Walkable, Walked}
+use Rattle.paths.specs.Walked.{Walkable, Arrived, Walked}
 use Rattle.network.proofs.Leads.{leads-into}
+use Rattle.paths.proofs.Lower.{telescopes}
 use Rattle.paths.proofs.Simple.{walk-few}
+use Rattle.paths.proofs.Walks.{walk-path, walk-key}
 
 -- The walk from s is at v, with its k arcs in the table. They are a walk to any node that is no farther than v, once one goes on to it: so to v itself.
 pub record Walking (net : Network) (l d : List ℕ) (s t size : ℕ) (path : List ℕ) (v k : ℕ) : Type 0 where
@@ -51,6 +53,19 @@ walk-none :
 walk-none none apart stop = apart refl
 walk-none none apart (step {e = e} other way low w) = none e way
 
+-- A walk to t, all of it written: no path has a smaller key, so none that is as short has fewer arcs.
+pub walk-arrived :
+    {net : Network} {l d : List ℕ} {s t : ℕ} {path : List ℕ} {r : ℕ} → Feasible net l d t → Walk net l d t s (take r path) →
+    length (take r path) ≡ r → r < net .nodes → Arrived net l d s t path r
+walk-arrived {s = s} {t = t} F w arcs few =
+    record {
+      walk = w;
+      leads-to = walk-path w;
+      arcs = arcs;
+      fewest = λ p h e. omega (arith, walk-key w, telescopes F s t p h);
+      few = few;
+    }
+
 module _ {net : Network} {out l d : List ℕ} {s t size : ℕ} (W : Walkable net out l d s t size) where
   -- Before the first arc.
   pub walking-start : (path : List ℕ) → length path ≡ size → Walking net l d s t size path s 0
@@ -80,9 +95,8 @@ module _ {net : Network} {out l d : List ℕ} {s t size : ℕ} (W : Walkable net
     pub walking-end : v ≡ t → Walked net l d s t path k
     walking-end q =
         record {
-          arrived = λ b. subst (λ (u : ℕ). Walk net l d u s (take k path)) q so-far;
+          arrived = λ b. walk-arrived (W .feasible) (subst (λ (u : ℕ). Walk net l d u s (take k path)) q so-far) written-all walking-few;
           stuck = λ z. absurd (W .apart (sym (S .first z) ∙ q));
-          few = walking-few;
         }
 
     module _ (apart : v ≡ t → ⊥) where
@@ -92,11 +106,7 @@ module _ {net : Network} {out l d : List ℕ} {s t size : ℕ} (W : Walkable net
       -- Where no arc from v is tight there is no walk from s.
       pub walking-stuck : ((e : ℕ) → Way net l d v (getD d v 0) e → ⊥) → Walked net l d s t path 0
       walking-stuck none =
-          record {
-            arrived = λ b. absurd (omega arith);
-            stuck = λ z p w. walk-none none apart (S .comes-by p w .1);
-            few = omega (arith, S .node);
-          }
+          record { arrived = λ b. absurd (omega arith); stuck = λ z p w. walk-none none apart (S .comes-by p w .1) }
 
       module _ {r : ℕ} (T : Tight net out l d v r) where
         abbrev way : Way net l d v (getD d v 0) (arcAt out r)

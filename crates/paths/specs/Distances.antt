@@ -4,13 +4,12 @@ use mathlib.Core.Path.{_≡_}
 use mathlib.Core.List.{List}
 use mathlib.Core.Option.{some}
 use Prim.Native.Nat.{ℕ, _+_, _≤_, _<_}
-use lib.ListN.{length, getD}
+use lib.ListN.{getD}
 use Rattle.network.specs.Ends.{Node}
 use Rattle.network.specs.Network.{Network}
-use Rattle.network.specs.Onward.{onward}
-use Rattle.network.specs.Path.{leads, Path}
+use Rattle.network.specs.Path.{leads}
 use Rattle.network.specs.Resources.{nodeLength}
-use Rattle.paths.specs.Key.{arcKey, lengthOf, arcsOf}
+use Rattle.paths.specs.Key.{arcKey}
 
 -- How far the way over arc e to node w is, where x is the length of w: what the arc and w add, and the distance of w.
 abbrev pub via : List ℕ → List ℕ → ℕ → ℕ → ℕ → ℕ
@@ -36,10 +35,3 @@ pub record Feasible (net : Network) (l d : List ℕ) (t : ℕ) : Type 0 where
 pub record Distances (net : Network) (l d : List ℕ) (t far : ℕ) : Type 0 where
   pub feasible : Feasible net l d t
   pub tight : (v : ℕ) → Node net v → (v ≡ t → ⊥) → getD d v 0 < far → (e : ℕ) × Way net l d v (getD d v 0) e
-
--- What the distance x from v to t tells: onward of v no path is shorter than the length in it, and none that is as short has fewer arcs than the number
--- in it; and below the cap some path has both.
-pub record Tells (net : Network) (l : List ℕ) (v t far x : ℕ) : Type 0 where
-  pub some-path : x < far → (p : List ℕ) × Path net v t p × (onward net l v p ≡ lengthOf x) × (length p ≡ arcsOf x)
-  pub shortest : (p : List ℕ) → Path net v t p → lengthOf x ≤ onward net l v p
-  pub fewest : (p : List ℕ) → Path net v t p → onward net l v p ≡ lengthOf x → arcsOf x ≤ length p

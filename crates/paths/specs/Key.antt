@@ -1,6 +1,6 @@
 -- What a search compares paths by: one number, in which the length counts first and then the number of arcs. Request C-16.
 use mathlib.Core.List.{List}
-use Prim.Native.Nat.{ℕ, _+_, _*_, _/_, _%_}
+use Prim.Native.Nat.{ℕ, _+_, _*_, _/_}
 use lib.ListN.{length, getD}
 use Rattle.bounds.specs.Bounds.{mostNodes}
 use Rattle.network.specs.Network.{Network}
@@ -15,9 +15,6 @@ pathKey net l v p = mostNodes * onward net l v p + length p
 abbrev pub arcKey : List ℕ → ℕ → ℕ → ℕ
 arcKey l x e = mostNodes * (getD l e 0 + x) + 1
 
--- The length, and the number of arcs, that a key tells.
+-- The length that a key tells.
 abbrev pub lengthOf : ℕ → ℕ
 lengthOf x = x / mostNodes
-
-abbrev pub arcsOf : ℕ → ℕ
-arcsOf x = x % mostNodes

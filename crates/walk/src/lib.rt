@@ -45,7 +45,8 @@ fn tight(s: Shape, net: &[u64], out: &[u64], lengths: &[u64], dist: &[u64], v: u
     p
 }
 
-// The walk from the source to the sink is written into path. How many arcs it has, 0 where it is stuck.
+// The walk from the source to the sink is written into path. How many arcs it has, and no path that
+// is as short has fewer; 0 where it is stuck.
 pub fn walk(
     s: Shape,
     net: &[u64],

@@ -82,7 +82,7 @@ visit-requires c κs =
       node = rw (from s) (ends .sources (leastIn (memory-at s)) (N .memory-of .least .among));
       to = sink (net (entry s)) (leastIn (memory-at s));
       leads-to = selects-path (p .survey) N (own s) (t .if1 .left) (from s);
-      few = omega (arith, selects-closest (p .survey) N (own s) (t .if1 .left) (from s) .few, p .survey .few);
+      few = omega (arith, selects-closest (p .survey) N (own s) (t .if1 .left) (from s) .arrived .few, p .survey .few);
       room = omega (arith, p .room, s .nearest .kept .1 .1 .1 .1 .1 .0);
     }
 
