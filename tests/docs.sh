@@ -1,7 +1,8 @@
 #!/usr/bin/env bash
-# The pages agree with the tree: links lead to files and headings; a name with its file in brackets stands in that file; docs/METHOD.md has every section of
-# document 01 that is cited, every request that has landed and every refusal; and docs/READING.md has every definition file that the contracts rest on, after those
-# that it uses. What pages say of figures is for tests/figures.sh. The notes of docs/changes say what was so when they were written: README leads to each.
+# The pages agree with the tree: links lead to files and headings; a name with its file in brackets stands in that file; what pages and the comments of crates/ cite,
+# a page, a heading of it, a numbered step or a file of the tree, is there; docs/METHOD.md has every section of document 01 that is cited, every request that has
+# landed and every refusal; and docs/READING.md has every definition file that the contracts rest on, after those that it uses. What pages say of figures is for
+# tests/figures.sh. The notes of docs/changes say what was so when they were written: README leads to each.
 set -u
 cd "$(dirname "$0")/.." || exit 2
 faults=0
@@ -23,6 +24,41 @@ mentions() {
             done
         done
 }
+
+# "FILE NAME" for each name of the code in `name` (crate/src/file.rt), and in crate/src/file.rt (`name`, `name`)
+coded() {
+    tr '\n' ' ' <"$1" | sed 's/  */ /g' |
+        grep -oE '(`[A-Za-z_]+`(,| and| \(|;)? ?)+`?[a-z_]+/src/[a-z_]+\.rt|[a-z_]+/src/[a-z_]+\.rt`? \((`[A-Za-z_]+`(, | and )?)+\)' |
+        while read -r mention; do
+            file=$(grep -oE '[a-z_]+/src/[a-z_]+\.rt' <<<"$mention")
+            for name in $(sed -E 's@`[a-z_]+/src/[a-z_]+\.rt`@@' <<<"$mention" | grep -oE '`[A-Za-z_]+`' | tr -d '`'); do echo "crates/$file $name"; done
+        done
+}
+
+# What files cite, a line each: the file, what kind of thing, and the words. A page is cited with its heading and the steps below it, where they are named; a number
+# of a section or step that is of no other paper or page is of the page where it stands.
+cited() {
+    awk '
+        function find(kind, pattern,    rest) {
+            for (rest = text; match(rest, pattern); rest = substr(rest, RSTART + RLENGTH)) print file "\t" kind "\t" substr(rest, RSTART, RLENGTH)
+        }
+        function finish() {
+            gsub(/  +/, " ", text)
+            numbers = "[0-9]+((,| and| to) [0-9]+)*"
+            find("page", "[A-Za-z0-9_/-]+\\.md`?(\\]\\([^)]*\\)|\\))?(, \"[^\"]+\"(, steps? " numbers ")?)?")
+            find("section", "((00[0-9](\047s)?|RFC [0-9]+), |of which )?sections? [0-9.]*[0-9]((,| and| to) [0-9]+)*")
+            find("step", "(\", )?[Ss]teps? " numbers)
+            find("path", "[a-z_/]*/(src|specs|proofs|must-fail)(/[A-Za-z0-9_]+)*(\\.[a-z]+)?")
+            find("path", "(^|[^A-Za-z0-9_/-])(src|specs|proofs|must-fail)(/[A-Za-z0-9_]+)+(\\.[a-z]+)?")
+            find("path", "(tests|bench|docs|examples|include)/[A-Za-z0-9_/-]*[A-Za-z0-9_](\\.[a-z]+)?")
+        }
+        FNR == 1 { if (file) finish(); file = FILENAME; text = "" }
+        { line = $0; sub(/^[ \t]*(--|\/\/[!\/]?|#|\*)[ \t]?/, "", line); text = text " " line }
+        END { finish() }' "$@"
+}
+
+# a page's lines below a heading, to the next one that is not below it
+below() { awk -v title="$2" '/^##/ { depth = index($0, " "); if (substr($0, depth + 1) == title) on = depth; else if (depth <= on) on = 0; next } on' "$1"; }
 
 # what leads to the headings of a page: lower case, blanks as dashes, nothing else but letters and digits
 anchors() { sed -nE 's/^#+ //p' "$1" | tr 'A-Z ' 'a-z-' | tr -cd 'a-z0-9\n-'; }
@@ -50,11 +86,48 @@ for page in README.md docs/*.md; do
             fault "$page: $file states no $name"
         fi
     done < <(mentions "$page" | sort -u)
+    while read -r file name; do
+        [ ! -e "$file" ] || grep -qE "(fn|const|struct|enum|type|mod) $name\b" "$file" || fault "$page: $file has no $name"
+    done < <(coded "$page" | sort -u)
 done
 
 for note in docs/changes/*.md; do
     grep -qF "]($note)" README.md || fault "README.md: does not lead to $note"
 done
+
+while IFS=$'\t' read -r file kind words; do
+    case $kind in
+    page)
+        name=${words%%.md*}.md target=
+        for at in "$name" "docs/$name" "${file%/*}/$name"; do [ ! -e "$at" ] || target=$at; done
+        [ -n "$target" ] || { fault "$file: no page $name"; continue; }
+        [[ $words == *\"* ]] || continue
+        title=${words#*\"} title=${title%%\"*}
+        grep -E '^##+ ' "$target" | sed -E 's/^#+ //' | grep -qxF -- "$title" || { fault "$file: $target has no section $title"; continue; }
+        for number in $(grep -oE '[0-9]+' <<<"${words##*\"}"); do
+            below "$target" "$title" | grep -qE "^(\*\*)?$number\. " || fault "$file: $target, \"$title\", has no step $number"
+        done
+        ;;
+    section | step)
+        [[ $words == [Ss]* ]] || continue # of another paper, or of the page that is cited with it
+        begin='(\*\*)?'
+        [ "$kind" = step ] || begin='## '
+        for number in $(grep -oE '[0-9]+' <<<"$words"); do
+            [[ $file == *.md ]] && grep -qE "^$begin$number\. " "$file" || fault "$file: $words: of which page?"
+        done
+        ;;
+    path)
+        path=${words#"${words%%[a-z]*}"}
+        case $path in
+        */NAME* | */FUNCTION*) continue ;; # whatever its name is
+        crates/* | tests/* | bench/* | docs/* | examples/* | include/*) ;;
+        src/* | specs/* | proofs/* | must-fail/*) path=${file%"${file#crates/*/}"}$path ;;
+        *) path=crates/$path ;;
+        esac
+        [ -e "$path" ] || [ -e "$path.antt" ] || [ -e "$path.sh" ] || fault "$file: no file $path"
+        ;;
+    esac
+done < <(cited $(git ls-files 'crates/*.antt' 'crates/*.rt' 'crates/*.edit' README.md 'docs/*.md' | grep -v '^docs/changes/') | sort -u)
 
 # Pages say what document 01 is by a link, and the class's own word for the greatest load ratio is met once.
 bare=$(grep -nE '[Dd]ocument 01|the mission' README.md docs/*.md | grep -v -e '^docs/METHOD.md:' -e 'METHOD\.md')

@@ -58,7 +58,7 @@ module _ {net : Network} {q office r : ℕ} {v : Verdict} {old new : Slices} (h 
   amount-read i e b l =
       let f = h .guarantee a .fits in
       ap (λ s. fromTwos (numberAt s (i * arcs net + e))) (ap (λ s. s .flow) left) ∙
-      signed-read (old .flow) (outcome net q .flow) (i * arcs net + e) (rw (f .amounts-count) (within i (commodities net) e (arcs net) b l))
+      signed-read _ (outcome net q .flow) (i * arcs net + e) (rw (f .amounts-count) (within i (commodities net) e (arcs net) b l))
       (f .flow (i * arcs net + e))
 
   pub length-read : (e : ℕ) → e < resources net → numberAt (new .lengths) e ≡ getD (outcome net q .lengths) e 0

@@ -6,10 +6,9 @@ use Prim.Native.Nat.{ℕ, _≤_}
 use native.Mathlib.Omega.{arith}
 use lib.ListN.{length, length-append, length-replicate}
 use Rattle.network.specs.Network.{Network}
-use Rattle.network.specs.Refusal.{hostNumber}
 use Rattle.dimacs.specs.File.{File, holds, refused, parsed}
 use Rattle.dimacs.specs.OneCommodity.{OneCommodity}
-use Rattle.dimacs.specs.Result.{padded, resultOf, fileNumber, Read}
+use Rattle.dimacs.specs.Result.{padded, resultOf, fileCode, verdictCode, Read}
 use Rattle.dimacs.specs.declared.Parsed.{Parsed}
 use Rattle.dimacs.proofs.Holds.{network-sizes}
 
@@ -41,9 +40,9 @@ whole text e = rw e (outcome-whole (parsed text) (λ net h. network-sizes text h
 
 -- What the reader's contract says follows from what it hands over.
 pub read-whole : (text : List ℕ) {r : Parsed} → r ≡ resultOf (parsed text) → Read text r
-unfolding resultOf fileNumber
-read-whole text {r} e = record { result = e; number = rw e (by (parsed text)) }
+unfolding resultOf fileCode verdictCode
+read-whole text {r} e = record { result = e; code = rw e (by (parsed text)) }
   where
-    by : (f : File) → hostNumber (resultOf f .verdict) ≡ fileNumber f
+    by : (f : File) → verdictCode (resultOf f .verdict) ≡ fileCode f
     by (holds net) = refl
     by (refused w) = refl

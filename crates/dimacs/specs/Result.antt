@@ -5,7 +5,9 @@ use Prim.Native.Nat.{ℕ, _-_}
 use lib.ListN.{length, replicate}
 use Rattle.bounds.specs.Bounds.{mostArcs}
 use Rattle.network.specs.Network.{source, sink}
-use Rattle.network.specs.Refusal.{hostNumber}
+use Rattle.network.specs.Refusal.{at, refusalCode}
+use Rattle.network.specs.declared.Code.{Code}
+use Rattle.network.specs.declared.Verdict.{Verdict}
 use Rattle.network.specs.declared.Verdict.the-variants.{Accepted, Refused}
 use Rattle.dimacs.specs.File.{File, holds, refused, parsed}
 use Rattle.dimacs.specs.declared.Parsed.{Parsed}
@@ -39,12 +41,19 @@ resultOf (refused r) =
       capacities = replicate mostArcs 0;
     }
 
--- Its number as a host call would return it: 0, or the refusal's number and place.
-unfoldable pub fileNumber : File → ℕ
-fileNumber (holds net) = 0
-fileNumber (refused r) = hostNumber (Refused r)
+-- Document 01's number and place of what a file comes to: 0 and 0, or the refusal's. They are not put
+-- into one number as a host call does: line 1,000 of a file would then be told as a long file is.
+unfoldable pub fileCode : File → Code
+fileCode (holds net) = at 0 0
+fileCode (refused r) = refusalCode r
 
--- The contract of the reader, for a file of the bytes text: what is handed over, and document 01's number of the verdict in it.
+-- The same of a verdict.
+unfoldable pub verdictCode : Verdict → Code
+verdictCode Accepted = at 0 0
+verdictCode (Refused r) = refusalCode r
+
+-- The contract of the reader, for a file of the bytes text: what is handed over, and document 01's
+-- number and place of the verdict in it.
 pub record Read (text : List ℕ) (r : Parsed) : Type 0 where
   pub result : r ≡ resultOf (parsed text)
-  pub number : hostNumber (r .verdict) ≡ fileNumber (parsed text)
+  pub code : verdictCode (r .verdict) ≡ fileCode (parsed text)

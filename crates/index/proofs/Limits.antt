@@ -1,8 +1,8 @@
 -- Which nodes are limited, and which resources they are: the nodes in turn.
 -- Assumes nothing.
 use mathlib.Core.Path.{_≡_, ap, _∙_}
-use mathlib.Core.Bool.{true, false, cond, not}
-use Prim.Native.Nat.{ℕ, _+_}
+use mathlib.Core.Bool.{Bool, true, false, cond, not}
+use Prim.Native.Nat.{ℕ, zero, suc, _+_, _≤_}
 use native.Mathlib.Nat.{add-zero}
 use native.Mathlib.Numerals.{add-one}
 use native.Mathlib.Omega.{arith}
@@ -12,10 +12,19 @@ use Rattle.network.specs.Resources.{limitsBelow, place, resources}
 use Rattle.network.proofs.Resources.{place-suc}
 use Rattle.index.specs.Index.{resourceOf}
 
+one-most : (b : Bool) → cond b 1 0 ≤ 1
+one-most true = omega arith
+one-most false = omega arith
+
 module _ (net : Network) where
   pub place-first : place net 0 ≡ arcs net
   unfolding place limitsBelow
   place-first = omega arith
+
+  -- Each node, limited or not, adds at most one.
+  pub place-most : (v : ℕ) → place net v ≤ arcs net + v
+  place-most zero = omega (arith, place-first)
+  place-most (suc v) = omega (arith, place-suc net v, one-most (limited net v), place-most v)
 
   module _ (v : ℕ) where
     -- A node without a limit is no resource,

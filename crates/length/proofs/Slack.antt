@@ -1,5 +1,6 @@
--- The room that the roundings have (guarantee, section 3, test S): with R = 2^20 and p = q + 1, m * q * L is below R, and
--- ((R + 1) / (R - m * q * L))^8 is at most (p / q)^L. A second computed test over the table L.
+-- The room that the roundings have, for `slack` of docs/GUARANTEE.md, "The argument", step 2: with
+-- R = 2^20 and p = q + 1, m * q * L is below R, and ((R + 1) / (R - m * q * L))^8 is at most
+-- (p / q)^L. A second computed test over the table L.
 -- Assumes nothing.
 use mathlib.Core.Bool.{Bool, _&&_}
 use Prim.Native.Nat.{ℕ, _+_, _-_, _*_, _^_, _≤_, _<_}

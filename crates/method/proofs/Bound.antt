@@ -1,5 +1,5 @@
 -- No flow carries more than the bound: where every path of every commodity is at least alpha long, D over alpha; where no commodity is
--- joined, nothing. Guarantee, section 6.
+-- joined, nothing (docs/GUARANTEE.md, "The argument", step 8).
 -- Assumes nothing.
 use mathlib.Core.Path.{_≡_}
 use mathlib.Core.List.{List, []}

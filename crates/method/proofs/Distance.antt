@@ -1,4 +1,5 @@
--- The distance to a sink, capped at alpha, with a node's own length and without it: so the potentials that weak duality asks for exist. Guarantee, section 6.
+-- The distance to a sink, capped at alpha, with a node's own length and without it: so the
+-- potentials that weak duality asks for exist (docs/GUARANTEE.md, "The argument", steps 8 and 10).
 -- Assumes nothing.
 use mathlib.Core.Path.{_≡_, refl}
 use mathlib.Core.Option.{some}

@@ -1,5 +1,5 @@
 -- Weak duality: potentials for each commodity bound what every flow carries, by the capacities times the lengths of all resources over alpha.
--- Guarantee, section 6. Assumes nothing.
+-- docs/GUARANTEE.md, "The argument", step 8. Assumes nothing.
 use mathlib.Core.Path.{_≡_, refl, ap, _∙_}
 use mathlib.Core.Bool.{Bool, true, false, cond}
 use mathlib.Core.Logic.{_⊎_, inl, inr}

@@ -1,5 +1,5 @@
 -- Potentials bound what one commodity carries: weak duality for one source and one sink, with no path decomposition.
--- Guarantee, section 6. Assumes nothing.
+-- docs/GUARANTEE.md, "The argument", steps 8 and 10. Assumes nothing.
 use mathlib.Core.Path.{_≡_, refl, sym, ap, _∙_}
 use mathlib.Core.Bool.{Bool, true, false, cond}
 use mathlib.Core.Logic.{⊎-elim}

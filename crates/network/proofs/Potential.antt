@@ -1,4 +1,5 @@
--- Potentials of the nodes of a network, and what weak duality asks of a commodity's amounts. Guarantee, section 6.
+-- Potentials of the nodes of a network, and what weak duality asks of a commodity's amounts
+-- (docs/GUARANTEE.md, "The argument", steps 8 and 10).
 -- Assumes nothing.
 use mathlib.Core.Path.{_≡_}
 use mathlib.Core.Logic.{_⊎_}

@@ -1,5 +1,5 @@
--- The count of iterations: each one draws the whole capacity of some resource (guarantee.md, section 5).
--- Assumes nothing.
+-- The count of iterations: each one draws the whole capacity of some resource
+-- (docs/GUARANTEE.md, "The argument", step 6). Assumes nothing.
 use mathlib.Core.Path.{_≡_, ap}
 use Prim.Native.Nat.{ℕ, _+_, _*_, _-_, _/_, _≤_, _<_}
 use native.Mathlib.Nat.{le-trans, le-div-iff-mul-le, div-lt-iff-lt-mul, div-mul-le-self, mul-le-mul}

@@ -1,5 +1,5 @@
--- No number (1 + 1 / n) ^ n exceeds a number (1 + 1 / m) ^ (m + 1) (guarantee.md, section 3, E): both lie on their side of e.
--- Assumes nothing.
+-- `euler` of docs/GUARANTEE.md, "The argument", step 2: no number (1 + 1 / n) ^ n exceeds a number
+-- (1 + 1 / m) ^ (m + 1), since e lies between them. Assumes nothing.
 use mathlib.Core.Path.{_≡_}
 use Prim.Native.Nat.{ℕ, suc, _+_, _*_, _^_, _≤_, _<_}
 use native.Mathlib.Nat.{le-of-mul-le-mul-left, mul-pos, zero-lt-suc}

@@ -1,5 +1,5 @@
--- What a draw may add to the volume, as a power of 1 + 1 / q (guarantee.md, section 3, K and the line marked with one star).
--- Assumes nothing.
+-- What a draw may add to the volume, as a power of 1 + 1 / q: `one-growth` of docs/GUARANTEE.md,
+-- "The argument", step 2, with the computed test of the 13 precisions. Assumes nothing.
 use mathlib.Core.Bool.{Bool}
 use Prim.Native.Nat.{ℕ, zero, suc, _+_, _*_, _^_, _≤_, _<_}
 use native.Mathlib.Nat.{pow-zero, pow-suc, le-dest, zero-lt-suc, mul-comm, mul-le-mul-right}

@@ -1,5 +1,5 @@
--- The load side of one draw (guarantee.md, section 3, B): a length that grows by the fraction g / (q * c), to the power c,
--- grows at least as 1 + 1 / q to the power g. Assumes nothing.
+-- `load` of docs/GUARANTEE.md, "The argument", step 2: a length that grows by the fraction
+-- g / (q * c), to the power c, grows at least as 1 + 1 / q to the power g. Assumes nothing.
 use mathlib.Core.Path.{_≡_}
 use Prim.Native.Nat.{ℕ, _+_, _*_, _^_, _≤_}
 use native.Mathlib.Nat.{le-dest, mul-le-mul-right}

@@ -1,4 +1,5 @@
--- The lower side (guarantee.md, section 4): the length of a resource, weighed by its capacity, shows its load.
+-- The lower side: the length of a resource, weighed by its capacity, shows its load
+-- (docs/GUARANTEE.md, "The argument", step 4).
 -- Rounding a length down would break exactly this. Assumes nothing.
 use Prim.Native.Nat.{ℕ, _+_, _*_, _≤_, _<_}
 use native.Mathlib.Nat.{pow-zero, pow-le-pow-left, mul-pos, mul-le-mul-right}

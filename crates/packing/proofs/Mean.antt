@@ -1,5 +1,5 @@
 -- The mean of powers: a product of i factors x and j factors y is at most the power of their mean.
--- The inequalities B and E of guarantee.md, section 3, are instances. Assumes nothing.
+-- `load` and `euler` of docs/GUARANTEE.md, "The argument", step 2, are instances. Assumes nothing.
 use mathlib.Core.Path.{_≡_, refl}
 use Prim.Native.Nat.{ℕ, zero, suc, _+_, _*_, _^_, _≤_, _<_}
 use native.Mathlib.Nat.{pow-zero, pow-suc, mul-le-mul-left, mul-le-mul-right, le-of-mul-le-mul-left, le-refl, le-trans, zero-lt-suc}
@@ -12,7 +12,7 @@ square zero y = omega arith
 square (suc x) zero = omega arith
 square (suc x) (suc y) = omega (arith, square x y)
 
--- T of section 3, over powers as plain numbers: w is y ^ n and z is x ^ suc n
+-- one step of `tangent`, over powers as plain numbers: w is y ^ n and z is x ^ suc n
 tangent-step : (n x y w z : ℕ) → suc n * (x * w) ≤ z + n * (w * y) → suc (suc n) * (x * (w * y)) ≤ z * x + suc n * (w * y * y)
 tangent-step n x y w z h = omega (arith, mul-le-mul-right x h, mul-le-mul-left (suc n * w) (square x y))
 

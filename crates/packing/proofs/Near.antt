@@ -1,7 +1,8 @@
--- The guarantee (guarantee.md, section 5): where choosing ends, the scaled total is near the bound.
--- With V = total * c(k) / load(k) and B = bound / alpha: V >= (8q - 9) / (8q + 5) * B (`near`), so V >= (1 - r / (d * q)) * B where r / d is at least 7 / 4
--- (`near-share`), and V >= (1 - 2 / q) * B.
--- Assumes nothing.
+-- The guarantee: when choosing ends, the scaled total is near the bound
+-- (docs/GUARANTEE.md, "The argument", step 7).
+-- Let V = total * c(k) / load(k) and B = bound / alpha. `near` is V >= (8q - 9) / (8q + 5) * B, and
+-- `near-share` is V >= (1 - r / (d * q)) * B for every r / d of at least 7 / 4
+-- (docs/GUARANTEE.md, "How near"); so V >= (1 - 2 / q) * B. Assumes nothing.
 use mathlib.Core.Path.{_≡_, ap}
 use Prim.Native.Nat.{ℕ, suc, _+_, _*_, _-_, _^_, _≤_, _<_}
 use native.Mathlib.Nat.{le-refl, le-trans, mul-pos, mul-le-mul-left, mul-le-mul-right, le-of-mul-le-mul-left}

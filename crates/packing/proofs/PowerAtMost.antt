@@ -1,5 +1,5 @@
--- One relation that does the work of logarithms (guarantee.md, section 2), and its rules: the only place where powers are multiplied out.
--- Assumes nothing.
+-- One relation that does the work of logarithms (docs/GUARANTEE.md, "The argument", step 2), and
+-- its rules: the only place where powers are multiplied out. Assumes nothing.
 use mathlib.Core.Path.{_≡_, ap, sym, _∙_}
 use Prim.Native.Nat.{ℕ, _+_, _*_, _^_, _≤_, _<_}
 use native.Mathlib.Nat.{mul-comm, mul-pos, mul-le-mul, mul-le-mul-right, pow-le-pow-left, le-trans, le-of-mul-le-mul-left}

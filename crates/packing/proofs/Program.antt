@@ -3,7 +3,8 @@
 use Prim.Native.Nat.{ℕ, _+_, _*_, _-_, _^_, _≤_, _<_}
 use Rattle.bounds.specs.Bounds.{mostArcs, mostCapacity, leastPrecision, mostPrecision}
 
--- The bounds of document 01, "The floor and its flow", the rule of its table L, and the test S of guarantee.md, section 3.
+-- The bounds of document 01, "The floor and its flow", the rule of its table L, and the room that
+-- the roundings have (`slack` of docs/GUARANTEE.md, "The argument", step 2).
 pub record Program (m q L : ℕ) (c : ℕ → ℕ) : Type 0 where
   pub resources-low : 1 ≤ m
   pub resources-high : m ≤ mostArcs

@@ -1,5 +1,5 @@
--- Both sides of the argument along a run (guarantee.md, section 4), by induction on its iterations.
--- Assumes nothing.
+-- Both sides of the argument along a run (docs/GUARANTEE.md, "The argument", steps 4 and 5), by
+-- induction on its iterations. Assumes nothing.
 use Prim.Native.Nat.{ℕ, suc, _+_, _*_, _^_, _≤_, _<_}
 use native.Mathlib.Nat.{mul-pos}
 use native.Mathlib.Omega.{arith}

@@ -1,5 +1,5 @@
--- What the roundings of at most m * T iterations cost, together with the m of the start (guarantee.md, section 3, the last line).
--- Assumes nothing.
+-- What the roundings of at most m * T iterations cost, together with the m of the start: `slack` of
+-- docs/GUARANTEE.md, "The argument", step 2. Assumes nothing.
 use mathlib.Core.Path.{_≡_}
 use Prim.Native.Nat.{ℕ, zero, suc, _+_, _*_, _-_, _^_, _≤_, _<_}
 use native.Mathlib.Nat.{pow-zero, pow-suc, le-trans, mul-le-mul-left, mul-le-mul-right}

@@ -1,4 +1,5 @@
--- One iteration's lengths as the few inequalities that the guarantee needs (guarantee.md, sections 4 and 7).
+-- One iteration's lengths as the few inequalities that the guarantee needs
+-- (docs/GUARANTEE.md, "The argument", step 3).
 -- Halving appears here and nowhere after: a step multiplies the lengths by 1 or 2 besides. Assumes nothing.
 use mathlib.Core.Path.{_≡_, ap}
 use Prim.Native.Nat.{ℕ, _+_, _*_, _^_, _≤_, _<_}

@@ -1,5 +1,5 @@
--- The upper side (guarantee.md, section 4): a step raises the volume by little more than what its draw is worth.
--- Assumes nothing.
+-- The upper side: a step raises the volume by little more than what its draw is worth
+-- (docs/GUARANTEE.md, "The argument", step 5). Assumes nothing.
 use mathlib.Core.Path.{_≡_}
 use Prim.Native.Nat.{ℕ, suc, _+_, _*_, _^_, _≤_, _<_}
 use native.Mathlib.Nat.{pow-zero, pow-suc, pow-le-pow-left, mul-pos, mul-le-mul-left, mul-le-mul-right}

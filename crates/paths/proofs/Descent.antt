@@ -1,4 +1,5 @@
--- Below the cap a walk leads to t: each tight arc leads to a nearer node. So a distance below the cap is the key of a path. Guarantee, section 6.
+-- Below the cap a walk leads to t: each tight arc leads to a nearer node. So a distance below the
+-- cap is the key of a path (docs/WORKING.md, "What a distance is").
 -- Assumes nothing.
 use mathlib.Core.Path.{_≡_, refl, sym, ap, subst, _∙_}
 use mathlib.Core.Bool.{Bool, true, false}

@@ -1,4 +1,5 @@
--- By a feasible table no path has a smaller key than its start's entry is above its end's: the entries along it telescope. Guarantee, section 6.
+-- By a feasible table no path has a smaller key than its start's entry is above its end's: the
+-- entries along it telescope (docs/WORKING.md, "What a distance is").
 -- Assumes nothing.
 use mathlib.Core.Path.{ap}
 use mathlib.Core.Option.{Option·some-injective}

@@ -1,4 +1,5 @@
--- A walk, to t or to any other node, visits no node twice, so it has fewer arcs than there are nodes. Guarantee, section 6.
+-- A walk, to t or to any other node, visits no node twice, so it has fewer arcs than there are
+-- nodes (docs/WORKING.md, "What a distance is").
 -- Assumes nothing.
 use mathlib.Core.Logic.{⊎-elim}
 use mathlib.Core.List.{List, _++_}

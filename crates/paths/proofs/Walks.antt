@@ -1,5 +1,5 @@
 -- The greedy walk by a feasible table, where it arrives, is a path whose key is the entry of its start, and the first such path in dictionary order.
--- Guarantee, section 6.
+-- docs/WORKING.md, "What a distance is".
 -- Assumes nothing.
 use mathlib.Core.Path.{_≡_, refl, sym, ap, subst, _∙_}
 use mathlib.Core.Logic.{⊎-elim}

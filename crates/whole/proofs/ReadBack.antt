@@ -9,7 +9,7 @@ use lib.Dec.{lit≤}
 use lib.ListN.{getD}
 use Rattle.network.specs.Network.{Network, commodities}
 use Rattle.network.specs.declared.Verdict.the-variants.{Accepted}
-use Rattle.numbers.specs.Numbers.{numberAt, written}
+use Rattle.numbers.specs.Numbers.{numberAt}
 use Rattle.numbers.proofs.Tables.{numberAt-written}
 use Rattle.decode.specs.Decode.{networkIn}
 use Rattle.method.specs.Answer.{Outcome, amounts, outcome}
@@ -47,8 +47,8 @@ module _ {n q office : ℕ} {belts pairs limits : List ℕ} {old new : Slices} {
   totes-read j l =
       let parts : 2 * (j / 2) + j % 2 ≡ j = omega (arith, div-add-mod' j 2) in
       let fits = subst (λ p. getD (totesOf net o) p 0 < 2 ^ 64) parts (of-pair (j / 2) (j % 2) (omega (arith, parts)) (mod-lt j (lit≤ tt))) in
-      ap (λ s. numberAt s j) (w .table ∙ taken-up a (written totes (totesOf net o)) totes) ∙
-      numberAt-written totes (totesOf net o) j (omega (arith, parted-length (o .answer .capacity) (o .answer .load) amount (commodities net))) fits
+      ap (λ s. numberAt s j) (w .table ∙ taken-up a _ _) ∙
+      numberAt-written _ (totesOf net o) j (omega (arith, parted-length (o .answer .capacity) (o .answer .load) amount (commodities net))) fits
 
   pub is-rounded : Rounded net o
   is-rounded = rounded net q o (w .hosted .guarantee a) (accepted (lacks net totes) net q office old a .0 .counts .of-commodities .least)

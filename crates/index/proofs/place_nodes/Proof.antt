@@ -11,8 +11,7 @@ use Rattle.network.specs.Network.{Network, limit}
 use Rattle.packed.specs.Packed.{netIn}
 use Rattle.packed.proofs.Columns.{arcs-is}
 use Rattle.index.specs.Index.{placesFrom}
-use Rattle.network.proofs.Resources.{place-high}
-use Rattle.index.proofs.Limits.{is-limited}
+use Rattle.index.proofs.Limits.{place-most}
 use Rattle.index.proofs.Locating.{Locating, locating-none, locating-none-limited, locating-limited, locating-all}
 use Rattle.index.proofs.place_nodes.Statement.{statement}
 use Rattle.index.proofs.place_nodes.Tie as tie
@@ -51,13 +50,16 @@ good c = omega (arith, node (c .before .before), entry (c .before .before .befor
 add-next : tie.Need-add-next Inv-loop μ-loop
 add-next c =
     let t = c .before .before in
-    let p = entry (t .before) .pre in
+    let s = entry (t .before) in
+    let p = s .pre in
     omega (
       arith,
-      entry (t .before) .good,
       t .before .loop .inv .next-is,
-      p .counted,
-      place-high (net (entry (t .before))) (t .before .loop .v) (node t) (is-limited (net (entry (t .before))) (t .before .loop .v) (λ z. c .if1 .taken (read (c .before) ∙ z))),
+      place-most (net s) (t .before .loop .v),
+      arcs-is (p .packed),
+      p .packed .few-arcs,
+      node t,
+      p .nodes,
     )
 
 slice-write-ix : tie.Need-slice-write-ix Inv-loop μ-loop
