@@ -5,7 +5,7 @@ use mathlib.Core.Bool.{Bool, true, false, _&&_}
 use mathlib.Core.List.{List, [], _∷_}
 use Prim.Native.Nat.{ℕ}
 use lib.Dec.{T, eqb, eqb→eq}
-use Rattle.arith.specs.Lists.{same}
+use Rattle.arith.specs.Same.{same}
 
 pub and-parts : (a b : Bool) → T (a && b) → T a × T b
 and-parts true b t = (tt, t)

@@ -3,6 +3,7 @@ pub mod Distinct
 pub mod Limbs
 pub mod Lists
 pub mod Member
+pub mod Same
 pub mod Scan
 pub mod Sum
 pub mod Times

@@ -1,8 +1,7 @@
 -- Lists of numbers in order, and tests over an index.
-use mathlib.Core.Bool.{Bool, true, false, cond, _&&_, _||_}
+use mathlib.Core.Bool.{Bool, false, cond, _||_}
 use mathlib.Core.List.{List, [], _∷_, _++_}
 use Prim.Native.Nat.{ℕ, zero, suc}
-use lib.Dec.{eqb}
 
 -- i, i + 1, .., n numbers in all
 unfoldable pub upFrom : ℕ → ℕ → List ℕ
@@ -17,13 +16,6 @@ upTo n = upFrom 0 n
 unfoldable pub exists : ℕ → (ℕ → Bool) → Bool
 exists zero f = false
 exists (suc n) f = exists n f || f n
-
--- The two lists are the same.
-unfoldable pub same : List ℕ → List ℕ → Bool
-same [] [] = true
-same [] (y ∷ ys) = false
-same (x ∷ xs) [] = false
-same (x ∷ xs) (y ∷ ys) = eqb x y && same xs ys
 
 module _ {A B : Type 0} where
   -- f x for each x in turn, one list after the other

@@ -1,4 +1,4 @@
--- Document 01's bounds, each named once for the definitions. Assumes nothing.
+-- Document 01's bounds on a network and its call, each named once for the definitions. Assumes nothing.
 use Prim.Native.Nat.{ℕ, _^_}
 
 -- "n from 2 to 64" (document 01, "The floor and its flow")
@@ -27,10 +27,6 @@ leastPrecision = 4
 abbrev pub mostPrecision : ℕ
 mostPrecision = 16
 
--- "over 65,536 bytes" ("Turned down")
-abbrev pub mostBytes : ℕ
-mostBytes = 65536
-
 -- "running count above 2^63"
 abbrev pub mostRunning : ℕ
 mostRunning = 2 ^ 63
@@ -42,14 +38,6 @@ offices = 8
 -- "the seven numbers of the answer" ("The floor and its flow")
 abbrev pub answerNumbers : ℕ
 answerNumbers = 7
-
--- "no networks or more than 16" (request C-14)
-abbrev pub mostNetworks : ℕ
-mostNetworks = 16
-
--- "an item of six numbers a floor", and how many limits (requests C-14 and C-17)
-abbrev pub floorNumbers : ℕ
-floorNumbers = 7
 
 -- "its number × 1,000 + its place"
 abbrev pub placeNumbers : ℕ

@@ -1,1 +1,3 @@
 pub mod Bounds
+pub mod Files
+pub mod Sites

@@ -7,7 +7,7 @@ use native.Mathlib.Nat.{mul-le-mul-right}
 use native.Mathlib.Omega.{arith}
 use lib.ListN.{length, getD}
 use Rattle.bounds.specs.Bounds.{answerNumbers}
-use Rattle.signed.specs.Signed.{fromTwos}
+use Rattle.signed.specs.FromTwos.{fromTwos}
 use Rattle.network.specs.Network.{Network, arcs, commodities}
 use Rattle.network.specs.Resources.{resources}
 use Rattle.network.specs.Sound.{Sound}
@@ -21,7 +21,7 @@ use Rattle.numbers.proofs.Puts.{numberAt-putAt, numberAt-putAt-other}
 use Rattle.numbers.proofs.Signed.{signed-read}
 use Rattle.numbers.proofs.Tables.{numberAt-written}
 use Rattle.method.specs.Answer.{amounts, numbersOf, outcome}
-use Rattle.method.specs.Fits.{Words}
+use Rattle.method.specs.Fits.{Unsigned64}
 use Rattle.call.specs.Deliver.{Room}
 use Rattle.call.specs.Host.{Slices, countOf, raised, hostConditions, verdictIn, solved, Served}
 use Rattle.call.proofs.Counting.{count-small}
@@ -32,7 +32,7 @@ pub taken-up : {A : Type 0} {v : Verdict} → v ≡ Accepted → (x y : A) → a
 unfolding afterwards
 taken-up a x y = ap (λ v. afterwards v x y) a
 
-read-back : (old xs : List ℕ) {new : List ℕ} → new ≡ written old xs → Words xs → (i : ℕ) → i < length xs → numberAt new i ≡ getD xs i 0
+read-back : (old xs : List ℕ) {new : List ℕ} → new ≡ written old xs → Unsigned64 xs → (i : ℕ) → i < length xs → numberAt new i ≡ getD xs i 0
 read-back old xs e w i l = ap (λ s. numberAt s i) e ∙ numberAt-written old xs i l (w i)
 
 -- A call that returned 0 was accepted; what another leaves of a table of its own is that table as it was.

@@ -38,8 +38,8 @@ module _ {net : Network} {l bounds : List ℕ} {i : ℕ} (B : Below net l bounds
           near-path l {far = farLength} ends lengths (omega arith) (source net j) (sink net j) (ends .sources j (k .commodity)) (c .path) (k .path) in
           absurd (omega (arith, q .2, B .lower j (k .commodity) (q .0) (q .1), L .least j (k .commodity)))
 
-  -- Else the walk of its commodity is chosen, and alpha is the least bound. That no path as short has
-  -- fewer arcs is the walk's own promise; by its key it is the first that has as few.
+  -- Else the walk of its commodity is chosen, and alpha is the least bound. That no path as short
+  -- has fewer arcs is the walk's own promise; by its key it is the first that has as few.
   pub closest-choice :
       {d path : List ℕ} {r : ℕ} → Closest net l bounds d i path r →
       (choice net l ≡ some (choiceOf i (take r path))) × (pathLength l (uses net (source net i) (take r path)) ≡ getD bounds i 0)

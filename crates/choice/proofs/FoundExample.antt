@@ -12,7 +12,8 @@ use Rattle.arith.specs.Lists.{upFrom, upTo, flat}
 use Rattle.network.specs.Ends.{Ends}
 use Rattle.network.specs.Network.{Network}
 use Rattle.network.specs.Path.{pathLength}
-use Rattle.network.specs.Resources.{limitsBelow, place, resources, station, uses, nodeLength}
+use Rattle.network.specs.Resources.{limitsBelow, place, resources, usedAt, uses}
+use Rattle.network.specs.Onward.{nodeLength}
 use Rattle.network.specs.Verdict.{verdict, outside, loose, sizeConditions, arcConditions, limitConditions, commodityConditions, itemConditions, verdictOn}
 use Rattle.network.specs.declared.Verdict.the-variants.{Accepted}
 use Rattle.network.proofs.Accepted.{accepted-sound}
@@ -74,7 +75,7 @@ table-1 =
 
 -- Bounds of 0, raised: one search serves both commodities.
 raised-3 : Raised (nodeLength twice lengths) (1 ∷ 1 ∷ []) (3 ∷ 3 ∷ []) near (0 ∷ 0 ∷ []) (3 ∷ 3 ∷ []) 2
-unfolding nodeLength station pathLength
+unfolding nodeLength usedAt pathLength
 raised-3 =
     record {
       size = refl;
@@ -91,7 +92,7 @@ raised-3 =
     rest (suc (suc i)) b = refl
 
 raised-1 : Raised (nodeLength parted lengths) (3 ∷ []) (1 ∷ []) away (0 ∷ []) (farLength ∷ []) 1
-unfolding nodeLength station pathLength
+unfolding nodeLength usedAt pathLength
 raised-1 =
     record {
       size = refl;
@@ -120,7 +121,7 @@ bounds =
 
 -- its walk is as long,
 closest : Closest twice lengths (3 ∷ 3 ∷ []) near 0 (2 ∷ []) 1
-unfolding nodeLength station pathLength
+unfolding nodeLength usedAt pathLength
 closest = record { feasible = to-3 _ _ .feasible; arrived = walk-arrived (to-3 _ _ .feasible) (walk _ _) refl (omega arith); own = refl }
 
 -- and it is chosen, with the path of one arc.

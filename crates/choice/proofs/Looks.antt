@@ -7,7 +7,7 @@ use native.Mathlib.Omega.{arith}
 use lib.ListN.{length, getD}
 use Rattle.network.specs.Ends.{Node}
 use Rattle.network.specs.Network.{Network, commodities, source, sink}
-use Rattle.network.specs.Resources.{nodeLength}
+use Rattle.network.specs.Onward.{nodeLength}
 use Rattle.packed.specs.Packed.{put, netIn}
 use Rattle.packed.specs.declared.Shape.{Shape}
 use Rattle.packed.proofs.Columns.{commodities-is, put-length}

@@ -12,7 +12,7 @@ use Rattle.arith.specs.Member.{Member, first, later}
 use Rattle.network.specs.Ends.{Node, Ends}
 use Rattle.network.specs.Network.{Network, limited}
 use Rattle.network.specs.Path.{Path, pathLength}
-use Rattle.network.specs.Resources.{place, station, uses}
+use Rattle.network.specs.Resources.{place, usedAt, uses}
 use Rattle.network.specs.Visited.{visited}
 use Rattle.network.proofs.Nodes.{visited-length}
 use Rattle.network.proofs.Shortcuts.{shortcut, shortcut-few}
@@ -26,12 +26,12 @@ pathLength-le l x [] h = omega arith
 pathLength-le l x (e ∷ p) h = omega (arith, h e (first refl), pathLength-le l x p (λ j m. h j (later m)))
 
 -- A path uses at most its nodes besides its arcs.
-stations-few : (net : Network) (vs : List ℕ) → length (flat (station net) vs) ≤ length vs
-unfolding flat station
-stations-few net [] = le-refl 0
-stations-few net (v ∷ vs) = by-test (limited net v) (stations-few net vs)
+usedAt-few : (net : Network) (vs : List ℕ) → length (flat (usedAt net) vs) ≤ length vs
+unfolding flat usedAt
+usedAt-few net [] = le-refl 0
+usedAt-few net (v ∷ vs) = by-test (limited net v) (usedAt-few net vs)
   where
-    by-test : (b : Bool) → length (flat (station net) vs) ≤ length vs → length (cond b (place net v ∷ []) [] ++ flat (station net) vs) ≤ suc (length vs)
+    by-test : (b : Bool) → length (flat (usedAt net) vs) ≤ length vs → length (cond b (place net v ∷ []) [] ++ flat (usedAt net) vs) ≤ suc (length vs)
     by-test true h = omega arith
     by-test false h = omega arith
 
@@ -40,8 +40,8 @@ unfolding uses
 uses-few net v t p h =
     omega (
       arith,
-      length-append p (flat (station net) (visited net v p)),
-      stations-few net (visited net v p),
+      length-append p (flat (usedAt net) (visited net v p)),
+      usedAt-few net (visited net v p),
       visited-length net v t p h,
     )
 

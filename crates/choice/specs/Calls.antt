@@ -5,7 +5,7 @@ use Prim.Native.Nat.{ℕ, _*_, _≤_}
 use lib.ListN.{length}
 use Rattle.bounds.specs.Bounds.{mostNodes}
 use Rattle.network.specs.Network.{Network, sink}
-use Rattle.network.specs.Resources.{resources, rooms}
+use Rattle.network.specs.Resources.{resources, resourceCapacities}
 use Rattle.packed.specs.Packed.{part, netIn, Packed}
 use Rattle.packed.specs.declared.Shape.{Shape}
 use Rattle.index.specs.Index.{indexNumbers, Into, Out}
@@ -21,8 +21,8 @@ pub record Looking (s : Shape) (net into l : List ℕ) (t i : ℕ) (memory : Lis
   pub to : t ≡ sink (netIn s net) i
 
 -- Behind two indexes stand the capacities of the resources; and so many numbers they take.
-abbrev pub roomsFrom : ℕ
-roomsFrom = 2310
+abbrev pub resourceCapacitiesFrom : ℕ
+resourceCapacitiesFrom = 2310
 
 abbrev pub indexesNumbers : ℕ
 indexesNumbers = 2566
@@ -32,7 +32,7 @@ pub record Indexed (net : Network) (indexes : List ℕ) : Type 0 where
   pub numbers : indexesNumbers ≤ length indexes
   pub into : Into net (part 0 indexNumbers indexes)
   pub out : Out net (part indexNumbers indexNumbers indexes)
-  pub rooms : part roomsFrom (resources net) indexes ≡ rooms net
+  pub capacities : part resourceCapacitiesFrom (resources net) indexes ≡ resourceCapacities net
 
 -- The walk of commodity i over the arcs out of each node, into a table with this many places: for arcs and for nodes.
 pub record Following (s : Shape) (net indexes l : List ℕ) (i : ℕ) (memory : List ℕ) (places : ℕ) : Type 0 where

@@ -25,9 +25,9 @@ pub const INTO: usize = 0;
 
 pub const OUT: usize = INDEX_NUMBERS;
 
-pub const ROOMS: usize = 2 * INDEX_NUMBERS;
+pub const RESOURCE_CAPACITIES: usize = 2 * INDEX_NUMBERS;
 
-pub const INDEXES_NUMBERS: usize = ROOMS + MOST_ARCS;
+pub const INDEXES_NUMBERS: usize = RESOURCE_CAPACITIES + MOST_ARCS;
 
 // The choice of an iteration. What its path uses are the first entries of path: the arcs, and behind them the limited nodes. alpha is FAR_LENGTH or more
 // where no commodity is joined. The memory may be used again while lengths only grow.

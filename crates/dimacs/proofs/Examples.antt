@@ -5,7 +5,8 @@ use mathlib.Core.List.{List, [], _∷_, _++_}
 use Prim.Native.Nat.{ℕ}
 use Prim.Native.String.{String}
 use lib.Dec.{T}
-use Rattle.arith.specs.Lists.{same, keep}
+use Rattle.arith.specs.Lists.{keep}
+use Rattle.arith.specs.Same.{same}
 use Rattle.network.specs.Refusal.{refusalCode}
 use Rattle.network.specs.Verdict.{outside}
 use Rattle.lines.specs.Meaning.{shaped, given, problemLine, sourceOrSink, terminalLine, arcLine, lettered, meaning}

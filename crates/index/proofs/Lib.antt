@@ -6,5 +6,5 @@ pub mod Limits
 pub mod Locating
 pub mod Opening
 pub mod Putting
-pub mod Rooming
+pub mod Gathering
 pub mod Seeing

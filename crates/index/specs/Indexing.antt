@@ -34,9 +34,9 @@ pub record Roomy (s : Shape) (xs : List ℕ) (size : ℕ) : Type 0 where
   pub whole : size ≡ s .resources
 
 -- The capacities of the arcs are there, and the limits come behind them.
-pub record Limiting (s : Shape) (xs rooms : List ℕ) : Type 0 where
-  pub roomy : Roomy s xs (length rooms)
-  pub capacities : take (s .arcs) rooms ≡ netIn s xs .capacities
+pub record Limiting (s : Shape) (xs table : List ℕ) : Type 0 where
+  pub roomy : Roomy s xs (length table)
+  pub capacities : take (s .arcs) table ≡ netIn s xs .capacities
 
 -- The columns that an index is made by: the ends of the arcs here, their other ends there, and their marks.
 pub record Side : Type 0 where

@@ -13,7 +13,7 @@ ghost use mathlib.Core.Path.{_≡_};
 ghost use mathlib.Core.List.{_∷_};
 ghost use Prim.Native.Nat.{_+_, _≤_};
 ghost use lib.ListN.{length, getD, take};
-ghost use Rattle.network.specs.Resources.{rooms};
+ghost use Rattle.network.specs.Resources.{resourceCapacities};
 ghost use Rattle.packed.specs.Packed.{netIn};
 ghost use Rattle.index.specs.Index.{Index, Into, Out};
 ghost use Rattle.index.specs.Indexing.{side, Indexable, Located, Roomy, Limiting, Indexing, Joins, Seeing, Seen, Building, Putting, placed, AddingArc, Opening};
@@ -172,7 +172,7 @@ fn copy(capacities: &[u64], table: &mut [u64])
 // and behind them the limits that are set, from node to node.
 fn append_limits(s: Shape, net: &[u64], table: &mut [u64])
     requires { ⌜ Limiting s (now net) (now table) ⌝ }
-    ensures { λ _. ⌜ now (table .exit) ≡ rooms (netIn s (now (net .entry))) ⌝ }
+    ensures { λ _. ⌜ now (table .exit) ≡ resourceCapacities (netIn s (now (net .entry))) ⌝ }
 {
     let given = s.limits;
     let limits = &net[LIMITS..LIMITS + given];
@@ -189,9 +189,9 @@ fn append_limits(s: Shape, net: &[u64], table: &mut [u64])
 }
 
 // The capacities of the resources.
-pub fn rooms(s: Shape, net: &[u64], table: &mut [u64])
+pub fn resource_capacities(s: Shape, net: &[u64], table: &mut [u64])
     requires { ⌜ Roomy s (now net) (length (now table)) ⌝ }
-    ensures { λ _. ⌜ now (table .exit) ≡ rooms (netIn s (now (net .entry))) ⌝ }
+    ensures { λ _. ⌜ now (table .exit) ≡ resourceCapacities (netIn s (now (net .entry))) ⌝ }
 {
     let m = s.arcs;
     copy(&net[CAPACITIES..CAPACITIES + m], table);

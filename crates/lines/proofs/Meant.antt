@@ -7,7 +7,7 @@ use mathlib.Core.Option.{Option}
 use Prim.Native.Nat.{ℕ}
 use native.Mathlib.Omega.{arith}
 use lib.ListN.{length, getD}
-use Rattle.arith.specs.Lists.{same}
+use Rattle.arith.specs.Same.{same}
 use Rattle.lines.specs.Meaning.{word, shaped, given, sourceOrSink, problemLine, terminalLine, arcLine, lettered, meaning}
 use Rattle.lines.specs.Number.{numberOf}
 use Rattle.lines.specs.Pieces.{wordsOf}

@@ -5,7 +5,7 @@ use mathlib.Core.Option.{Option, none, some}
 use Prim.Native.Nat.{ℕ}
 use lib.Dec.{eqb}
 use lib.ListN.{length, getD}
-use Rattle.arith.specs.Lists.{same}
+use Rattle.arith.specs.Same.{same}
 use Rattle.lines.specs.Number.{numberOf}
 use Rattle.lines.specs.Pieces.{wordsOf}
 use Rattle.lines.specs.Text.{bytes}

@@ -5,7 +5,7 @@ use crate::words::number;
 use crate::words::word;
 ghost use mathlib.Core.Path.{_≡_};
 ghost use Prim.Native.Nat.{_<_};
-ghost use Rattle.arith.specs.Lists.{same};
+ghost use Rattle.arith.specs.Same.{same};
 ghost use Rattle.lines.specs.Meaning.{word, shaped, sourceOrSink, problemLine, terminalLine, arcLine, meaning};
 ghost use Rattle.lines.specs.Number.{numberOf};
 ghost use Rattle.lines.specs.Pieces.{wordsOf};

@@ -13,7 +13,8 @@ use Rattle.bounds.specs.Bounds.{mostNodes}
 use Rattle.network.specs.Ends.{Ends}
 use Rattle.network.specs.Network.{Network, commodities, source, sink}
 use Rattle.network.specs.Path.{Path, pathLength}
-use Rattle.network.specs.Resources.{station, uses, nodeLength}
+use Rattle.network.specs.Resources.{usedAt, uses}
+use Rattle.network.specs.Onward.{nodeLength}
 use Rattle.network.proofs.Uses.{uses-length}
 use Rattle.paths.specs.Distances.{Feasible}
 use Rattle.paths.specs.Far.{farLength, far}
@@ -31,7 +32,7 @@ pathLength-grown l m h (e ∷ p) = omega (arith, h e, pathLength-grown l m h p)
 -- So is a node,
 nodeLength-grown : (net : Network) (l m : List ℕ) → ((e : ℕ) → getD l e 0 ≤ getD m e 0) → (v : ℕ) → nodeLength net l v ≤ nodeLength net m v
 unfolding nodeLength
-nodeLength-grown net l m h v = pathLength-grown l m h (station net v)
+nodeLength-grown net l m h v = pathLength-grown l m h (usedAt net v)
 
 -- so that a feasible table is kept while lengths grow,
 pub feasible-grown : {net : Network} {l m d : List ℕ} {t : ℕ} → ((e : ℕ) → getD l e 0 ≤ getD m e 0) → Feasible net l d t → Feasible net m d t

@@ -5,7 +5,8 @@ use Prim.Native.Nat.{ℕ, _+_, _≤_, _<_}
 use lib.ListN.{length, getD}
 use Rattle.network.specs.Network.{Network, commodities, source, sink}
 use Rattle.network.specs.Path.{Path, pathLength}
-use Rattle.network.specs.Resources.{uses, nodeLength}
+use Rattle.network.specs.Resources.{uses}
+use Rattle.network.specs.Onward.{nodeLength}
 use Rattle.paths.specs.Far.{farLength}
 
 -- One bound for each commodity, none above the cap with the length of the source, and none above the length of any of its paths.

@@ -6,7 +6,7 @@ use Prim.Native.Nat.{ℕ, _+_, _-_, _^_, _≤_, _<_}
 use lib.ListN.{length, getD, set, drop}
 use Rattle.bounds.specs.Bounds.{mostNodes, mostCommodities}
 use Rattle.network.specs.Network.{Network, source, sink}
-use Rattle.network.specs.Resources.{nodeLength}
+use Rattle.network.specs.Onward.{nodeLength}
 use Rattle.packed.specs.Packed.{netIn, Packed}
 use Rattle.packed.specs.declared.Shape.{Shape}
 use Rattle.index.specs.Index.{placesFrom, indexNumbers}

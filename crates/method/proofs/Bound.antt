@@ -9,7 +9,7 @@ use lib.ListN.{getD}
 use Rattle.arith.proofs.Sums.{sum-cong, sum-zero}
 use Rattle.network.specs.Network.{Network, commodities, source, sink}
 use Rattle.network.specs.Path.{Path, Joined, pathLength}
-use Rattle.network.specs.Resources.{resources, room, uses}
+use Rattle.network.specs.Resources.{resources, resourceCapacity, uses}
 use Rattle.network.specs.Ends.{Ends}
 use Rattle.network.proofs.Duality.{Bounds, duality}
 use Rattle.method.specs.Iteration.{weight}
@@ -36,7 +36,7 @@ module _ (net : Network) (ends : Ends net) where
   -- Where all lengths are 0, D is 0.
   weightless : weight net [] ≡ 0
   unfolding weight
-  weightless = rw (sum-cong (resources net) (λ e. room net e * getD [] e 0) (λ e. 0) (λ e b. omega arith)) (sum-zero (resources net))
+  weightless = rw (sum-cong (resources net) (λ e. resourceCapacity net e * getD [] e 0) (λ e. 0) (λ e b. omega arith)) (sum-zero (resources net))
 
   -- Where no commodity is joined, every flow carries at most 0: the bound for lengths 0 and alpha 1, since no path is there to be shorter.
   pub unjoined-bounded :

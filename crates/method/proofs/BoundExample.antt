@@ -9,7 +9,7 @@ use Rattle.arith.specs.Lists.{upFrom, upTo}
 use Rattle.arith.specs.Sum.{sum}
 use Rattle.signed.specs.Signed.{ahead, back}
 use Rattle.network.specs.Path.{Joined, follow, pathLength}
-use Rattle.network.specs.Resources.{limitsBelow, place, resources, rooms, uses}
+use Rattle.network.specs.Resources.{limitsBelow, place, resources, resourceCapacities, uses}
 use Rattle.network.specs.Flow.{AtMost, Carries, passing, outflow, inflow, leaving, entering}
 use Rattle.network.proofs.Leads.{leads-arc, leads-one-way}
 use Rattle.network.proofs.Paths.{path-step, path-arcs}
@@ -30,7 +30,7 @@ at-most = bounded (net 1 2) (ends 1 2 (omega arith) (omega arith) refl) (both 1)
 
 -- The bound is 2, and the flow carries it.
 tight : (weight (net 1 2) (both 1) ≡ 2) × Carries (net 1 2) ones 2
-unfolding ones weight leaving entering outflow inflow passing sum ahead back upFrom upTo limitsBelow place resources rooms
+unfolding ones weight leaving entering outflow inflow passing sum ahead back upFrom upTo limitsBelow place resources resourceCapacities
 tight = (refl, refl)
 
 -- No path leads from 2 to 1.

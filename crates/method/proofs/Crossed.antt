@@ -16,7 +16,7 @@ use Rattle.arith.proofs.Order.{Compared, below, equal, above, compare}
 use Rattle.arith.proofs.Sums.{sum-cong, sum-swap}
 use Rattle.signed.specs.Signed.{ahead, back, size, moved}
 use Rattle.signed.proofs.Signed.{more-parts, less-parts, more-size, less-size, more-back, moved-size}
-use Rattle.network.specs.Flow.{passing, outflow, inflow, loadOf}
+use Rattle.network.specs.Flow.{passing, outflow, inflow, sizesOn}
 use Rattle.network.specs.Network.{Network, arcs, commodities, tail, head, reversible}
 use Rattle.network.specs.Path.{forward, leads}
 use Rattle.network.proofs.Leads.{leads-arc, leads-near, leads-beyond, leads-one-way}
@@ -169,13 +169,13 @@ module _ (net : Network) (i g : ℕ) (listed : i < commodities net) (flow : List
       by-place false t p q = rw (crossed-other j a b (λ r. eqb-false j i p (r .0))) z
 
   -- The sizes on an arc together grow by no more than the draw over it.
-  pub crossed-load : (a : ℕ) → a < arcs net → loadOf net (amounts net next) a ≤ loadOf net (amounts net flow) a + once a e * g
-  unfolding loadOf
-  crossed-load a b = by-arc (eqb e a) refl
+  pub crossed-sizes : (a : ℕ) → a < arcs net → sizesOn net (amounts net next) a ≤ sizesOn net (amounts net flow) a + once a e * g
+  unfolding sizesOn
+  crossed-sizes a b = by-arc (eqb e a) refl
     where
-      by-arc : (t : Bool) → eqb e a ≡ t → loadOf net (amounts net next) a ≤ loadOf net (amounts net flow) a + cond t 1 0 * g
+      by-arc : (t : Bool) → eqb e a ≡ t → sizesOn net (amounts net next) a ≤ sizesOn net (amounts net flow) a + cond t 1 0 * g
       by-arc true q =
-          subst (λ x. loadOf net (amounts net next) x ≤ loadOf net (amounts net flow) x + 1 * g) (eqb-true e a q)
+          subst (λ x. sizesOn net (amounts net next) x ≤ sizesOn net (amounts net flow) x + 1 * g) (eqb-true e a q)
           (omega (
             arith,
             sum-swap (commodities net) (λ j. size (amounts net flow j e)) (λ j. size (amounts net next j e)) i listed

@@ -9,9 +9,9 @@ use native.Mathlib.Nat.{le-refl, le-antisymm}
 use native.Mathlib.Omega.{arith}
 use lib.ListN.{getD}
 use Rattle.network.specs.Network.{Network}
-use Rattle.network.specs.Onward.{onward}
+use Rattle.network.specs.Onward.{onward, nodeLength}
 use Rattle.network.specs.Path.{Path, leads, follow, pathLength}
-use Rattle.network.specs.Resources.{uses, nodeLength}
+use Rattle.network.specs.Resources.{uses}
 use Rattle.network.specs.Ends.{Node, Ends}
 use Rattle.network.proofs.Duality.{nodeLengths}
 use Rattle.network.proofs.Leads.{leads-from}

@@ -17,13 +17,13 @@ use Rattle.arith.proofs.Sums.{sum-cong, sum-swap}
 use Rattle.signed.specs.Signed.{ahead, back}
 use Rattle.network.specs.Network.{Network, arcs, commodities, tail, head, reversible, source, sink}
 use Rattle.network.specs.Path.{Path, beyond, follow}
-use Rattle.network.specs.Flow.{Flow, Carries, passing, outflow, inflow, loadOf, useOf, leaving, entering}
+use Rattle.network.specs.Flow.{Flow, Carries, passing, outflow, inflow, sizesOn, useOf, leaving, entering}
 use Rattle.network.specs.Visited.{visited}
 use Rattle.network.proofs.Leads.{leads-beyond}
 use Rattle.network.proofs.Paths.{path-step}
 use Rattle.method.specs.Iteration.{crossed, pushed}
 use Rattle.method.specs.Answer.{amounts}
-use Rattle.method.proofs.Crossed.{crossed-other, crossed-balance, crossed-load, crossed-grows, crossed-one-way}
+use Rattle.method.proofs.Crossed.{crossed-other, crossed-balance, crossed-sizes, crossed-grows, crossed-one-way}
 use Rattle.method.proofs.Times.{once, once-same, once-other}
 
 -- Equal amounts on all arcs leave and enter a node alike.
@@ -97,17 +97,17 @@ module _ (net : Network) (i g : ℕ) (listed : i < commodities net) where
       (crossed-one-way net i g listed flow sized v e (s .0) (s .1) j a b one z))
 
   -- The sizes of the amounts on an arc grow together by no more than the draw over it.
-  pub drawn-load : (v t : ℕ) (p : List ℕ) (flow : List ℤ) → Path net v t p → Sized flow → (a : ℕ) → a < arcs net →
-      loadOf net (amounts net (drawn v p flow)) a ≤ loadOf net (amounts net flow) a + times a p * g
+  pub drawn-sizes : (v t : ℕ) (p : List ℕ) (flow : List ℤ) → Path net v t p → Sized flow → (a : ℕ) → a < arcs net →
+      sizesOn net (amounts net (drawn v p flow)) a ≤ sizesOn net (amounts net flow) a + times a p * g
   unfolding pushed times
-  drawn-load v t [] flow path sized a b = omega arith
-  drawn-load v t (e ∷ p) flow path sized a b =
+  drawn-sizes v t [] flow path sized a b = omega arith
+  drawn-sizes v t (e ∷ p) flow path sized a b =
       let s = path-step net v t e p path in
       rw (leads-beyond net v e (s .0) (s .1))
       (omega (
         arith,
-        drawn-load (s .0) t p (over v e flow) (s .2) (over-sized v e flow sized) a b,
-        crossed-load net i g listed flow sized v e (s .0) (s .1) a b,
+        drawn-sizes (s .0) t p (over v e flow) (s .2) (over-sized v e flow sized) a b,
+        crossed-sizes net i g listed flow sized v e (s .0) (s .1) a b,
       ))
 
   -- What leaves a node, and what enters it, grows by no more than the draw where the node is visited.

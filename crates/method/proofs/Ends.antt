@@ -14,7 +14,7 @@ use lib.ListN.{getD}
 use Rattle.arith.proofs.Exists.{exists-true}
 use Rattle.length.specs.Level.{level, threshold}
 use Rattle.network.specs.Network.{Network}
-use Rattle.network.specs.Resources.{resources, room}
+use Rattle.network.specs.Resources.{resources, resourceCapacity}
 use Rattle.network.specs.Sound.{Sound}
 use Rattle.packing.proofs.Count.{count-below}
 use Rattle.packing.proofs.Run as packing
@@ -51,11 +51,11 @@ module _ (net : Network) (q : ℕ) (sound : Sound net q) (joined : (l : List ℕ
       by-test : (t : Bool) → ended net q s ≡ t → t ≡ false
       by-test false h = refl
       by-test true h =
-          let w = exists-true (resources net) (λ e. leb (q * level (resources net) q * room net e) (getD (s .loads) e 0)) h in
+          let w = exists-true (resources net) (λ e. leb (q * level (resources net) q * resourceCapacity net e) (getD (s .loads) e 0)) h in
           absurd
           (omega (
             arith,
-            leb-true (q * level (resources net) q * room net (w .0)) (getD (s .loads) (w .0) 0) (w .2),
+            leb-true (q * level (resources net) q * resourceCapacity net (w .0)) (getD (s .loads) (w .0) 0) (w .2),
             r .below (w .0) (w .1),
           ))
 

@@ -10,7 +10,8 @@ use native.Mathlib.Nat.{not-suc-le-zero, le-of-suc-le-suc}
 use lib.Dec.{T}
 use lib.ListN.{length, getD}
 use Rattle.arith.specs.Ceiling.{ceil}
-use Rattle.arith.specs.Lists.{upFrom, upTo, exists, flat, keep, same}
+use Rattle.arith.specs.Lists.{upFrom, upTo, exists, flat, keep}
+use Rattle.arith.specs.Same.{same}
 use Rattle.arith.specs.Sum.{sum}
 use Rattle.arith.proofs.Same.{same-eq, and-parts}
 use Rattle.length.specs.Length.{scale, mark, start, growth, halving}
@@ -19,7 +20,7 @@ use Rattle.length.specs.Levels.{levels}
 use Rattle.signed.specs.Signed.{twos}
 use Rattle.network.specs.Network.{Network}
 use Rattle.network.specs.Path.{leads, follow, pathLength}
-use Rattle.network.specs.Resources.{limitsBelow, place, resources, rooms, station, uses}
+use Rattle.network.specs.Resources.{limitsBelow, place, resources, resourceCapacities, usedAt, uses}
 use Rattle.network.specs.Visited.{visited}
 use Rattle.method.specs.Choice.{words, endsAt, paths, candidates, sooner, least, choice}
 use Rattle.method.specs.Iteration.{initial, weight, draw, update, pushed, grown, settled, advance, iteration}
@@ -34,7 +35,7 @@ figures o = numbersOf (o .answer) ++ (map twos (o .flow) ++ o .lengths)
 gives : Network → ℕ → List ℕ → Bool
 unfolding
     figures ceil upFrom upTo exists flat keep sum same scale mark start growth halving level threshold levels leads follow pathLength visited
-    limitsBelow place resources rooms station uses words endsAt paths candidates sooner least choice initial weight draw update pushed grown settled advance iteration ended runs run fullest
+    limitsBelow place resources resourceCapacities usedAt uses words endsAt paths candidates sooner least choice initial weight draw update pushed grown settled advance iteration ended runs run fullest
     numbersOf unjoined outcomeOf outcome bind twos
 gives net q xs = same (figures (outcome net q)) xs
 

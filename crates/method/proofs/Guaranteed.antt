@@ -17,10 +17,10 @@ use Rattle.length.specs.Level.{level, threshold}
 use Rattle.network.specs.Network.{Network, arcs, commodities, source}
 use Rattle.network.specs.Flow.{Flow, Keeps, AtMost}
 use Rattle.network.specs.Path.{Joined}
-use Rattle.network.specs.Resources.{place, resources, rooms, room}
+use Rattle.network.specs.Resources.{place, resources, resourceCapacities, resourceCapacity}
 use Rattle.network.specs.Sound.{Sound}
-use Rattle.network.proofs.Resources.{arcs-le, place-high, room-arc, room-node}
-use Rattle.network.proofs.Sounds.{sound-ends, resources-within, room-within}
+use Rattle.network.proofs.Resources.{arcs-le, place-high, resource-capacity-arc, resource-capacity-node}
+use Rattle.network.proofs.Sounds.{sound-ends, resources-within, resource-capacity-within}
 use Rattle.network.proofs.Duality.{Bounds}
 use Rattle.network.proofs.Keeping.{keeping}
 use Rattle.packing.proofs.Count.{count-all}
@@ -41,7 +41,7 @@ use Rattle.method.proofs.Instance.{seen, iterated}
 use Rattle.method.proofs.Joining.{choice-none, none-by-any}
 use Rattle.method.proofs.Programs.{program}
 use Rattle.method.proofs.Reached.{Best, unset, kept, Valid, valid-step, chosen-at, fair}
-use Rattle.method.proofs.Table.{in-zero, zero-flow, zero-carries, zero-load, zero-use}
+use Rattle.method.proofs.Table.{in-zero, zero-flow, zero-carries, zero-sizes, zero-use}
 
 -- T * ce ≤ ye and ye / ce ≤ yb / cb give T * cb ≤ yb.
 ratio-le : (T ce cb ye yb : ℕ) → 0 < ce → T * ce ≤ ye → ye * cb ≤ yb * ce → T * cb ≤ yb
@@ -74,35 +74,35 @@ still net q (suc n) h = by-test (iteration net q (initial net)) (stays net q h) 
 module _ (net : Network) (q : ℕ) (sound : Sound net q) where
   -- The fullest resource is at the threshold where some resource is.
   fullest-full :
-      (s : State) → ended net q s ≡ true → (b : ℕ) → Fullest (rooms net) (s .loads) (resources net - 1) b →
-      q * level (resources net) q * room net b ≤ getD (s .loads) b 0
+      (s : State) → ended net q s ≡ true → (b : ℕ) → Fullest (resourceCapacities net) (s .loads) (resources net - 1) b →
+      q * level (resources net) q * resourceCapacity net b ≤ getD (s .loads) b 0
   unfolding ended threshold
   fullest-full s h b f =
-      let w = exists-true (resources net) (λ e. leb (q * level (resources net) q * room net e) (getD (s .loads) e 0)) h in
+      let w = exists-true (resources net) (λ e. leb (q * level (resources net) q * resourceCapacity net e) (getD (s .loads) e 0)) h in
       let e : ℕ = w .0 in
       let l : e < resources net = w .1 in
-      ratio-le (q * level (resources net) q) (room net e) (room net b) (getD (s .loads) e 0) (getD (s .loads) b 0)
-      (room-within net q sound e l .least)
-      (leb-true (q * level (resources net) q * room net e) (getD (s .loads) e 0) (w .2))
+      ratio-le (q * level (resources net) q) (resourceCapacity net e) (resourceCapacity net b) (getD (s .loads) e 0) (getD (s .loads) b 0)
+      (resource-capacity-within net q sound e l .least)
+      (leb-true (q * level (resources net) q * resourceCapacity net e) (getD (s .loads) e 0) (w .2))
       (f .greatest e (omega arith))
 
   module _ (t : State) (f : Final net q t) where
     valid : Valid net q t
     valid = rw (f .is) (valid-step net q sound (f .prior) (f .reached .valid) (f .choosing) (f .chosen))
 
-    step : packing.Iteration (resources net) q (room net) (seen (f .prior)) (seen t)
+    step : packing.Iteration (resources net) q (resourceCapacity net) (seen (f .prior)) (seen t)
     step = rw (f .is) (iterated net q (f .choosing) (f .prior) (fair net q sound (f .prior) (f .reached .valid) (f .choosing) (f .chosen)))
 
     abbrev b : ℕ
-    b = fullest (rooms net) (t .loads) (resources net - 1)
+    b = fullest (resourceCapacities net) (t .loads) (resources net - 1)
 
-    full : Fullest (rooms net) (t .loads) (resources net - 1) b
-    full = is-fullest (rooms net) (t .loads) (resources net - 1) (λ e l. room-within net q sound e (omega (arith, resources-within net q sound .least)) .least)
+    full : Fullest (resourceCapacities net) (t .loads) (resources net - 1) b
+    full = is-fullest (resourceCapacities net) (t .loads) (resources net - 1) (λ e l. resource-capacity-within net q sound e (omega (arith, resources-within net q sound .least)) .least)
 
     inside : b < resources net
     inside = omega (arith, full .among, resources-within net q sound .least)
 
-    at-mark : q * level (resources net) q * room net b ≤ getD (t .loads) b 0
+    at-mark : q * level (resources net) q * resourceCapacity net b ≤ getD (t .loads) b 0
     at-mark = fullest-full t (f .full) b full
 
     loaded : 0 < getD (t .loads) b 0
@@ -129,15 +129,15 @@ module _ (net : Network) (q : ℕ) (sound : Sound net q) where
         by-best (unset e z) = absurd (omega (arith, alpha-pos))
         by-best (kept e far) = rw e (bounded net (sound-ends net q sound) (t .bestLengths) (t .alpha) far)
 
-    near-by : (8 * q - 9) * (t .bound * getD (t .loads) b 0) ≤ (8 * q + 5) * (t .total * room net b * t .alpha)
+    near-by : (8 * q - 9) * (t .bound * getD (t .loads) b 0) ≤ (8 * q + 5) * (t .total * resourceCapacity net b * t .alpha)
     unfolding seen
     near-by = near (program net q sound) (f .reached .valid .run) (f .reached .below) step b inside at-mark
 
-    near-enough : (q - 2) * (t .bound * getD (t .loads) b 0) ≤ q * (t .total * room net b * t .alpha)
+    near-enough : (q - 2) * (t .bound * getD (t .loads) b 0) ≤ q * (t .total * resourceCapacity net b * t .alpha)
     unfolding seen
     near-enough = near-two (program net q sound) (f .reached .valid .run) (f .reached .below) step b inside at-mark
 
-    near-within : (d r Q : ℕ) → 14 * d ≤ 8 * r → r ≤ Q → Q ≡ d * q → (Q - r) * (t .bound * getD (t .loads) b 0) ≤ Q * (t .total * room net b * t .alpha)
+    near-within : (d r Q : ℕ) → 14 * d ≤ 8 * r → r ≤ Q → Q ≡ d * q → (Q - r) * (t .bound * getD (t .loads) b 0) ≤ Q * (t .total * resourceCapacity net b * t .alpha)
     unfolding seen
     near-within = near-share (program net q sound) (f .reached .valid .run) (f .reached .below) step b inside at-mark
 
@@ -156,22 +156,22 @@ module _ (net : Network) (q : ℕ) (sound : Sound net q) where
     )
 
     -- The scale by the fullest resource: sizes and uses are within the loads, and no load over capacity is greater.
-    scale-keeps : Keeps net (room net b) (getD (t .loads) b 0) (amounts net (t .flow))
+    scale-keeps : Keeps net (resourceCapacity net b) (getD (t .loads) b 0) (amounts net (t .flow))
     scale-keeps =
-        keeping net (room net b) (getD (t .loads) b 0) (amounts net (t .flow))
+        keeping net (resourceCapacity net b) (getD (t .loads) b 0) (amounts net (t .flow))
         (λ e l.
         omega (
           arith,
-          mul-le-mul-right (room net b) (valid .table .within e l),
+          mul-le-mul-right (resourceCapacity net b) (valid .table .within e l),
           full .greatest e (omega (arith, arcs-le net)),
-          ap (λ c. c * getD (t .loads) b 0) (room-arc net e l),
+          ap (λ c. c * getD (t .loads) b 0) (resource-capacity-arc net e l),
         ))
         (λ v l h.
         omega (
           arith,
-          mul-le-mul-right (room net b) (valid .table .limits v h),
+          mul-le-mul-right (resourceCapacity net b) (valid .table .limits v h),
           full .greatest (place net v) (omega (arith, place-high net v l h)),
-          ap (λ c. c * getD (t .loads) b 0) (room-node net v l h),
+          ap (λ c. c * getD (t .loads) b 0) (resource-capacity-node net v l h),
         ))
 
     final-guarantee :
@@ -210,7 +210,7 @@ module _ (net : Network) (q : ℕ) (sound : Sound net q) where
         sources = λ i l. in-zero net (commodities net * arcs net) i (source net i);
         keeps =
             keeping net 1 1 (amounts net (replicate (commodities net * arcs net) (pos 0)))
-            (λ e l. omega (arith, zero-load net (commodities net * arcs net) e))
+            (λ e l. omega (arith, zero-sizes net (commodities net * arcs net) e))
             (λ v l h. omega (arith, zero-use net (commodities net * arcs net) v));
         some-load = omega arith;
         upper =

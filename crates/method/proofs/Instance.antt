@@ -18,7 +18,7 @@ use Rattle.arith.proofs.Sums.{sum-cong, sum-scale}
 use Rattle.length.specs.Length.{mark, growth, halving}
 use Rattle.network.specs.Network.{Network}
 use Rattle.network.specs.Path.{pathLength}
-use Rattle.network.specs.Resources.{resources, rooms, room}
+use Rattle.network.specs.Resources.{resources, resourceCapacities, resourceCapacity}
 use Rattle.packing.proofs.Run as packing
 use Rattle.method.specs.Choice.{Choice, usedBy}
 use Rattle.method.specs.Iteration.{State, weight, draw, update, grown, settled, advance}
@@ -53,20 +53,20 @@ one : (x g : ℕ) → x * g ≡ x * (1 * g)
 one x g = omega arith
 
 grown-at :
-    (net : Network) (q g : ℕ) (p l : List ℕ) (e : ℕ) → e < length l → times e p ≤ 1 → 0 < q * room net e →
-    getD (grown net q g p l) e 0 ≡ getD l e 0 + ceil (getD l e 0 * (times e p * g)) (q * room net e)
+    (net : Network) (q g : ℕ) (p l : List ℕ) (e : ℕ) → e < length l → times e p ≤ 1 → 0 < q * resourceCapacity net e →
+    getD (grown net q g p l) e 0 ≡ getD l e 0 + ceil (getD l e 0 * (times e p * g)) (q * resourceCapacity net e)
 unfolding grown growth
 grown-at net q g p l e b d pos = go (times e p) refl d
   where
     x : ℕ
     x = getD l e 0
 
-    go : (n : ℕ) → times e p ≡ n → n ≤ 1 → getD (update (λ e x. growth q g (room net e) x) p l) e 0 ≡ x + ceil (x * (n * g)) (q * room net e)
+    go : (n : ℕ) → times e p ≡ n → n ≤ 1 → getD (update (λ e x. growth q g (resourceCapacity net e) x) p l) e 0 ≡ x + ceil (x * (n * g)) (q * resourceCapacity net e)
     go zero h k =
-        update-other (λ e x. growth q g (room net e) x) p l e h ∙
-        omega (arith, ceil-zero (q * room net e) pos, ap (λ t. ceil t (q * room net e)) (none x g))
+        update-other (λ e x. growth q g (resourceCapacity net e) x) p l e h ∙
+        omega (arith, ceil-zero (q * resourceCapacity net e) pos, ap (λ t. ceil t (q * resourceCapacity net e)) (none x g))
     go (suc zero) h k =
-        update-once (λ e x. growth q g (room net e) x) p l e b h ∙ ap (λ t. x + ceil t (q * room net e)) (one x g)
+        update-once (λ e x. growth q g (resourceCapacity net e) x) p l e b h ∙ ap (λ t. x + ceil t (q * resourceCapacity net e)) (one x g)
     go (suc (suc n)) h k = absurd (omega arith)
 
 -- A member of a list of resources is one.
@@ -97,10 +97,10 @@ halved-at l e = List·getD-map halving l e 0
 -- What the argument asks of an iteration: what the path uses are resources, each once; capacities and tables as they should be.
 pub record Fair (net : Network) (q : ℕ) (p : List ℕ) (s : State) : Type 0 where
   pub coarse : 1 ≤ q
-  pub positive : (e : ℕ) → e < resources net → 1 ≤ room net e
+  pub positive : (e : ℕ) → e < resources net → 1 ≤ resourceCapacity net e
   pub below : Below (resources net) p
   pub once : (e : ℕ) → times e p ≤ 1
-  pub whole : At (rooms net) p (draw (rooms net) p)
+  pub whole : At (resourceCapacities net) p (draw (resourceCapacities net) p)
   pub lengths : length (s .lengths) ≡ resources net
   pub loads : length (s .loads) ≡ resources net
 
@@ -109,7 +109,7 @@ module _ (net : Network) (q : ℕ) (c : Choice) (s : State) (fair : Fair net q (
   m = resources net
 
   abbrev g : ℕ
-  g = draw (rooms net) (usedBy net c)
+  g = draw (resourceCapacities net) (usedBy net c)
 
   -- The draw on each resource.
   abbrev y : ℕ → ℕ
@@ -118,10 +118,10 @@ module _ (net : Network) (q : ℕ) (c : Choice) (s : State) (fair : Fair net q (
   abbrev l : ℕ → ℕ
   l e = getD (s .lengths) e 0
 
-  pub column : packing.Column m (room net) l y g (pathLength (s .lengths) (usedBy net c))
+  pub column : packing.Column m (resourceCapacity net) l y g (pathLength (s .lengths) (usedBy net c))
   column =
       record {
-        within = λ e b. drawn-within (times e (usedBy net c)) g (room net e) (fair .once e) (draw-within (rooms net) (usedBy net c) e);
+        within = λ e b. drawn-within (times e (usedBy net c)) g (resourceCapacity net e) (fair .once e) (draw-within (resourceCapacities net) (usedBy net c) e);
         size =
             sum-cong m (λ e. y e * l e) (λ e. g * (times e (usedBy net c) * l e)) (λ e b. omega arith) ∙
             (sum-scale m g (λ e. times e (usedBy net c) * l e) ∙
@@ -136,17 +136,17 @@ module _ (net : Network) (q : ℕ) (c : Choice) (s : State) (fair : Fair net q (
   abbrev after : List ℕ
   after = grown net q g (usedBy net c) (s .lengths)
 
-  pub after-at : (e : ℕ) → e < m → getD after e 0 ≡ packing.grown q (room net) l y e
+  pub after-at : (e : ℕ) → e < m → getD after e 0 ≡ packing.grown q (resourceCapacity net) l y e
   after-at e b =
       grown-at net q g (usedBy net c) (s .lengths) e (rw (fair .lengths) b) (fair .once e)
       (mul-pos (fair .coarse) (fair .positive e b))
 
-  lengths : packing.Lengths m (packing.grown q (room net) l y) (λ e. getD (settled net after) e 0)
+  lengths : packing.Lengths m (packing.grown q (resourceCapacity net) l y) (λ e. getD (settled net after) e 0)
   unfolding settled halving mark
   lengths = go (exists m (λ e. leb mark (getD after e 0))) refl
     where
       go : (t : Bool) → exists m (λ e. leb mark (getD after e 0)) ≡ t →
-          packing.Lengths m (packing.grown q (room net) l y) (λ e. getD (cond t (map halving after) after) e 0)
+          packing.Lengths m (packing.grown q (resourceCapacity net) l y) (λ e. getD (cond t (map halving after) after) e 0)
       go true h =
           let w = exists-true m (λ e. leb mark (getD after e 0)) h in
           packing.Lengths.halved (w .0) (w .1) (rw (after-at (w .0) (w .1)) at (leb-true mark (getD after (w .0) 0) (w .2)))
@@ -157,13 +157,13 @@ module _ (net : Network) (q : ℕ) (c : Choice) (s : State) (fair : Fair net q (
           (λ e b. after-at e b)
 
   least :
-      packing.Least (packing.volume m (room net) l) (pathLength (s .lengths) (usedBy net c)) (s .bound) (s .alpha) (advance net q c s .bound)
+      packing.Least (packing.volume m (resourceCapacity net) l) (pathLength (s .lengths) (usedBy net c)) (s .bound) (s .alpha) (advance net q c s .bound)
       (advance net q c s .alpha)
   unfolding advance weight
   least = go (ltb (D * s .alpha) (s .bound * a)) refl
     where
       D : ℕ
-      D = sum m (λ e. room net e * getD (s .lengths) e 0)
+      D = sum m (λ e. resourceCapacity net e * getD (s .lengths) e 0)
 
       a : ℕ
       a = pathLength (s .lengths) (usedBy net c)
@@ -173,7 +173,7 @@ module _ (net : Network) (q : ℕ) (c : Choice) (s : State) (fair : Fair net q (
       go false h = packing.Least.held (ltb-false (D * s .alpha) (s .bound * a) h) refl refl
 
   -- The iteration.
-  pub iterated : packing.Iteration m q (room net) (seen s) (seen (advance net q c s))
+  pub iterated : packing.Iteration m q (resourceCapacity net) (seen s) (seen (advance net q c s))
   unfolding seen advance
   iterated =
       record {

@@ -6,12 +6,12 @@ use Rattle.length.proofs.Bounds.{level-positive}
 use Rattle.length.proofs.Rule.{level-rule}
 use Rattle.length.proofs.Slack.{slack-small, slack-room}
 use Rattle.network.specs.Network.{Network}
-use Rattle.network.specs.Resources.{resources, room}
+use Rattle.network.specs.Resources.{resources, resourceCapacity}
 use Rattle.network.specs.Sound.{Sound, Within}
-use Rattle.network.proofs.Sounds.{resources-within, room-within}
+use Rattle.network.proofs.Sounds.{resources-within, resource-capacity-within}
 use Rattle.packing.proofs.Program.{Program}
 
-pub program : (net : Network) (q : ℕ) → Sound net q → Program (resources net) q (level (resources net) q) (room net)
+pub program : (net : Network) (q : ℕ) → Sound net q → Program (resources net) q (level (resources net) q) (resourceCapacity net)
 program net q s =
     let m : Within 1 mostArcs (resources net) = resources-within net q s in
     let p : Within leastPrecision mostPrecision q = s .counts .precision in
@@ -20,8 +20,8 @@ program net q s =
       resources-high = m .most;
       precision-low = p .least;
       precision-high = p .most;
-      capacity-low = λ e l. room-within net q s e l .least;
-      capacity-high = λ e l. room-within net q s e l .most;
+      capacity-low = λ e l. resource-capacity-within net q s e l .least;
+      capacity-high = λ e l. resource-capacity-within net q s e l .most;
       level = level-positive (resources net) q (m .least) (m .most) (p .least) (p .most);
       enough = level-rule (resources net) q (m .least) (m .most) (p .least) (p .most) .enough;
       room = slack-small (resources net) q (m .least) (m .most) (p .least) (p .most);

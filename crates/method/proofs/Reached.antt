@@ -17,11 +17,11 @@ use Rattle.length.specs.Level.{level, threshold}
 use Rattle.length.specs.Length.{scale, mark, start, halving}
 use Rattle.network.specs.Network.{Network}
 use Rattle.network.specs.Path.{pathLength}
-use Rattle.network.specs.Resources.{resources, rooms, room}
+use Rattle.network.specs.Resources.{resources, resourceCapacities, resourceCapacity}
 use Rattle.network.specs.Sound.{Sound}
 use Rattle.network.proofs.Paths.{length-le-pathLength}
-use Rattle.network.proofs.Resources.{rooms-length}
-use Rattle.network.proofs.Sounds.{sound-ends, room-within}
+use Rattle.network.proofs.Resources.{resource-capacities-length}
+use Rattle.network.proofs.Sounds.{sound-ends, resource-capacity-within}
 use Rattle.packing.proofs.Run as packing
 use Rattle.packing.proofs.Sizes.{length-pos}
 use Rattle.method.specs.Choice.{Choice, usedBy, choice}
@@ -45,7 +45,7 @@ pub data Best (net : Network) (bound alpha : ℕ) (l : List ℕ) : Type 0 where
 
 -- What holds of a state whether or not the run ends there.
 pub record Valid (net : Network) (q : ℕ) (s : State) : Type 0 where
-  pub run : packing.Run (resources net) q (room net) (seen s)
+  pub run : packing.Run (resources net) q (resourceCapacity net) (seen s)
   pub table : Table net (s .flow) (s .loads) (s .total)
   pub lengths : length (s .lengths) ≡ resources net
   pub bests : length (s .bestLengths) ≡ resources net
@@ -55,7 +55,7 @@ pub record Valid (net : Network) (q : ℕ) (s : State) : Type 0 where
 -- ... and every load is still below the threshold.
 pub record Reached (net : Network) (q : ℕ) (s : State) : Type 0 where
   pub valid : Valid net q s
-  pub below : packing.Below (resources net) q (level (resources net) q) (room net) (seen s)
+  pub below : packing.Below (resources net) q (level (resources net) q) (resourceCapacity net) (seen s)
 
 module _ (net : Network) (q : ℕ) (sound : Sound net q) where
   positive : (s : State) → Valid net q s → (e : ℕ) → e < resources net → 1 ≤ getD (s .lengths) e 0
@@ -77,10 +77,10 @@ module _ (net : Network) (q : ℕ) (sound : Sound net q) where
       let x = chosen-at s v c h in
       record {
         coarse = omega (arith, sound .counts .precision .least);
-        positive = λ e l. room-within net q sound e l .least;
+        positive = λ e l. resource-capacity-within net q sound e l .least;
         below = used-below s v c x;
         once = distinct-once (chosen-distinct net (s .lengths) c x);
-        whole = whole (rooms net) (usedBy net c) (chosen-some net (s .lengths) c x (sound-ends net q sound));
+        whole = whole (resourceCapacities net) (usedBy net c) (chosen-some net (s .lengths) c x (sound-ends net q sound));
         lengths = v .lengths;
         loads = v .table .places;
       }
@@ -159,10 +159,10 @@ module _ (net : Network) (q : ℕ) (sound : Sound net q) where
       }
 
   -- The run has not ended, so every load is below the threshold.
-  pub not-ended : (s : State) → ended net q s ≡ false → packing.Below (resources net) q (level (resources net) q) (room net) (seen s)
+  pub not-ended : (s : State) → ended net q s ≡ false → packing.Below (resources net) q (level (resources net) q) (resourceCapacity net) (seen s)
   unfolding ended threshold seen
   not-ended s h e l =
-      leb-false _ _ (exists-false (resources net) (λ e. leb (q * level (resources net) q * room net e) (getD (s .loads) e 0)) h e l)
+      leb-false _ _ (exists-false (resources net) (λ e. leb (q * level (resources net) q * resourceCapacity net e) (getD (s .loads) e 0)) h e l)
 
   pub valid-start : Valid net q (initial net)
   unfolding initial seen start scale
@@ -171,7 +171,7 @@ module _ (net : Network) (q : ℕ) (sound : Sound net q) where
         run =
             packing.Run.start
             (record {
-              length = λ e l. map-at start (rooms net) e (rw (rooms-length net) l);
+              length = λ e l. map-at start (resourceCapacities net) e (rw (resource-capacities-length net) l);
               load = λ e l. zeros (resources net) e;
               total = refl;
               count = refl;
@@ -179,7 +179,7 @@ module _ (net : Network) (q : ℕ) (sound : Sound net q) where
               alpha = refl;
             });
         table = table-start net;
-        lengths = length-map (rooms net) start ∙ rooms-length net;
+        lengths = length-map (resourceCapacities net) start ∙ resource-capacities-length net;
         bests = length-replicate (resources net) 0;
         best = unset refl refl;
         which = omega arith;

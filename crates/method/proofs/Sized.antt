@@ -9,7 +9,7 @@ use lib.ListN.{getD}
 use Rattle.length.specs.Level.{level, threshold}
 use Rattle.length.proofs.Bounds.{threshold-most}
 use Rattle.network.specs.Network.{Network}
-use Rattle.network.specs.Resources.{resources, rooms, room}
+use Rattle.network.specs.Resources.{resources, resourceCapacities, resourceCapacity}
 use Rattle.network.specs.Sound.{Sound}
 use Rattle.network.proofs.Sounds.{resources-within}
 use Rattle.packing.proofs.Count.{count-below}
@@ -47,7 +47,7 @@ module _ (net : Network) (q : ℕ) (sound : Sound net q) where
 
   -- From what is known of the loads and the count.
   sizes :
-      (s : State) → Valid net q s → ((e : ℕ) → e < resources net → getD (s .loads) e 0 < q * level (resources net) q * room net e + room net e) →
+      (s : State) → Valid net q s → ((e : ℕ) → e < resources net → getD (s .loads) e 0 < q * level (resources net) q * resourceCapacity net e + resourceCapacity net e) →
       s .count ≤ resources net * (q * level (resources net) q - 1) + 1 → Sizes net s
   unfolding seen weight
   sizes s v loads count =
@@ -86,9 +86,9 @@ module _ (net : Network) (q : ℕ) (sound : Sound net q) where
   -- The lengths of an iteration as grown, before any halving.
   pub grown-sizes :
       (s : State) → Valid net q s → (c : Choice) → choice net (s .lengths) ≡ some c → (e : ℕ) → e < resources net →
-      getD (grown net q (draw (rooms net) (usedBy net c)) (usedBy net c) (s .lengths)) e 0 < 2 ^ 41
+      getD (grown net q (draw (resourceCapacities net) (usedBy net c)) (usedBy net c) (s .lengths)) e 0 < 2 ^ 41
   unfolding seen
   grown-sizes s v c h e l =
       let f = fair net q sound s v c h in
       rw (after-at net q c s f e l)
-      (grown-below (program net q sound) (v .run) (λ e. times e (usedBy net c) * draw (rooms net) (usedBy net c)) (column net q c s f .within) e l)
+      (grown-below (program net q sound) (v .run) (λ e. times e (usedBy net c) * draw (resourceCapacities net) (usedBy net c)) (column net q c s f .within) e l)

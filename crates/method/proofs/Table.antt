@@ -15,13 +15,13 @@ use Rattle.arith.proofs.Order.{le-or-lt}
 use Rattle.arith.proofs.Sums.{sum-cong, sum-zero}
 use Rattle.signed.specs.Signed.{ahead, back, size}
 use Rattle.network.specs.Network.{Network, arcs, commodities, tail, head, limited, source, sink}
-use Rattle.network.specs.Resources.{place, resources, rooms}
-use Rattle.network.specs.Flow.{Flow, Carries, passing, outflow, inflow, loadOf, useOf, leaving, entering}
+use Rattle.network.specs.Resources.{place, resources, resourceCapacities}
+use Rattle.network.specs.Flow.{Flow, Carries, passing, outflow, inflow, sizesOn, useOf, leaving, entering}
 use Rattle.method.specs.Choice.{Choice, usedBy}
 use Rattle.method.specs.Chosen.{Chosen}
 use Rattle.method.specs.Iteration.{State, initial, draw, advance}
 use Rattle.method.specs.Answer.{amounts}
-use Rattle.method.proofs.Drawn.{drawn-sized, drawn-load, drawn-use, sources-stay, stays-flow, carries-more}
+use Rattle.method.proofs.Drawn.{drawn-sized, drawn-sizes, drawn-use, sources-stay, stays-flow, carries-more}
 use Rattle.method.proofs.Once.{distinct-once}
 use Rattle.method.proofs.Times.{Below, update-length, update-adds}
 use Rattle.method.proofs.Used.{arc-used, node-used}
@@ -32,7 +32,7 @@ pub record Table (net : Network) (flow : List ℤ) (loads : List ℕ) (total : �
   pub flows : Flow net (amounts net flow)
   pub carries : Carries net (amounts net flow) total
   pub sources : (i : ℕ) → inflow net (amounts net flow i) (source net i) ≡ 0
-  pub within : (e : ℕ) → e < arcs net → loadOf net (amounts net flow) e ≤ getD loads e 0
+  pub within : (e : ℕ) → e < arcs net → sizesOn net (amounts net flow) e ≤ getD loads e 0
   pub limits : (v : ℕ) → limited net v ≡ true → useOf net (amounts net flow) v ≤ getD loads (place net v) 0
 
 -- Every place of a table of equal entries, and past its end, reads as such an entry.
@@ -82,9 +82,9 @@ module _ (net : Network) (n : ℕ) where
         sum-cong (commodities net) (λ i. inflow net (nothing i) (source net i)) (λ i. 0) (λ i l. in-zero i (source net i)),
       )
 
-  pub zero-load : (e : ℕ) → loadOf net nothing e ≡ 0
-  unfolding loadOf ahead back
-  zero-load e = sum-cong (commodities net) (λ i. size (nothing i e)) (λ i. 0) (λ i l. ap (λ x. size x) (nothing-at i e)) ∙ sum-zero (commodities net)
+  pub zero-sizes : (e : ℕ) → sizesOn net nothing e ≡ 0
+  unfolding sizesOn ahead back
+  zero-sizes e = sum-cong (commodities net) (λ i. size (nothing i e)) (λ i. 0) (λ i l. ap (λ x. size x) (nothing-at i e)) ∙ sum-zero (commodities net)
 
   -- and uses no node.
   pub zero-use : (v : ℕ) → useOf net nothing v ≡ 0
@@ -103,7 +103,7 @@ table-start net =
       flows = zero-flow net (commodities net * arcs net);
       carries = zero-carries net (commodities net * arcs net);
       sources = λ i. in-zero net (commodities net * arcs net) i (source net i);
-      within = λ e l. omega (arith, zero-load net (commodities net * arcs net) e);
+      within = λ e l. omega (arith, zero-sizes net (commodities net * arcs net) e);
       limits = λ v h. omega (arith, zero-use net (commodities net * arcs net) v);
     }
 
@@ -115,7 +115,7 @@ unfolding advance
 table-step net q c s x below apart w =
     let path = x .path in
     let listed = x .commodity in
-    let g : ℕ = draw (rooms net) (usedBy net c) in
+    let g : ℕ = draw (resourceCapacities net) (usedBy net c) in
     let v : ℕ = source net (c .commodity) in
     let t : ℕ = sink net (c .commodity) in
     record {
@@ -128,7 +128,7 @@ table-step net q c s x below apart w =
       within = λ e l.
           omega (
             arith,
-            drawn-load net (c .commodity) g listed v t (c .path) (s .flow) path (w .rows) e l,
+            drawn-sizes net (c .commodity) g listed v t (c .path) (s .flow) path (w .rows) e l,
             w .within e l,
             update-adds g (usedBy net c) (s .loads) e (rw (w .places) below),
             mul-le-mul-right g (arc-used net e v (c .path)),

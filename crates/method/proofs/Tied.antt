@@ -7,7 +7,7 @@ use Prim.Native.Nat.{ℕ}
 use Rattle.arith.specs.Lists.{upFrom, upTo, flat, keep}
 use Rattle.network.specs.Network.{Network}
 use Rattle.network.specs.Path.{leads, follow, pathLength}
-use Rattle.network.specs.Resources.{limitsBelow, place, resources, station, uses}
+use Rattle.network.specs.Resources.{limitsBelow, place, resources, usedAt, uses}
 use Rattle.network.specs.Sound.{Sound}
 use Rattle.network.specs.Verdict.{verdict, outside, loose, sizeConditions, arcConditions, limitConditions, commodityConditions, itemConditions, verdictOn}
 use Rattle.network.specs.Visited.{visited}
@@ -42,12 +42,12 @@ lengths = 1 ∷ 1 ∷ 2 ∷ 2 ∷ 2 ∷ []
 
 -- The lower commodity; not the path over node 2, which has one arc more; and of the two straight arcs the lower.
 tied : choice twice lengths ≡ some (choiceOf 0 (2 ∷ []))
-unfolding lengths upFrom upTo flat keep leads follow bind pathLength visited station uses words endsAt paths candidates sooner least choice
+unfolding lengths upFrom upTo flat keep leads follow bind pathLength visited usedAt uses words endsAt paths candidates sooner least choice
 tied = refl
 
 -- From 1 to 3 and back, by lengths that make the path over node 2 as long as the arc from 3: the lower commodity, though its path has more arcs.
 lower : choice (floor (1 ∷ 3 ∷ []) (3 ∷ 1 ∷ [])) (1 ∷ 1 ∷ 3 ∷ 3 ∷ 2 ∷ []) ≡ some (choiceOf 0 (0 ∷ 1 ∷ []))
-unfolding upFrom upTo flat keep leads follow bind pathLength visited station uses words endsAt paths candidates sooner least choice
+unfolding upFrom upTo flat keep leads follow bind pathLength visited usedAt uses words endsAt paths candidates sooner least choice
 lower = refl
 
 -- The network is accepted at precision 4.

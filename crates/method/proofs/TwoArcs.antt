@@ -10,7 +10,7 @@ use lib.ListN.{getD}
 use Rattle.arith.specs.Sum.{sum}
 use Rattle.signed.specs.Signed.{ahead, back}
 use Rattle.network.specs.Network.{Network, limited}
-use Rattle.network.specs.Flow.{Flow, Keeps, loadOf}
+use Rattle.network.specs.Flow.{Flow, Keeps, sizesOn}
 use Rattle.network.specs.Ends.{Ends}
 
 -- x for both arcs: their tails, heads, capacities or lengths
@@ -50,7 +50,7 @@ module _ (s t : ℕ) where
   flow ls lt e = record { balance = λ i v b low high ns nt. omega (arith, commodity-at s i b, commodity-at t i b); one-way = λ i e b l c. refl }
 
   pub keeps : Keeps (net s t) 1 1 ones
-  unfolding ones loadOf sum ahead back
+  unfolding ones sizesOn sum ahead back
   keeps = record { within = λ e b. omega (arith, arc-at 1 e b); limits = λ v b h. absurd (true≢false (sym h ∙ none v)) }
     where
       none : (v : ℕ) → limited (net s t) v ≡ false

@@ -14,10 +14,10 @@ use Rattle.arith.specs.Member.{Member, first, later}
 use Rattle.arith.specs.Times.{times}
 use Rattle.network.specs.Ends.{Ends}
 use Rattle.network.specs.Network.{Network, arcs, limited, source, sink}
-use Rattle.network.specs.Resources.{place, resources, station, uses}
+use Rattle.network.specs.Resources.{place, resources, usedAt, uses}
 use Rattle.network.specs.Visited.{visited}
 use Rattle.network.proofs.Paths.{path-arcs}
-use Rattle.network.proofs.Uses.{station-limited, uses-below, uses-some, uses-distinct}
+use Rattle.network.proofs.Uses.{usedAt-limited, uses-below, uses-some, uses-distinct}
 use Rattle.method.specs.Choice.{Choice, usedBy}
 use Rattle.method.specs.Chosen.{Chosen}
 use Rattle.method.proofs.Times.{Below, none, also, once-same}
@@ -50,23 +50,23 @@ module _ (net : Network) where
   -- An arc is used as often as the path has it,
   pub arc-used : (e v : ℕ) (p : List ℕ) → times e p ≤ times e (uses net v p)
   unfolding uses
-  arc-used e v p = omega (arith, times-append e p (flat (station net) (visited net v p)))
+  arc-used e v p = omega (arith, times-append e p (flat (usedAt net) (visited net v p)))
 
   -- and a limited node as often as it is visited.
-  times-station : (u v : ℕ) → limited net u ≡ true → cond (eqb v u) 1 0 ≤ times (place net u) (station net v)
+  times-usedAt : (u v : ℕ) → limited net u ≡ true → cond (eqb v u) 1 0 ≤ times (place net u) (usedAt net v)
   unfolding times
-  times-station u v h = by-test (eqb v u) refl
+  times-usedAt u v h = by-test (eqb v u) refl
     where
-      by-test : (b : Bool) → eqb v u ≡ b → cond b 1 0 ≤ times (place net u) (station net v)
-      by-test true q = rw (eqb-true v u q, station-limited net u h) (omega (arith, once-same (place net u)))
+      by-test : (b : Bool) → eqb v u ≡ b → cond b 1 0 ≤ times (place net u) (usedAt net v)
+      by-test true q = rw (eqb-true v u q, usedAt-limited net u h) (omega (arith, once-same (place net u)))
       by-test false q = omega arith
 
-  times-stations : (u : ℕ) (vs : List ℕ) → limited net u ≡ true → times u vs ≤ times (place net u) (flat (station net) vs)
+  times-visited : (u : ℕ) (vs : List ℕ) → limited net u ≡ true → times u vs ≤ times (place net u) (flat (usedAt net) vs)
   unfolding times flat
-  times-stations u [] h = omega arith
-  times-stations u (v ∷ vs) h =
-      omega (arith, times-append (place net u) (station net v) (flat (station net) vs), times-station u v h, times-stations u vs h)
+  times-visited u [] h = omega arith
+  times-visited u (v ∷ vs) h =
+      omega (arith, times-append (place net u) (usedAt net v) (flat (usedAt net) vs), times-usedAt u v h, times-visited u vs h)
 
   pub node-used : (u v : ℕ) (p : List ℕ) → limited net u ≡ true → times u (visited net v p) ≤ times (place net u) (uses net v p)
   unfolding uses
-  node-used u v p h = omega (arith, times-append (place net u) p (flat (station net) (visited net v p)), times-stations u (visited net v p) h)
+  node-used u v p h = omega (arith, times-append (place net u) p (flat (usedAt net) (visited net v p)), times-visited u (visited net v p) h)

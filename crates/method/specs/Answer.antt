@@ -1,13 +1,13 @@
 -- The answer. Document 01, "One choice of route".
 use mathlib.Core.Bool.{cond}
 use mathlib.Core.Option.{none, some}
-use mathlib.Core.List.{List, [], _∷_, _++_}
+use mathlib.Core.List.{List, [], _∷_}
 use Prim.Native.Nat.{ℕ, zero, suc, _+_, _*_, _-_}
 use lib.Dec.{ltb}
 use lib.IntN.{ℤ, pos}
-use lib.ListN.{length, getD, drop, replicate}
+use lib.ListN.{getD, replicate}
 use Rattle.network.specs.Network.{Network, arcs, commodities}
-use Rattle.network.specs.Resources.{resources, rooms, room}
+use Rattle.network.specs.Resources.{resources, resourceCapacities, resourceCapacity}
 use Rattle.method.specs.declared.Answer.{Answer}
 use Rattle.method.specs.Choice.{choice}
 use Rattle.method.specs.Iteration.{State, initial}
@@ -48,14 +48,14 @@ unjoined net =
 -- The outcome of a run that left the state s.
 unfoldable pub outcomeOf : Network → State → Outcome
 outcomeOf net s =
-    let b = fullest (rooms net) (s .loads) (resources net - 1) in
+    let b = fullest (resourceCapacities net) (s .loads) (resources net - 1) in
     record {
       flow = s .flow;
       lengths = s .bestLengths;
       answer =
           record {
             total = s .total;
-            capacity = room net b;
+            capacity = resourceCapacity net b;
             load = getD (s .loads) b 0;
             bound = s .bound;
             alpha = s .alpha;
@@ -67,7 +67,3 @@ outcomeOf net s =
 -- The outcome for a network at precision q.
 unfoldable pub outcome : Network → ℕ → Outcome
 outcome net q = elim (choice net (initial net .lengths)) [ none ↦ unjoined net | some c ↦ outcomeOf net (run net q) ]
-
--- A lent table after its first places took the numbers xs; later places keep their contents.
-unfoldable pub overlaid : {A : Type 0} → List A → List A → List A
-overlaid xs table = xs ++ drop (length xs) table

@@ -11,7 +11,7 @@ use Rattle.arith.specs.Sum.{sum}
 use Rattle.length.specs.Length.{mark, start, growth, halving}
 use Rattle.network.specs.Network.{Network, arcs, commodities, source}
 use Rattle.network.specs.Path.{forward, beyond, pathLength}
-use Rattle.network.specs.Resources.{resources, rooms, room}
+use Rattle.network.specs.Resources.{resources, resourceCapacities, resourceCapacity}
 use Rattle.signed.specs.Signed.{moved}
 use Rattle.method.specs.Choice.{Choice, usedBy, choice}
 
@@ -32,7 +32,7 @@ pub record State : Type 0 where
 unfoldable pub initial : Network → State
 initial net =
     record {
-      lengths = map start (rooms net);
+      lengths = map start (resourceCapacities net);
       flow = replicate (commodities net * arcs net) (pos 0);
       loads = replicate (resources net) 0;
       total = 0;
@@ -45,7 +45,7 @@ initial net =
 
 -- D, the sum over all resources of capacity times length.
 unfoldable pub weight : Network → List ℕ → ℕ
-weight net l = sum (resources net) (λ e. room net e * getD l e 0)
+weight net l = sum (resources net) (λ e. resourceCapacity net e * getD l e 0)
 
 -- The draw g: the least capacity of what the path uses.
 unfoldable pub draw : List ℕ → List ℕ → ℕ
@@ -69,7 +69,7 @@ pushed net base g v (e ∷ p) flow = pushed net base g (beyond net v e) p (cross
 
 -- The lengths with those of what the path uses grown.
 unfoldable pub grown : Network → ℕ → ℕ → List ℕ → List ℕ → List ℕ
-grown net q g p l = update (λ e x. growth q g (room net e) x) p l
+grown net q g p l = update (λ e x. growth q g (resourceCapacity net e) x) p l
 
 -- Every length halved once if some length is at the mark.
 unfoldable pub settled : Network → List ℕ → List ℕ
@@ -79,7 +79,7 @@ settled net l = cond (exists (resources net) (λ e. leb mark (getD l e 0))) (map
 unfoldable pub advance : Network → ℕ → Choice → State → State
 advance net q c s =
     let u = usedBy net c in
-    let g = draw (rooms net) u in
+    let g = draw (resourceCapacities net) u in
     let a = pathLength (s .lengths) u in
     let d = weight net (s .lengths) in
     let better = ltb (d * s .alpha) (s .bound * a) in

@@ -5,6 +5,7 @@ pub mod Fits
 pub mod Guarantee
 pub mod Iteration
 pub mod Order
+pub mod Overlaid
 pub mod Run
 pub mod Sizes
 pub mod Tightest

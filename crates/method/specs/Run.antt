@@ -6,12 +6,12 @@ use lib.ListN.{getD}
 use Rattle.arith.specs.Lists.{exists}
 use Rattle.length.specs.Level.{threshold}
 use Rattle.network.specs.Network.{Network}
-use Rattle.network.specs.Resources.{resources, room}
+use Rattle.network.specs.Resources.{resources, resourceCapacity}
 use Rattle.method.specs.Iteration.{State, initial, iteration}
 
 -- Some resource's load is at least T times its capacity.
 unfoldable pub ended : Network → ℕ → State → Bool
-ended net q s = exists (resources net) (λ e. leb (threshold (resources net) q * room net e) (getD (s .loads) e 0))
+ended net q s = exists (resources net) (λ e. leb (threshold (resources net) q * resourceCapacity net e) (getD (s .loads) e 0))
 
 -- The state after j iterations, whatever ends the run.
 unfoldable pub nth : Network → ℕ → ℕ → State

@@ -13,13 +13,13 @@ use Rattle.arith.proofs.Sums.{sum-cong, sum-add, sum-scale, sum-le, sum-exchang
 use Rattle.signed.specs.Signed.{back, size}
 use Rattle.network.specs.Network.{Network, arcs, commodities, tail, head, capacity, reversible, limit, limited, source, sink}
 use Rattle.network.specs.Ends.{Ends}
-use Rattle.network.specs.Flow.{Flow, Keeps, AtMost, outflow, inflow, loadOf, useOf, leaving, entering}
+use Rattle.network.specs.Flow.{Flow, Keeps, AtMost, outflow, inflow, sizesOn, useOf, leaving, entering}
 use Rattle.network.specs.Path.{leads}
-use Rattle.network.specs.Resources.{place, resources, room}
+use Rattle.network.specs.Resources.{place, resources, resourceCapacity}
 use Rattle.network.proofs.Leads.{against, taken-leads}
 use Rattle.network.proofs.Potential.{Potential, Balanced}
 use Rattle.network.proofs.OneCommodity.{potential-bound}
-use Rattle.network.proofs.Resources.{room-arc, room-node, sum-resources}
+use Rattle.network.proofs.Resources.{resource-capacity-arc, resource-capacity-node, sum-resources}
 
 -- All commodities together use no more length than d times the capacities have.
 pub use-bound :
@@ -52,21 +52,21 @@ nodeLengths net l v = cond (limited net v) (l (place net v)) 0
 
 -- D: the capacities times the lengths of all resources, of arcs and of nodes.
 weight-parts : (net : Network) (l : ℕ → ℕ) →
-    sum (resources net) (λ r. room net r * l r) ≡
+    sum (resources net) (λ r. resourceCapacity net r * l r) ≡
     sum (arcs net) (λ e. capacity net e * l e) + sum (net .nodes) (λ i. limit net (suc i) * nodeLengths net l (suc i))
 weight-parts net l =
-    sum-resources net (λ r. room net r * l r) ∙
+    sum-resources net (λ r. resourceCapacity net r * l r) ∙
     omega (
       arith,
-      sum-cong (arcs net) (λ e. room net e * l e) (λ e. capacity net e * l e) (λ e b. ap (λ c. c * l e) (room-arc net e b)),
-      sum-cong (suc (net .nodes)) (λ v. cond (limited net v) (room net (place net v) * l (place net v)) 0) (λ v. limit net v * nodeLengths net l v)
+      sum-cong (arcs net) (λ e. resourceCapacity net e * l e) (λ e. capacity net e * l e) (λ e b. ap (λ c. c * l e) (resource-capacity-arc net e b)),
+      sum-cong (suc (net .nodes)) (λ v. cond (limited net v) (resourceCapacity net (place net v) * l (place net v)) 0) (λ v. limit net v * nodeLengths net l v)
           (λ v b. at v b (limited net v) refl),
       sum-first (net .nodes) (λ v. limit net v * nodeLengths net l v),
     )
   where
     at : (v : ℕ) → v < suc (net .nodes) → (b : Bool) → limited net v ≡ b →
-        cond b (room net (place net v) * l (place net v)) 0 ≡ limit net v * cond b (l (place net v)) 0
-    at v b true h = ap (λ c. c * l (place net v)) (room-node net v (le-of-suc-le-suc b) h)
+        cond b (resourceCapacity net (place net v) * l (place net v)) 0 ≡ limit net v * cond b (l (place net v)) 0
+    at v b true h = ap (λ c. c * l (place net v)) (resource-capacity-node net v (le-of-suc-le-suc b) h)
     at v b false h = omega arith
 
 module _ (net : Network) (ends : Ends net) (l : ℕ → ℕ) (alpha : ℕ) where
@@ -101,8 +101,8 @@ module _ (net : Network) (ends : Ends net) (l : ℕ → ℕ) (alpha : ℕ) where
   -- Potentials that fall from alpha at the sources to 0 at the sinks: the capacities times the lengths, over alpha, bound every flow.
   pub duality :
       (pi rho : ℕ → ℕ → ℕ) → ((i : ℕ) → i < commodities net → Potential net l (nodeLengths net l) (source net i) (sink net i) alpha (pi i) (rho i)) →
-      Bounds net (sum (resources net) (λ r. room net r * l r)) alpha
-  unfolding leaving entering loadOf useOf used passed
+      Bounds net (sum (resources net) (λ r. resourceCapacity net r * l r)) alpha
+  unfolding leaving entering sizesOn useOf used passed
   duality pi rho pot d f flow keeps =
       omega (
         arith,

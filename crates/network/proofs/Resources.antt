@@ -15,7 +15,7 @@ use Rattle.arith.specs.Sum.{sum}
 use Rattle.arith.proofs.Order.{le-or-lt, Compared, below, equal, above, compare}
 use Rattle.arith.proofs.Ranges.{getD-map-upTo, length-map-upTo}
 use Rattle.network.specs.Network.{Network, arcs, capacity, limit, limited}
-use Rattle.network.specs.Resources.{limitsBelow, place, resources, rooms, room}
+use Rattle.network.specs.Resources.{limitsBelow, place, resources, resourceCapacities, resourceCapacity}
 
 module _ (net : Network) where
   -- One node further.
@@ -61,9 +61,9 @@ module _ (net : Network) where
   arcs-le = place-low (suc (net .nodes))
 
   -- A capacity for each resource:
-  pub rooms-length : length (rooms net) ≡ resources net
-  unfolding rooms resources place
-  rooms-length =
+  pub resource-capacities-length : length (resourceCapacities net) ≡ resources net
+  unfolding resourceCapacities resources place
+  resource-capacities-length =
       omega (
         arith,
         length-append (map (capacity net) (upTo (arcs net))) (limitsBelow net (suc (net .nodes))),
@@ -71,9 +71,9 @@ module _ (net : Network) where
       )
 
   -- an arc's own,
-  pub room-arc : (e : ℕ) → e < arcs net → room net e ≡ capacity net e
-  unfolding rooms
-  room-arc e l =
+  pub resource-capacity-arc : (e : ℕ) → e < arcs net → resourceCapacity net e ≡ capacity net e
+  unfolding resourceCapacities
+  resource-capacity-arc e l =
       List·getD-append (map (capacity net) (upTo (arcs net))) (limitsBelow net (suc (net .nodes))) 0 e
       (omega (arith, length-map-upTo (capacity net) (arcs net))) ∙
       getD-map-upTo (capacity net) (arcs net) e l
@@ -94,10 +94,10 @@ module _ (net : Network) where
       List·getD-append (limitsBelow net w) _ 0 (length (limitsBelow net v)) (fewer v w h b) ∙ limit-below w v b h)
       (eq-or-lt-of-le (le-of-suc-le-suc l))
 
-  pub room-node : (v : ℕ) → v ≤ net .nodes → limited net v ≡ true → room net (place net v) ≡ limit net v
-  unfolding rooms place
-  room-node v b h =
-      ap (λ n. getD (rooms net) (n + length (limitsBelow net v)) 0) (sym (length-map-upTo (capacity net) (arcs net))) ∙
+  pub resource-capacity-node : (v : ℕ) → v ≤ net .nodes → limited net v ≡ true → resourceCapacity net (place net v) ≡ limit net v
+  unfolding resourceCapacities place
+  resource-capacity-node v b h =
+      ap (λ n. getD (resourceCapacities net) (n + length (limitsBelow net v)) 0) (sym (length-map-upTo (capacity net) (arcs net))) ∙
       (getD-append-add (map (capacity net) (upTo (arcs net))) (limitsBelow net (suc (net .nodes))) (length (limitsBelow net v)) 0 ∙
       limit-below (suc (net .nodes)) v (omega arith) h)
 

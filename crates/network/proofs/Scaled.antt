@@ -12,7 +12,7 @@ use Rattle.arith.proofs.Order.{le-or-lt}
 use Rattle.arith.proofs.Sums.{sum-cong, sum-scale}
 use Rattle.signed.specs.Signed.{ahead, back, size}
 use Rattle.signed.proofs.Multiplied.{ahead-times, back-times}
-use Rattle.network.specs.Flow.{Flow, Keeps, passing, outflow, inflow, loadOf, useOf, leaving, entering}
+use Rattle.network.specs.Flow.{Flow, Keeps, passing, outflow, inflow, sizesOn, useOf, leaving, entering}
 use Rattle.network.specs.Network.{Network, arcs, commodities, tail, head, source}
 
 -- a times the flow f
@@ -65,9 +65,9 @@ module _ (net : Network) (a : ℕ) (f : ℕ → ℕ → ℤ) where
         one-way = λ i e b l m. omega (arith, back-times a (f i e), ap (λ x. a * x) (flow .one-way i e b l m));
       }
 
-  load-times : (e : ℕ) → loadOf net (scaled a f) e ≡ a * loadOf net f e
-  unfolding loadOf scaled
-  load-times e =
+  sizes-times : (e : ℕ) → sizesOn net (scaled a f) e ≡ a * sizesOn net f e
+  unfolding sizesOn scaled
+  sizes-times e =
       sum-times (commodities net) a (λ i. size (f i e)) (λ i. size (pos a *ℤ f i e)) (λ i. omega (arith, ahead-times a (f i e), back-times a (f i e)))
 
   use-times : (v : ℕ) → useOf net (scaled a f) v ≡ a * useOf net f v
@@ -81,7 +81,7 @@ module _ (net : Network) (a : ℕ) (f : ℕ → ℕ → ℤ) where
   pub scaled-keeps : (d : ℕ) → Keeps net a d f → Keeps net 1 d (scaled a f)
   scaled-keeps d keeps =
       record {
-        within = λ e l. omega (arith, load-times e, keeps .within e l);
+        within = λ e l. omega (arith, sizes-times e, keeps .within e l);
         limits = λ v l h. omega (arith, use-times v, keeps .limits v l h);
       }
 

@@ -8,9 +8,9 @@ use lib.Dec.{eqb}
 use Rattle.bounds.specs.Bounds.{mostArcs, mostCapacity}
 use Rattle.network.specs.Ends.{Ends}
 use Rattle.network.specs.Network.{Network, arcs, limit, limited}
-use Rattle.network.specs.Resources.{place, resources, room}
+use Rattle.network.specs.Resources.{place, resources, resourceCapacity}
 use Rattle.network.specs.Sound.{Within, Sound}
-use Rattle.network.proofs.Resources.{arcs-le, room-arc, room-node, resource-cases}
+use Rattle.network.proofs.Resources.{arcs-le, resource-capacity-arc, resource-capacity-node, resource-cases}
 
 module _ (net : Network) (q : ℕ) (s : Sound net q) where
   pub sound-ends : Ends net
@@ -31,12 +31,12 @@ module _ (net : Network) (q : ℕ) (s : Sound net q) where
   limit-least zero h = absurd (true≢false (sym h))
   limit-least (suc x) h = omega arith
 
-  pub room-within : (r : ℕ) → r < resources net → Within 1 mostCapacity (room net r)
-  room-within r l =
+  pub resource-capacity-within : (r : ℕ) → r < resources net → Within 1 mostCapacity (resourceCapacity net r)
+  resource-capacity-within r l =
       ⊎-elim
-      (λ (b : r < arcs net). subst (Within 1 mostCapacity) (sym (room-arc net r b)) (s .arc-capacity r b))
+      (λ (b : r < arcs net). subst (Within 1 mostCapacity) (sym (resource-capacity-arc net r b)) (s .arc-capacity r b))
       (λ (n : (v : ℕ) × (v ≤ net .nodes) × (limited net v ≡ true) × (place net v ≡ r)).
-      subst (λ r. Within 1 mostCapacity (room net r)) (n .3)
-      (subst (Within 1 mostCapacity) (sym (room-node net (n .0) (n .1) (n .2)))
+      subst (λ r. Within 1 mostCapacity (resourceCapacity net r)) (n .3)
+      (subst (Within 1 mostCapacity) (sym (resource-capacity-node net (n .0) (n .1) (n .2)))
       (record { least = limit-least (limit net (n .0)) (n .2); most = s .node-limit (n .0) (n .1) })))
       (resource-cases net r l)

@@ -30,8 +30,8 @@ pub record Flow (net : Network) (f : ℕ → ℕ → ℤ) : Type 0 where
   pub one-way : (i e : ℕ) → i < commodities net → e < arcs net → reversible net e ≡ false → back (f i e) ≡ 0
 
 -- The sizes of all commodities' amounts together on arc e: one capacity holds what goes either way.
-unfoldable pub loadOf : Network → (ℕ → ℕ → ℤ) → ℕ → ℕ
-loadOf net f e = sum (commodities net) (λ i. size (f i e))
+unfoldable pub sizesOn : Network → (ℕ → ℕ → ℤ) → ℕ → ℕ
+sizesOn net f e = sum (commodities net) (λ i. size (f i e))
 
 -- All commodities' use of node v together: for each the larger of what it brings in and what it takes out. Request C-17.
 unfoldable pub useOf : Network → (ℕ → ℕ → ℤ) → ℕ → ℕ
@@ -39,7 +39,7 @@ useOf net f v = sum (commodities net) (λ i. max (inflow net (f i) v) (outflow n
 
 -- The flow times a over d keeps the capacities and the limits, said without division.
 pub record Keeps (net : Network) (a d : ℕ) (f : ℕ → ℕ → ℤ) : Type 0 where
-  pub within : (e : ℕ) → e < arcs net → a * loadOf net f e ≤ d * capacity net e
+  pub within : (e : ℕ) → e < arcs net → a * sizesOn net f e ≤ d * capacity net e
   pub limits : (v : ℕ) → v ≤ net .nodes → limited net v ≡ true → a * useOf net f v ≤ d * limit net v
 
 -- What leaves the sources, each commodity's own amount at its own source.

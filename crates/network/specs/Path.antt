@@ -12,7 +12,7 @@ use Rattle.network.specs.Network.{Network, arcs, tail, head, reversible,
 abbrev pub forward : Network → ℕ → ℕ → Bool
 forward net v e = eqb (tail net e) v
 
--- Its other end, seen from v.
+-- Its head where v is its tail, else its tail: the other end, where v is one of its ends.
 abbrev pub beyond : Network → ℕ → ℕ → ℕ
 beyond net v e = cond (forward net v e) (head net e) (tail net e)
 

@@ -6,7 +6,6 @@ use Prim.Native.Nat.{ℕ, zero, suc, _+_}
 use lib.ListN.{length, getD}
 use Rattle.arith.specs.Lists.{upTo, flat}
 use Rattle.network.specs.Network.{Network, arcs, capacity, limit, limited}
-use Rattle.network.specs.Path.{pathLength}
 use Rattle.network.specs.Visited.{visited}
 
 -- The limits of the nodes below v that have one, in order.
@@ -23,21 +22,17 @@ unfoldable pub resources : Network → ℕ
 resources net = place net (suc (net .nodes))
 
 -- Their capacities: those of the arcs, then the limits.
-unfoldable pub rooms : Network → List ℕ
-rooms net = map (capacity net) (upTo (arcs net)) ++ limitsBelow net (suc (net .nodes))
+unfoldable pub resourceCapacities : Network → List ℕ
+resourceCapacities net = map (capacity net) (upTo (arcs net)) ++ limitsBelow net (suc (net .nodes))
 
 -- the capacity of resource r
-abbrev pub room : Network → ℕ → ℕ
-room net r = getD (rooms net) r 0
+abbrev pub resourceCapacity : Network → ℕ → ℕ
+resourceCapacity net r = getD (resourceCapacities net) r 0
 
 -- What a path uses of node v: its resource, if it is limited.
-unfoldable pub station : Network → ℕ → List ℕ
-station net v = cond (limited net v) (place net v ∷ []) []
+unfoldable pub usedAt : Network → ℕ → List ℕ
+usedAt net v = cond (limited net v) (place net v ∷ []) []
 
 -- What a path p from v uses: its arcs, and the limited nodes that it visits, the first and the last among them.
 unfoldable pub uses : Network → ℕ → List ℕ → List ℕ
-uses net v p = p ++ flat (station net) (visited net v p)
-
--- The length of node v by the lengths l of the resources: 0 if it is not limited.
-unfoldable pub nodeLength : Network → List ℕ → ℕ → ℕ
-nodeLength net l v = pathLength l (station net v)
+uses net v p = p ++ flat (usedAt net) (visited net v p)

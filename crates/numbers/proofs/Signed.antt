@@ -5,7 +5,8 @@ use Prim.Native.Nat.{ℕ, zero, suc, _+_, _^_, _<_}
 use mathlib.Core.List.{List, [], _∷_, map}
 use lib.IntN.{ℤ, pos}
 use lib.ListN.{length, take, getD, length-map, List·getD-map}
-use Rattle.signed.specs.Signed.{size, twos, fromTwos}
+use Rattle.signed.specs.Signed.{size, twos}
+use Rattle.signed.specs.FromTwos.{fromTwos}
 use Rattle.signed.proofs.Signed.{twos-below, twos-read}
 use Rattle.numbers.specs.Numbers.{numberAt, written, putAt}
 use Rattle.numbers.proofs.Tables.{numberAt-written, written-more}

@@ -2,7 +2,7 @@
 // contracts.
 use crate::ORDER;
 ghost use Prim.Native.Nat.{_≤_};
-ghost use Rattle.paths.specs.Listing.{Listing, Met, TakenOut};
+ghost use Rattle.paths.specs.Worklist.{Worklist, Met, TakenOut};
 ghost use Rattle.paths.specs.Scan.{Taking};
 
 // The node at this place of the order leaves the list.
@@ -18,7 +18,7 @@ pub fn take_out(n: u64, page: &[u64], at: usize, listed: &mut [u64], size: usize
 // Node v comes onto the list where come says so, unless it is there. How many are on it now. The flag is written in any case, which is quicker than a jump
 // over the store.
 pub fn enlist(come: bool, n: u64, v: u64, listed: &mut [u64], size: usize) -> usize
-    requires listing { ⌜ Listing n (now listed) size ⌝ }
+    requires worklist { ⌜ Worklist n (now listed) size ⌝ }
     requires node { ⌜ (1 ≤ v) × (v ≤ n) ⌝ }
     ensures { λ r. ⌜ Met come n (now (listed .entry)) size v (now (listed .exit)) r ⌝ }
 {

@@ -16,7 +16,7 @@ use Rattle.arith.specs.Member.{Member, first, later}
 use Rattle.network.specs.Ends.{Node, Ends}
 use Rattle.network.specs.Network.{Network, arcs, limited}
 use Rattle.network.specs.Path.{leads, beyond, Path}
-use Rattle.network.specs.Resources.{place, resources, station, uses}
+use Rattle.network.specs.Resources.{place, resources, usedAt, uses}
 use Rattle.network.specs.Visited.{visited}
 use Rattle.network.proofs.Leads.{leads-arc, leads-beyond, leads-into}
 use Rattle.network.proofs.Nodes.{visited-cons, visited-node}
@@ -27,18 +27,18 @@ use Rattle.paths.specs.Visits.{Entered, Visits}
 
 module _ (net : Network) (v : ℕ) where
   -- A node is used where its number is that of a resource,
-  station-below : resourceOf net v < resources net → station net v ≡ resourceOf net v ∷ []
-  unfolding resourceOf station
-  station-below = by-test (limited net v)
+  usedAt-below : resourceOf net v < resources net → usedAt net v ≡ resourceOf net v ∷ []
+  unfolding resourceOf usedAt
+  usedAt-below = by-test (limited net v)
     where
       by-test : (c : Bool) → cond c (place net v) (resources net) < resources net → cond c (place net v ∷ []) [] ≡ cond c (place net v) (resources net) ∷ []
       by-test true b = refl
       by-test false b = absurd (omega arith)
 
   -- and not where it is past all of them.
-  station-past : v ≤ net .nodes → resources net ≤ resourceOf net v → station net v ≡ []
-  unfolding resourceOf station
-  station-past n = by-test (limited net v) refl
+  usedAt-past : v ≤ net .nodes → resources net ≤ resourceOf net v → usedAt net v ≡ []
+  unfolding resourceOf usedAt
+  usedAt-past n = by-test (limited net v) refl
     where
       by-test : (c : Bool) → limited net v ≡ c → resources net ≤ cond c (place net v) (resources net) → cond c (place net v ∷ []) [] ≡ []
       by-test true h b = absurd (omega (arith, place-high net v n h))
@@ -57,7 +57,7 @@ module _ (net : Network) (v : ℕ) where
     pub entered-limited : used < length old → r < resources net → Entered net v used old (set old used r) (used + 1)
     entered-limited room b =
         record {
-          written = rw (add-one used, take-suc-set old used r room) (ap (λ xs. take used old ++ xs) (sym (rw is (station-below (rw is at b)))));
+          written = rw (add-one used, take-suc-set old used r room) (ap (λ xs. take used old ++ xs) (sym (rw is (usedAt-below (rw is at b)))));
           low = omega arith;
           high = le-refl (used + 1);
         }
@@ -65,7 +65,7 @@ module _ (net : Network) (v : ℕ) where
     pub entered-none : v ≤ net .nodes → resources net ≤ r → Entered net v used old old used
     entered-none n b =
         record {
-          written = rw (station-past n (rw is at b), append-nil) refl;
+          written = rw (usedAt-past n (rw is at b), append-nil) refl;
           low = le-refl used;
           high = omega arith;
         }
@@ -76,17 +76,17 @@ entered-front :
 entered-front {net} {v} {used} {r} old new E n a b =
     sym (take-take n r new (omega (arith, E .low))) ∙
     (ap (take n) (E .written) ∙
-    (take-append-le n (take used old) (station net v) (omega (arith, length-take-le used old b)) ∙ take-take n used old a))
+    (take-append-le n (take used old) (usedAt net v) (omega (arith, length-take-le used old b)) ∙ take-take n used old a))
 
 -- Where the arcs are all resources, no node is one,
-station-none : (net : Network) → resources net ≡ arcs net → (v : ℕ) → v ≤ net .nodes → station net v ≡ []
-station-none net q v n = station-past net v n (omega (arith, q, resource-low net v))
+usedAt-none : (net : Network) → resources net ≡ arcs net → (v : ℕ) → v ≤ net .nodes → usedAt net v ≡ []
+usedAt-none net q v n = usedAt-past net v n (omega (arith, q, resource-low net v))
 
 -- and a path uses its arcs alone.
-stations-none : (net : Network) → resources net ≡ arcs net → (vs : List ℕ) → ((v : ℕ) → Member v vs → v ≤ net .nodes) → flat (station net) vs ≡ []
+visited-none : (net : Network) → resources net ≡ arcs net → (vs : List ℕ) → ((v : ℕ) → Member v vs → v ≤ net .nodes) → flat (usedAt net) vs ≡ []
 unfolding flat
-stations-none net q [] nodes = refl
-stations-none net q (v ∷ vs) nodes = rw (station-none net q v (nodes v (first refl))) (stations-none net q vs (λ w m. nodes w (later m)))
+visited-none net q [] nodes = refl
+visited-none net q (v ∷ vs) nodes = rw (usedAt-none net q v (nodes v (first refl))) (visited-none net q vs (λ w m. nodes w (later m)))
 
 pub visits-none :
     {net : Network} {s t m : ℕ} {path : List ℕ} → resources net ≡ arcs net → Ends net → Node net s → Path net s t (take m path) → m < mostNodes →
@@ -98,7 +98,7 @@ visits-none {net} {s} {t} {m} {path} q ends node leads few =
       used =
           sym (append-nil (take m path)) ∙
           ap (λ xs. take m path ++ xs)
-          (sym (stations-none net q (visited net s (take m path)) (λ v k. visited-node net ends s t (take m path) node leads v k .1)));
+          (sym (visited-none net q (visited net s (take m path)) (λ v k. visited-node net ends s t (take m path) node leads v k .1)));
       low = le-refl m;
       high = omega arith;
     }
@@ -119,7 +119,7 @@ pub record Collecting (net : Network) (s m : ℕ) (p path : List ℕ) (used v k 
   pub node : Node net v
   pub to : ℕ
   pub rest : Path net v to (drop k p)
-  pub written : take used path ++ flat (station net) (after net v (drop k p)) ≡ uses net s p
+  pub written : take used path ++ flat (usedAt net) (after net v (drop k p)) ≡ uses net s p
   pub low : m ≤ used
   pub high : used ≤ m + k + 1
 

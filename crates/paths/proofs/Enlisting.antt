@@ -9,20 +9,20 @@ use native.Mathlib.Omega.{arith}
 use lib.ListN.{getD, set, length-set}
 use lib.Seq.{getD-set-same, set-getD}
 use Rattle.arith.proofs.Order.{le-or-lt}
-use Rattle.paths.specs.Listing.{Listing, Enlisted, Met}
+use Rattle.paths.specs.Worklist.{Worklist, Enlisted, Met}
 use Rattle.paths.proofs.Flags.{flagged-set, flagged-was}
-use Rattle.paths.proofs.Listings.{listing-flag}
+use Rattle.paths.proofs.Worklists.{worklist-flag}
 use Rattle.paths.proofs.Relaxing.{set-entry}
 
 -- No test is both.
 pub apart : {b : Bool} → b ≡ true → b ≡ false → ⊥
 apart t f = let z : _≡_ {A = ℕ} 0 1 = cc in omega arith
 
-module _ {n : ℕ} {listed : List ℕ} {size : ℕ} (L : Listing n listed size) (v : ℕ) (node : (1 ≤ v) × (v ≤ n)) where
+module _ {n : ℕ} {listed : List ℕ} {size : ℕ} (L : Worklist n listed size) (v : ℕ) (node : (1 ≤ v) × (v ≤ n)) where
   -- A node that is there.
   enlisted-already : (getD listed v 0 ≡ 0 → ⊥) → Enlisted n listed size v listed size
   enlisted-already h =
-      record { listing = L; has = listing-flag L v (node .1) h; still = λ u q. q; grown = omega arith }
+      record { worklist = L; has = worklist-flag L v (node .1) h; still = λ u q. q; grown = omega arith }
 
   module _ (off : getD listed v 0 ≡ 0) where
     -- an entry of the flags is as before, or it is that of v and is 1
@@ -38,7 +38,7 @@ module _ {n : ℕ} {listed : List ℕ} {size : ℕ} (L : Listing n listed size) 
     enlisted-now : Enlisted n listed size v (set listed v 1) (size + 1)
     enlisted-now =
         record {
-          listing =
+          worklist =
               record {
                 room = rw length-set (L .room);
                 flags = flag (λ u x. u ≤ n → x ≤ 1) (L .flags) (λ b. omega arith);
@@ -60,7 +60,7 @@ module _ {n : ℕ} {listed : List ℕ} {size : ℕ} (L : Listing n listed size) 
   enlisted =
       ⊎-elim
       (λ (on : 1 ≤ getD listed v 0).
-      let one : getD listed v 0 ≡ 1 = listing-flag L v (node .1) (λ q. omega arith) in
+      let one : getD listed v 0 ≡ 1 = worklist-flag L v (node .1) (λ q. omega arith) in
       let same : set listed v 1 ≡ listed = ap (set listed v) (omega (arith, one)) ∙ set-getD listed v 0 in
       let none : size + (1 - getD listed v 0) ≡ size = omega arith in
       rw (same, none) (enlisted-already (λ q. omega arith)))

@@ -12,7 +12,7 @@ use Rattle.network.specs.Network.{Network}
 use Rattle.paths.specs.Far.{far}
 use Rattle.paths.specs.Graph.{Fit}
 use Rattle.paths.specs.Labels.{Labels}
-use Rattle.paths.specs.Listing.{Enlisted}
+use Rattle.paths.specs.Worklist.{Enlisted}
 use Rattle.paths.specs.Order.{orderFrom, Ordered}
 use Rattle.paths.specs.Searching.{Searching, Any}
 use Rattle.paths.proofs.Filled.{filled-at, filled-room, filled-behind}
@@ -60,7 +60,7 @@ module _ (net : Network) (l old : List ℕ) (t : ℕ) (b : t ≤ net .nodes) whe
         fit = f;
         labels = labels-start;
         ordered = ordered-start few O;
-        listing = E .listing;
+        worklist = E .worklist;
         feasible = λ u e w h any off.
             let ne : w ≡ t → ⊥ = λ q. omega (arith, E .has, ap (λ k. getD listed k 0) q) in
             omega (

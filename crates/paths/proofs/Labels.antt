@@ -10,7 +10,7 @@ use native.Mathlib.Omega.{arith}
 use lib.ListN.{getD}
 use Rattle.network.specs.Network.{Network}
 use Rattle.network.specs.Path.{leads}
-use Rattle.network.specs.Resources.{nodeLength}
+use Rattle.network.specs.Onward.{nodeLength}
 use Rattle.paths.specs.Distances.{over, Distances}
 use Rattle.paths.specs.Labels.{Over, Labels}
 use Rattle.paths.specs.Relax.{relaxed}

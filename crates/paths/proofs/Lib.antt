@@ -6,7 +6,7 @@ pub mod Fars
 pub mod Filled
 pub mod Flags
 pub mod Labels
-pub mod Listings
+pub mod Worklists
 pub mod Lower
 pub mod Lowest
 pub mod NodeLengths

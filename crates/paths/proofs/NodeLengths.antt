@@ -7,7 +7,8 @@ use Prim.Native.Nat.{ℕ, _^_, _≤_, _<_}
 use native.Mathlib.Omega.{arith}
 use lib.ListN.{length, getD, List·getD-eq-default}
 use Rattle.network.specs.Network.{Network, limited}
-use Rattle.network.specs.Resources.{place, resources, nodeLength}
+use Rattle.network.specs.Resources.{place, resources}
+use Rattle.network.specs.Onward.{nodeLength}
 use Rattle.network.proofs.Resources.{place-high}
 use Rattle.network.proofs.Uses.{nodeLength-is}
 use Rattle.index.specs.Index.{resourceOf, Stations}

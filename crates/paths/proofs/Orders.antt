@@ -10,10 +10,10 @@ use lib.Seq.{getD-set-other}
 use Rattle.arith.proofs.Order.{le-or-lt}
 use Rattle.bounds.specs.Bounds.{mostNodes}
 use Rattle.network.specs.Network.{Network}
-use Rattle.paths.specs.Listing.{Listing}
+use Rattle.paths.specs.Worklist.{Worklist}
 use Rattle.paths.specs.Order.{orderFrom, nodeAt, Ordered, Arranged, Rearranged}
 use Rattle.paths.specs.Scan.{Waits, Scanning, Scanned}
-use Rattle.paths.proofs.Listings.{listing-some}
+use Rattle.paths.proofs.Worklists.{worklist-some}
 
 module _ {net : Network} {old : List ℕ} (O : Ordered net old) where
   -- The same nodes, at whatever places.
@@ -40,14 +40,14 @@ module _ {net : Network} {old : List ℕ} (O : Ordered net old) where
   pub ordered-arranged : orderFrom + net .nodes ≤ length old → Arranged (net .nodes) old
   ordered-arranged room = record { room = room; nodes = O .node }
 
-  module _ {listed : List ℕ} {size : ℕ} (L : Listing (net .nodes) listed size) where
+  module _ {listed : List ℕ} {size : ℕ} (L : Worklist (net .nodes) listed size) where
     pub ordered-scanning : orderFrom + net .nodes ≤ length old → Scanning (net .nodes) old listed
     ordered-scanning room = record { arranged = ordered-arranged room; room = L .room }
 
     -- A node on the list has a place, so that a search from the first place on finds one.
     pub ordered-waits : {r : ℕ} → 0 < size → Scanned (net .nodes) old listed 0 r → Waits (net .nodes) old listed r
     ordered-waits {r} some S =
-        let (v, node, flag) = listing-some L some in
+        let (v, node, flag) = worklist-some L some in
         let (p, b, e) = O .found v node in
         let on : 1 ≤ getD listed (nodeAt old p) 0 = rw e flag in
         ⊎-elim

@@ -11,7 +11,7 @@ use lib.ListN.{length, getD}
 use Rattle.arith.proofs.Order.{Compared, below, equal, above, compare}
 use Rattle.network.specs.Network.{Network}
 use Rattle.network.specs.Path.{leads}
-use Rattle.network.specs.Resources.{nodeLength}
+use Rattle.network.specs.Onward.{nodeLength}
 use Rattle.network.proofs.Leads.{leads-into}
 use Rattle.paths.specs.Calls.{Leaving}
 use Rattle.paths.specs.Distances.{Way}

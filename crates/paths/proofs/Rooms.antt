@@ -11,7 +11,8 @@ use lib.ListN.{length, getD, List·getD-eq-default}
 use Rattle.arith.proofs.Order.{le-or-lt}
 use Rattle.network.specs.Network.{Network, commodities}
 use Rattle.network.specs.Path.{leads}
-use Rattle.network.specs.Resources.{resources, nodeLength}
+use Rattle.network.specs.Resources.{resources}
+use Rattle.network.specs.Onward.{nodeLength}
 use Rattle.paths.specs.Far.{far}
 use Rattle.paths.specs.Graph.{Fit, Capped}
 use Rattle.paths.specs.Relax.{Relaxing}

@@ -9,11 +9,11 @@ use Rattle.network.specs.Network.{Network}
 use Rattle.paths.specs.Far.{far}
 use Rattle.paths.specs.Graph.{Table}
 use Rattle.index.specs.Index.{begins, Into}
-use Rattle.paths.specs.Listing.{TakenOut}
+use Rattle.paths.specs.Worklist.{TakenOut}
 use Rattle.paths.specs.Searching.{Searching, Any, Passed}
 use Rattle.paths.proofs.Labels.{labels-rest}
 use Rattle.network.proofs.Leads.{leads-into}
-use Rattle.paths.proofs.Listings.{listing-none}
+use Rattle.paths.proofs.Worklists.{worklist-none}
 use Rattle.paths.proofs.Telling.{distance-length}
 
 module _ {net : Network} {l : List ℕ} {t : ℕ} {d listed : List ℕ} {size : ℕ} where
@@ -21,7 +21,7 @@ module _ {net : Network} {l : List ℕ} {t : ℕ} {d listed : List ℕ} {size : 
   pub searching-end : net .nodes ≤ mostNodes → Searching net l t Any d listed size → size ≤ 0 → Table net l d t far
   searching-end few S none =
       let D =
-      labels-rest (S .labels) (λ u e w h. S .feasible u e w h tt (listing-none (S .listing) none w (leads-into net u e w h (S .fit .ends)))) in
+      labels-rest (S .labels) (λ u e w h. S .feasible u e w h tt (worklist-none (S .worklist) none w (leads-into net u e w h (S .fit .ends)))) in
       record { distances = D; capped = S .labels .capped; some-path = distance-length (S .fit .ends) few D }
 
   -- A node is taken out: the arcs into it are to be relaxed.
@@ -33,7 +33,7 @@ module _ {net : Network} {l : List ℕ} {t : ℕ} {d listed : List ℕ} {size : 
         fit = S .fit;
         labels = S .labels;
         ordered = S .ordered;
-        listing = T .listing;
+        worklist = T .worklist;
         feasible = λ u e w h passed off.
             let ne : w ≡ v → ⊥ = λ q. let r = passed q in omega (arith, r .1, r .2 .from) in
             S .feasible u e w h tt (sym (T .others w ne) ∙ off);
@@ -48,6 +48,6 @@ module _ {net : Network} {l : List ℕ} {t : ℕ} {d listed : List ℕ} {size : 
         fit = S .fit;
         labels = S .labels;
         ordered = S .ordered;
-        listing = S .listing;
+        worklist = S .worklist;
         feasible = λ u e w h any. S .feasible u e w h (λ q. let r = I .arcs .whole v e u b (rw q at h) in (r .0, omega (arith, r .1 .below), r .1));
       }

@@ -14,10 +14,10 @@ use borrow.Author.Tests.{eqb-true, eqb-false}
 use Rattle.bounds.specs.Bounds.{mostNodes}
 use Rattle.network.specs.Network.{Network}
 use Rattle.network.specs.Path.{leads}
-use Rattle.network.specs.Resources.{nodeLength}
+use Rattle.network.specs.Onward.{nodeLength}
 use Rattle.paths.specs.Distances.{via, over}
 use Rattle.index.specs.Index.{arcAt, endAt}
-use Rattle.paths.specs.Listing.{Enlisted, Met}
+use Rattle.paths.specs.Worklist.{Enlisted, Met}
 use Rattle.paths.specs.Order.{Ordered}
 use Rattle.paths.specs.Relax.{shortens, relaxed}
 use Rattle.paths.specs.Searching.{Searching, Passed, Spread}
@@ -77,7 +77,7 @@ module _ {net : Network} {into l : List ℕ} {t v a p u e : ℕ} {d listed : Lis
               fit = S .fit;
               labels = S .labels;
               ordered = S .ordered;
-              listing = S .listing;
+              worklist = S .worklist;
               feasible =
                   rw (relaxed-same l d a u e v same) at
                   (feasible-relaxed listed (λ x q. q) (λ x q. ap (λ y. getD y x 0) (relaxed-same l d a u e v same)));
@@ -99,7 +99,7 @@ module _ {net : Network} {into l : List ℕ} {t v a p u e : ℕ} {d listed : Lis
               ordered =
                   relaxed-cases l d a u e v (Ordered net) (λ _. S .ordered)
                   (λ _. ordered-set (S .ordered) few u (via l d a e v) (leads-from net u e v h (S .fit .ends) .1));
-              listing = E .listing;
+              worklist = E .worklist;
               feasible = feasible-relaxed listed′ (E .still) as-before;
             };
         weight = omega (arith, E .grown, relaxed-falls l d a u e v net (leads-from net u e v h (S .fit .ends) .1) start shorter);

@@ -7,17 +7,17 @@ use Prim.Native.Nat.{ℕ, _≤_}
 use native.Mathlib.Omega.{arith}
 use lib.ListN.{getD, set, length-set}
 use lib.Seq.{getD-set-other}
-use Rattle.paths.specs.Listing.{Listing, TakenOut}
+use Rattle.paths.specs.Worklist.{Worklist, TakenOut}
 use Rattle.paths.proofs.Flags.{flagged-was}
 use Rattle.paths.proofs.Relaxing.{set-entry}
 
 -- Its flag counts no more.
 pub taken-out :
-    {n : ℕ} {listed : List ℕ} {size : ℕ} → Listing n listed size → (v : ℕ) → (1 ≤ v) × (v ≤ n) → 1 ≤ getD listed v 0 →
+    {n : ℕ} {listed : List ℕ} {size : ℕ} → Worklist n listed size → (v : ℕ) → (1 ≤ v) × (v ≤ n) → 1 ≤ getD listed v 0 →
     TakenOut n listed size v (set listed v 0)
 taken-out {n} {listed} L v node has =
     record {
-      listing =
+      worklist =
           record {
             room = rw length-set (L .room);
             flags = λ u c.

@@ -11,7 +11,8 @@ use borrow.Author.Count.{below-none, below-more}
 use Rattle.network.specs.Ends.{Node}
 use Rattle.network.specs.Network.{Network, tail, head, reversible}
 use Rattle.network.specs.Path.{leads, pathLength}
-use Rattle.network.specs.Resources.{limitsBelow, place, resources, station, nodeLength}
+use Rattle.network.specs.Resources.{limitsBelow, place, resources, usedAt}
+use Rattle.network.specs.Onward.{nodeLength}
 use Rattle.network.proofs.Leads.{leads-arc, leads-one-way}
 use Rattle.paths.specs.Distances.{over, Way, Distances}
 use Rattle.paths.specs.Far.{far, Bounded}
@@ -54,11 +55,11 @@ module _ (ss ts : List ℕ) where
   resources-are = refl
 
   node-2 : nodeLength (floor ss ts) lengths 2 ≡ 1
-  unfolding nodeLength station place limitsBelow pathLength
+  unfolding nodeLength usedAt place limitsBelow pathLength
   node-2 = refl
 
   node-3 : nodeLength (floor ss ts) lengths 3 ≡ 0
-  unfolding nodeLength station place limitsBelow pathLength
+  unfolding nodeLength usedAt place limitsBelow pathLength
   node-3 = refl
 
   -- The lengths are those of a run.

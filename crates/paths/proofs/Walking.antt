@@ -53,15 +53,15 @@ walk-none :
 walk-none none apart stop = apart refl
 walk-none none apart (step {e = e} other way low w) = none e way
 
--- A walk to t, all of it written: no path has a smaller key, so none that is as short has fewer arcs.
+-- A walk to t, all written: no path has a smaller key, so none that is as short has fewer arcs.
 pub walk-arrived :
     {net : Network} {l d : List ℕ} {s t : ℕ} {path : List ℕ} {r : ℕ} → Feasible net l d t → Walk net l d t s (take r path) →
     length (take r path) ≡ r → r < net .nodes → Arrived net l d s t path r
-walk-arrived {s = s} {t = t} F w arcs few =
+walk-arrived {s = s} {t = t} F w written few =
     record {
       walk = w;
       leads-to = walk-path w;
-      arcs = arcs;
+      arcs = omega arith;
       fewest = λ p h e. omega (arith, walk-key w, telescopes F s t p h);
       few = few;
     }

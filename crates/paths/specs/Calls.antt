@@ -5,7 +5,7 @@ use Prim.Native.Nat.{ℕ, _+_, _≤_, _<_}
 use lib.ListN.{length, getD}
 use Rattle.network.specs.Ends.{Node}
 use Rattle.network.specs.Network.{Network}
-use Rattle.network.specs.Resources.{nodeLength}
+use Rattle.network.specs.Onward.{nodeLength}
 use Rattle.paths.specs.Far.{far}
 use Rattle.paths.specs.Graph.{Fit, Capped}
 use Rattle.index.specs.Index.{begins, Into, Out}

@@ -8,7 +8,7 @@ use lib.ListN.{getD}
 use Rattle.network.specs.Ends.{Node}
 use Rattle.network.specs.Network.{Network}
 use Rattle.network.specs.Path.{leads}
-use Rattle.network.specs.Resources.{nodeLength}
+use Rattle.network.specs.Onward.{nodeLength}
 use Rattle.paths.specs.Key.{arcKey}
 
 -- How far the way over arc e to node w is, where x is the length of w: what the arc and w add, and the distance of w.

@@ -4,7 +4,7 @@ pub mod Far
 pub mod Graph
 pub mod Key
 pub mod Labels
-pub mod Listing
+pub mod Worklist
 pub mod Order
 pub mod Relax
 pub mod Scan

@@ -3,7 +3,7 @@ use mathlib.Core.Path.{_≡_}
 use mathlib.Core.List.{List}
 use Prim.Native.Nat.{ℕ, _≤_, _<_}
 use lib.ListN.{length, getD}
-use Rattle.paths.specs.Listing.{Listing}
+use Rattle.paths.specs.Worklist.{Worklist}
 use Rattle.paths.specs.Order.{nodeAt, Arranged}
 
 -- Place p of the order has a node that is on the list.
@@ -24,5 +24,5 @@ pub record Scanned (n : ℕ) (page listed : List ℕ) (from r : ℕ) : Type 0 wh
 -- The node at this place is to leave the list.
 pub record Taking (n : ℕ) (page listed : List ℕ) (size at : ℕ) : Type 0 where
   pub arranged : Arranged n page
-  pub listing : Listing n listed size
+  pub worklist : Worklist n listed size
   pub waits : Waits n page listed at

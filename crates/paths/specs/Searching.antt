@@ -12,7 +12,7 @@ use Rattle.paths.specs.Far.{far}
 use Rattle.paths.specs.Graph.{Fit}
 use Rattle.index.specs.Index.{Place}
 use Rattle.paths.specs.Labels.{Labels}
-use Rattle.paths.specs.Listing.{Listing}
+use Rattle.paths.specs.Worklist.{Worklist}
 use Rattle.paths.specs.Order.{Ordered}
 
 -- The entries of d are labels, and none can be shortened by an arc of those that P tells into a node that is not on the list. Behind them is the order.
@@ -20,7 +20,7 @@ pub record Searching (net : Network) (l : List ℕ) (t : ℕ) (P : ℕ → ℕ �
   pub fit : Fit net l (length d)
   pub labels : Labels net l d t far
   pub ordered : Ordered net d
-  pub listing : Listing (net .nodes) listed size
+  pub worklist : Worklist (net .nodes) listed size
   pub feasible : (u e w : ℕ) → leads net u e ≡ some w → P u e w → getD listed w 0 ≡ 0 → getD d u 0 ≤ over net l d e w
 
 -- All arcs.

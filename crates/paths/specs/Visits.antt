@@ -7,7 +7,7 @@ use Rattle.bounds.specs.Bounds.{mostNodes}
 use Rattle.network.specs.Ends.{Node, Ends}
 use Rattle.network.specs.Network.{Network}
 use Rattle.network.specs.Path.{Path}
-use Rattle.network.specs.Resources.{resources, station, uses}
+use Rattle.network.specs.Resources.{resources, usedAt, uses}
 use Rattle.packed.specs.Packed.{netIn, Packed}
 use Rattle.packed.specs.declared.Shape.{Shape}
 use Rattle.index.specs.Index.{Out}
@@ -26,7 +26,7 @@ pub record Entering (s : Shape) (xs out : List ℕ) (v used size : ℕ) : Type 0
 
 -- Its resource is there, if it has one.
 pub record Entered (net : Network) (v used : ℕ) (old new : List ℕ) (r : ℕ) : Type 0 where
-  pub written : take r new ≡ take used old ++ station net v
+  pub written : take r new ≡ take used old ++ usedAt net v
   pub low : used ≤ r
   pub high : r ≤ used + 1
 

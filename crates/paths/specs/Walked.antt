@@ -23,8 +23,8 @@ pub record Walkable (net : Network) (out l d : List ℕ) (s t size : ℕ) : Type
   pub apart : s ≡ t → ⊥
   pub places : net .nodes ≤ size
 
--- The first r entries are the greedy walk from s to t: a path of r arcs, and no path that is as short
--- has fewer.
+-- The first r entries are the greedy walk from s to t: a path of r arcs, and no path that is as
+-- short has fewer.
 pub record Arrived (net : Network) (l d : List ℕ) (s t : ℕ) (path : List ℕ) (r : ℕ) : Type 0 where
   pub walk : Walk net l d t s (take r path)
   pub leads-to : Path net s t (take r path)

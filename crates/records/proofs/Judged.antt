@@ -13,7 +13,8 @@ use Rattle.network.specs.declared.Verdict.{Verdict}
 use Rattle.network.specs.declared.Verdict.the-variants.{Accepted, Refused}
 use Rattle.network.proofs.Accepted.{items-accepted}
 use Rattle.network.proofs.Decided.{no-refusal}
-use Rattle.method.specs.Answer.{outcome, overlaid}
+use Rattle.method.specs.Answer.{outcome}
+use Rattle.method.specs.Overlaid.{overlaid}
 use Rattle.method.specs.Guarantee.{Guarantee}
 use Rattle.method.specs.declared.Answer.{Answer}
 use Rattle.packed.specs.Packed.{netIn, Packed, Lent}

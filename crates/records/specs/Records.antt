@@ -13,7 +13,8 @@ use Rattle.network.specs.Verdict.{Condition, when, verdictOn, afterwards}
 use Rattle.network.specs.declared.Refusal.the-variants.{ShortTable}
 use Rattle.network.specs.declared.Verdict.{Verdict}
 use Rattle.network.specs.declared.Verdict.the-variants.{Accepted}
-use Rattle.method.specs.Answer.{outcome, numbersOf, overlaid}
+use Rattle.method.specs.Answer.{outcome, numbersOf}
+use Rattle.method.specs.Overlaid.{overlaid}
 use Rattle.method.specs.Guarantee.{Guarantee}
 use Rattle.records.specs.Reply.{replyOf, numberIn, valuesIn}
 use Rattle.records.specs.declared.Arc.{Arc}

@@ -8,7 +8,7 @@ use lib.ListN.{getD}
 use Rattle.arith.specs.Lists.{upFrom, upTo, flat}
 use Rattle.arith.specs.Sum.{sum}
 use Rattle.signed.specs.Signed.{size}
-use Rattle.network.specs.Flow.{loadOf}
+use Rattle.network.specs.Flow.{sizesOn}
 use Rattle.network.specs.Network.{Network, arcs, commodities}
 use Rattle.method.specs.Answer.{Outcome, amounts}
 use Rattle.report.specs.Listing.{beltRow}
@@ -36,9 +36,9 @@ unfolding upTo flat
 flat-more f n = rw (upFrom-last 0 n, flat-append, zero-add, append-nil)
 
 -- With one commodity the loads are the sizes of its amounts.
-pub one-load : (net : Network) → commodities net ≡ 1 → (t : List ℤ) (e : ℕ) → loadOf net (amounts net t) e ≡ size (getD t e (pos 0))
-unfolding loadOf amounts sum
-one-load net h t e = rw (h, zero-mul) (zero-add (size (getD t (0 + e) (pos 0))) ∙ ap (λ j. size (getD t j (pos 0))) (zero-add e))
+pub one-sizes : (net : Network) → commodities net ≡ 1 → (t : List ℤ) (e : ℕ) → sizesOn net (amounts net t) e ≡ size (getD t e (pos 0))
+unfolding sizesOn amounts sum
+one-sizes net h t e = rw (h, zero-mul) (zero-add (size (getD t (0 + e) (pos 0))) ∙ ap (λ j. size (getD t j (pos 0))) (zero-add e))
 
 pub same-rows :
     (net : Network) → commodities net ≡ 1 → (o : Outcome) →
@@ -46,4 +46,4 @@ pub same-rows :
 unfolding beltRow
 same-rows net h o =
     flat-same (beltRow net o) (beltOf (net .tails) (net .heads) (o .flow) (o .answer .capacity) (o .answer .load))
-    (λ e. rw (one-load net h (o .flow) e) refl) (upTo (arcs net))
+    (λ e. rw (one-sizes net h (o .flow) e) refl) (upTo (arcs net))

@@ -5,15 +5,16 @@ use mathlib.Core.List.{List, [], _∷_}
 use Prim.Native.String.{String}
 use lib.Dec.{T}
 use Rattle.arith.specs.Ceiling.{ceil}
-use Rattle.arith.specs.Lists.{upFrom, upTo, exists, flat, keep, same}
+use Rattle.arith.specs.Lists.{upFrom, upTo, exists, flat, keep}
+use Rattle.arith.specs.Same.{same}
 use Rattle.arith.specs.Sum.{sum}
 use Rattle.length.specs.Length.{scale, mark, start, growth, halving}
 use Rattle.length.specs.Level.{level, threshold}
 use Rattle.length.specs.Levels.{levels}
 use Rattle.signed.specs.Signed.{ahead, back}
-use Rattle.network.specs.Flow.{loadOf}
+use Rattle.network.specs.Flow.{sizesOn}
 use Rattle.network.specs.Path.{leads, follow, pathLength}
-use Rattle.network.specs.Resources.{limitsBelow, place, resources, rooms, station, uses}
+use Rattle.network.specs.Resources.{limitsBelow, place, resources, resourceCapacities, usedAt, uses}
 use Rattle.network.specs.Verdict.{outside, loose, verdict, sizeConditions, arcConditions, limitConditions, commodityConditions, itemConditions, verdictOn}
 use Rattle.network.specs.Visited.{visited}
 use Rattle.method.specs.Answer.{fullest, amounts, unjoined, outcomeOf, outcome}
@@ -71,8 +72,8 @@ unfolding
     right same listing fileRows verdictRows refusalRow outcomeRows beltRow answerRows header row delimited decimal digits
     parsed closing complete networkRead readLines next following once opening withArc withSink withSource begun meaning lettered arcLine
     terminalLine sourceOrSink problemLine given shaped numberOf fromDigits every digit wordsOf filled keep blank linesOf lineFeed pieces lead
-    verdictOn itemConditions commodityConditions limitConditions arcConditions sizeConditions verdict loose outside loadOf amounts ceil upFrom upTo exists flat sum scale
+    verdictOn itemConditions commodityConditions limitConditions arcConditions sizeConditions verdict loose outside sizesOn amounts ceil upFrom upTo exists flat sum scale
     mark start growth halving level threshold levels leads follow pathLength words endsAt paths candidates sooner least choice initial weight
     draw update pushed grown settled advance iteration ended runs run fullest unjoined outcomeOf outcome bind ahead back
-    limitsBelow place resources rooms station uses visited
+    limitsBelow place resources resourceCapacities usedAt uses visited
 listings = tt

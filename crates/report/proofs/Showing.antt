@@ -20,7 +20,7 @@ use Rattle.rows.specs.Rows.{answerRows}
 use Rattle.rows.proofs.Puts.{put-next}
 use Rattle.report.specs.Listing.{outcomeRows, verdictRows}
 use Rattle.report.specs.Shown.{beltsOf, Belted, Ready, Shown}
-use Rattle.report.proofs.Belts.{one-load, same-rows}
+use Rattle.report.proofs.Belts.{one-sizes, same-rows}
 
 module _ {s : Shape} {xs : List ℕ} {at room : ℕ} (ready : Ready s xs at room) where
   abbrev net : Network
@@ -36,8 +36,8 @@ module _ {s : Shape} {xs : List ℕ} {at room : ℕ} (ready : Ready s xs at room
 
     load-small : (e : ℕ) → e < arcs net → size (getD flow e (pos 0)) * a .capacity < 2 ^ 64
     load-small e l =
-        rw (v .answers, v .flows, ← one-load net (ready .one) (outcome net 4 .flow) e)
-        (v .guarantee .fits .loads e l)
+        rw (v .answers, v .flows, ← one-sizes net (ready .one) (outcome net 4 .flow) e)
+        (v .guarantee .fits .sizes e l)
 
     pub belted : (next : ℕ) → length flow ≡ s .arcs → next ≤ at + 159 → Belted (net .tails) (net .heads) flow (a .capacity) next room
     belted next h l =

@@ -5,7 +5,8 @@ use Prim.Native.Nat.{ℕ, _≤_}
 use lib.ListN.{length}
 use Rattle.network.specs.Network.{Network}
 use Rattle.network.specs.declared.Verdict.the-variants.{Accepted}
-use Rattle.method.specs.Answer.{outcome, overlaid}
+use Rattle.method.specs.Answer.{outcome}
+use Rattle.method.specs.Overlaid.{overlaid}
 use Rattle.method.specs.Guarantee.{Guarantee}
 use Rattle.dimacs.specs.File.{holds, parsed}
 use Rattle.report.specs.Listing.{listing, verdictHeld}

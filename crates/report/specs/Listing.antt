@@ -2,7 +2,7 @@
 use mathlib.Core.List.{List, [], _++_}
 use Prim.Native.Nat.{ℕ, _*_}
 use Rattle.arith.specs.Lists.{upTo, flat}
-use Rattle.network.specs.Flow.{loadOf}
+use Rattle.network.specs.Flow.{sizesOn}
 use Rattle.network.specs.Network.{Network, arcs, tail, head}
 use Rattle.network.specs.Verdict.{verdictOn}
 use Rattle.network.specs.declared.Verdict.{Verdict}
@@ -17,7 +17,7 @@ use Rattle.rows.specs.Rows.{answerRows, refusalRow}
 -- "a belt Y × c(b) over Y(b)", with its tail and head: arc e, whose load Y is that of the flow table over all commodities.
 unfoldable pub beltRow : Network → Outcome → ℕ → List ℕ
 beltRow net o e =
-    row (bytes "belt") (decimal (tail net e)) (decimal (head net e)) (loadOf net (amounts net (o .flow)) e * o .answer .capacity)
+    row (bytes "belt") (decimal (tail net e)) (decimal (head net e)) (sizesOn net (amounts net (o .flow)) e * o .answer .capacity)
     (o .answer .load)
 
 -- "Header, total, bound and steps come first, then the belts in order."

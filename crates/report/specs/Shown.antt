@@ -11,7 +11,7 @@ use Rattle.network.specs.Network.{Network, commodities}
 use Rattle.network.specs.declared.Verdict.{Verdict}
 use Rattle.network.specs.declared.Verdict.the-variants.{Accepted}
 use Rattle.method.specs.Answer.{outcome}
-use Rattle.method.specs.Fits.{Amounts}
+use Rattle.method.specs.Fits.{Signed64}
 use Rattle.method.specs.Guarantee.{Guarantee}
 use Rattle.packed.specs.Packed.{netIn, Packed, Lent, netNumbers, tableNumbers}
 use Rattle.packed.specs.declared.Shape.{Shape}
@@ -35,7 +35,7 @@ beltsOf tails heads flow a y = flat (beltOf tails heads flow a y) (upTo (length 
 pub record Belted (tails heads : List ℕ) (flow : List ℤ) (a at room : ℕ) : Type 0 where
   pub of-heads : length heads ≡ length tails
   pub of-flow : length flow ≡ length tails
-  pub sizes : Amounts flow
+  pub sizes : Signed64 flow
   pub fits : (e : ℕ) → e < length tails → size (getD flow e (pos 0)) * a < 2 ^ 64
   pub enough : at + 90 * length tails ≤ room
 

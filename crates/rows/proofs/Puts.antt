@@ -8,7 +8,7 @@ use native.Mathlib.Numerals.{add-one}
 use native.Mathlib.Omega.{arith}
 use lib.ListN.{length, take, set, length-append}
 use lib.Seq.{length-take-le, set-split}
-use Rattle.method.specs.Answer.{overlaid}
+use Rattle.method.specs.Overlaid.{overlaid}
 use Rattle.numbers.specs.Parts.{splice}
 use Rattle.numbers.proofs.Over.{length-over}
 use Rattle.numbers.proofs.Splices.{splice-is-over, splice-after}

@@ -10,7 +10,7 @@ use Rattle.length.proofs.Size.{growth-least}
 use Rattle.bounds.specs.Bounds.{mostNodes, mostCommodities}
 use Rattle.network.specs.Ends.{Ends}
 use Rattle.network.specs.Network.{Network, commodities}
-use Rattle.network.specs.Resources.{resources, rooms}
+use Rattle.network.specs.Resources.{resources, resourceCapacities}
 use Rattle.packed.specs.declared.Shape.{Shape}
 use Rattle.method.specs.Choice.{Choice, usedBy}
 use Rattle.method.specs.Iteration.{State, draw, update, grown, settled, advance}
@@ -40,7 +40,7 @@ update-least f h (e ∷ p) xs j =
 
 module _ (net : Network) (q : ℕ) (c : Choice) (s : State) (same : length (s .lengths) ≡ resources net) where
   abbrev caps : List ℕ
-  caps = rooms net
+  caps = resourceCapacities net
 
   abbrev path : List ℕ
   path = usedBy net c

@@ -11,10 +11,10 @@ use Rattle.arith.proofs.Exists.{none-exists}
 use Rattle.length.specs.Level.{threshold}
 use Rattle.length.proofs.Bounds.{threshold-most}
 use Rattle.network.specs.Network.{Network}
-use Rattle.network.specs.Resources.{resources, room}
+use Rattle.network.specs.Resources.{resources, resourceCapacity}
 use Rattle.network.specs.Sound.{Sound}
-use Rattle.network.proofs.Resources.{rooms-length}
-use Rattle.network.proofs.Sounds.{resources-within, room-within}
+use Rattle.network.proofs.Resources.{resource-capacities-length}
+use Rattle.network.proofs.Sounds.{resources-within, resource-capacity-within}
 use Rattle.method.specs.Iteration.{State}
 use Rattle.method.specs.Run.{ended}
 use Rattle.method.proofs.Instance.{seen}
@@ -28,7 +28,7 @@ module _ (net : Network) (q : ℕ) (sound : Sound net q) (s : State) (r : Reache
   -- The run has not ended.
   not-full : ended net q s ≡ false
   unfolding ended threshold seen
-  not-full = none-exists (resources net) (λ e. leb (threshold (resources net) q * room net e) (getD (s .loads) e 0)) (λ e l. lt-leb _ _ (r .below e l))
+  not-full = none-exists (resources net) (λ e. leb (threshold (resources net) q * resourceCapacity net e) (getD (s .loads) e 0)) (λ e l. lt-leb _ _ (r .below e l))
 
   pub kept-ready : (t : ℕ) (p : Progress) → Noted net q t (s .lengths) p → Kept net t s p
   kept-ready t p n =
@@ -38,9 +38,9 @@ module _ (net : Network) (q : ℕ) (sound : Sound net q) (s : State) (r : Reache
         weight = n .weight;
         ending =
             record {
-              same = r .valid .table .places ∙ sym (rooms-length net);
+              same = r .valid .table .places ∙ sym (resource-capacities-length net);
               small = omega (arith, n .threshold, threshold-most (resources net) q (m .least) (m .most) (x .least) (x .most));
-              sizes = λ e l. room-within net q sound e (omega (arith, rooms-length net)) .most;
+              sizes = λ e l. resource-capacity-within net q sound e (omega (arith, resource-capacities-length net)) .most;
             };
         none = ended-is net q s t (r .valid .table .places) (n .threshold) ∙ not-full;
       }

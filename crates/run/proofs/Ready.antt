@@ -11,10 +11,10 @@ use Rattle.bounds.specs.Bounds.{mostNodes, mostArcs, mostCapacity}
 use Rattle.length.specs.Length.{growth}
 use Rattle.network.specs.Network.{Network, arcs, commodities, source, sink}
 use Rattle.network.specs.Path.{pathLength}
-use Rattle.network.specs.Resources.{resources, rooms}
+use Rattle.network.specs.Resources.{resources, resourceCapacities}
 use Rattle.network.specs.Sound.{Sound}
-use Rattle.network.proofs.Resources.{arcs-le, rooms-length}
-use Rattle.network.proofs.Sounds.{sound-ends, room-within}
+use Rattle.network.proofs.Resources.{arcs-le, resource-capacities-length}
+use Rattle.network.proofs.Sounds.{sound-ends, resource-capacity-within}
 use Rattle.network.proofs.Uses.{uses-few}
 use Rattle.method.specs.Choice.{Choice, usedBy, choice}
 use Rattle.method.specs.Iteration.{State, draw, grown}
@@ -33,7 +33,7 @@ use Rattle.tables.proofs.OnPath.{draw-at, draw-most, below-under}
 module _ (net : Network) (q : ℕ) (sound : Sound net q) (s : State) (r : Reached net q s) (c : Choice)
     (h : choice net (s .lengths) ≡ some c) where
   abbrev caps : List ℕ
-  caps = rooms net
+  caps = resourceCapacities net
 
   -- what the path uses
   abbrev p : List ℕ
@@ -46,23 +46,23 @@ module _ (net : Network) (q : ℕ) (sound : Sound net q) (s : State) (r : Reache
   z = reached-sizes net q sound s r
 
   inside : (e : ℕ) → e < length caps → e < resources net
-  inside e l = omega (arith, rooms-length net)
+  inside e l = omega (arith, resource-capacities-length net)
 
   capacities : Capacities caps
   capacities =
       record {
-        least = λ e l. room-within net q sound e (inside e l) .least;
-        most = λ e l. room-within net q sound e (inside e l) .most;
+        least = λ e l. resource-capacity-within net q sound e (inside e l) .least;
+        most = λ e l. resource-capacity-within net q sound e (inside e l) .most;
       }
 
   same : length (s .lengths) ≡ length caps
-  same = v .lengths ∙ sym (rooms-length net)
+  same = v .lengths ∙ sym (resource-capacities-length net)
 
   short : Under (2 ^ 40) (s .lengths)
   short e l = z .length-high e (omega (arith, v .lengths))
 
   places : Under (length caps) p
-  places j l = omega (arith, below-under (fair net q sound s v c h .below) j l, rooms-length net)
+  places j l = omega (arith, below-under (fair net q sound s v c h .below) j l, resource-capacities-length net)
 
   arc : 1 ≤ length p
   arc = chosen-some net (s .lengths) c (chosen-at net q sound s v c h) (sound-ends net q sound)
@@ -98,7 +98,7 @@ module _ (net : Network) (q : ℕ) (sound : Sound net q) (s : State) (r : Reache
       }
 
   arcs-few : length caps ≤ mostArcs
-  arcs-few = omega (arith, rooms-length net, sound .counts .of-resources)
+  arcs-few = omega (arith, resource-capacities-length net, sound .counts .of-resources)
 
   grown-settling : Settling caps (longer caps q (draw caps p) p (s .lengths))
   unfolding grown
@@ -133,7 +133,7 @@ module _ (net : Network) (q : ℕ) (sound : Sound net q) (s : State) (r : Reache
         flow = pushing;
         loads =
             record {
-              places = λ j l. omega (arith, places j l, v .table .places, rooms-length net);
+              places = λ j l. omega (arith, places j l, v .table .places, resource-capacities-length net);
               amounts = λ e l. omega (arith, z .load-high e (omega (arith, v .table .places)));
               small = small;
               few = few;

@@ -10,7 +10,7 @@ use lib.ListN.{length, getD}
 use Rattle.arith.specs.Lists.{exists}
 use Rattle.length.specs.Level.{threshold}
 use Rattle.network.specs.Network.{Network}
-use Rattle.network.specs.Resources.{resources, rooms}
+use Rattle.network.specs.Resources.{resources, resourceCapacities}
 use Rattle.network.specs.Sound.{Sound}
 use Rattle.method.specs.Iteration.{State, initial, iteration}
 use Rattle.method.specs.Run.{ended, runs, run}
@@ -62,6 +62,6 @@ module _ (net : Network) (q : ℕ) (sound : Sound net q) (chooses : Chooses net)
 -- The test of the loads that the program makes is the definition's.
 pub ended-is :
     (net : Network) (q : ℕ) (s : State) (mark : ℕ) → length (s .loads) ≡ resources net → mark ≡ threshold (resources net) q →
-    exists (length (s .loads)) (λ e. leb (mark * getD (rooms net) e 0) (getD (s .loads) e 0)) ≡ ended net q s
+    exists (length (s .loads)) (λ e. leb (mark * getD (resourceCapacities net) e 0) (getD (s .loads) e 0)) ≡ ended net q s
 unfolding ended
 ended-is net q s mark h e = rw (h, e) refl

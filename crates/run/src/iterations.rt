@@ -1,5 +1,5 @@
 // One iteration on the lent slices.
-use choice::ROOMS;
+use choice::RESOURCE_CAPACITIES;
 use memory::pages::forget;
 use packed::LENGTHS;
 use packed::Shape;
@@ -48,7 +48,7 @@ pub fn iterate(
         q,
         threshold,
         net,
-        &indexes[ROOMS..ROOMS + m],
+        &indexes[RESOURCE_CAPACITIES..RESOURCE_CAPACITIES + m],
         c,
         &path[..used],
         flow,

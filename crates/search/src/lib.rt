@@ -17,7 +17,7 @@ ghost use lib.ListN.{length, set, drop, replicate};
 ghost use Rattle.packed.specs.Packed.{netIn};
 ghost use Rattle.paths.specs.Calls.{Seeking};
 ghost use Rattle.paths.specs.Far.{far};
-ghost use Rattle.paths.specs.Listing.{Listing};
+ghost use Rattle.paths.specs.Worklist.{Worklist};
 ghost use Rattle.paths.specs.Order.{Searched};
 
 // No path without a loop is as long: at most 63 arcs and 64 nodes of lengths below 2^40.
@@ -57,7 +57,7 @@ fn distances_in(
     listed: &mut [u64],
 )
     requires seeking { ⌜ Seeking (netIn s (now net)) (now into) (now lengths) sink (now page) ⌝ }
-    requires empty { ⌜ Listing (netIn s (now net) .nodes) (now listed) 0 ⌝ }
+    requires empty { ⌜ Worklist (netIn s (now net) .nodes) (now listed) 0 ⌝ }
     ensures { λ r. ⌜ Searched (netIn s (now (net .entry))) (now (lengths .entry)) (now (page .exit)) sink ⌝ }
 {
     let n = s.nodes;

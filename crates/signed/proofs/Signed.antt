@@ -7,7 +7,8 @@ use native.Mathlib.Omega.{arith}
 use borrow.Author.Tests.{ltb-true, ltb-false, lt-ltb, le-ltb}
 use lib.Dec.{ltb}
 use lib.IntN.{ℤ, pos, negsuc, subℕ, _+ℤ_, _-ℤ_}
-use Rattle.signed.specs.Signed.{ahead, back, size, moved, twos, fromTwos}
+use Rattle.signed.specs.Signed.{ahead, back, size, moved, twos}
+use Rattle.signed.specs.FromTwos.{fromTwos}
 
 -- The two parts of an amount, for omega, which reads no ℤ.
 record Parts (x : ℤ) (a b : ℕ) : Type 0 where

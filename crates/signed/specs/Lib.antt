@@ -1,1 +1,2 @@
+pub mod FromTwos
 pub mod Signed

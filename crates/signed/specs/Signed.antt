@@ -1,8 +1,7 @@
 -- Signed amounts: one number for what goes forward on an arc or, if it is negative, back. Source document 000, section 3.1, undirected case.
 -- Assumes nothing.
-use mathlib.Core.Bool.{Bool, true, false, cond}
+use mathlib.Core.Bool.{Bool, true, false}
 use Prim.Native.Nat.{ℕ, suc, _+_, _-_, _^_}
-use lib.Dec.{ltb}
 use lib.IntN.{ℤ, pos, negsuc, _+ℤ_, _-ℤ_}
 
 -- What goes forward: the amount, or 0 where it is negative.
@@ -28,7 +27,3 @@ moved false g x = x -ℤ pos g
 unfoldable pub twos : ℤ → ℕ
 twos (pos n) = n
 twos (negsuc n) = 2 ^ 64 - suc n
-
--- The amount that a host reads out of such a number.
-unfoldable pub fromTwos : ℕ → ℤ
-fromTwos u = cond (ltb u (2 ^ 63)) (pos u) (negsuc (2 ^ 64 - 1 - u))

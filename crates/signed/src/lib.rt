@@ -2,7 +2,8 @@
 ghost use mathlib.Core.Path.{_≡_};
 ghost use Prim.Native.Nat.{_+_, _^_, _<_};
 ghost use lib.IntN.{pos, _+ℤ_, _-ℤ_};
-ghost use Rattle.signed.specs.Signed.{ahead, back, size, twos, fromTwos};
+ghost use Rattle.signed.specs.Signed.{ahead, back, size, twos};
+ghost use Rattle.signed.specs.FromTwos.{fromTwos};
 
 // x and g more.
 pub fn more(x: i64, g: u64) -> i64

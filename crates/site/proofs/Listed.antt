@@ -6,7 +6,7 @@ use Prim.Native.Nat.{ℕ, _*_, _≤_, _<_, _^_}
 use native.Mathlib.Omega.{arith}
 use lib.Dec.{ltb}
 use borrow.Author.Tests.{ltb-false}
-use Rattle.bounds.specs.Bounds.{mostNetworks, floorNumbers}
+use Rattle.bounds.specs.Sites.{mostNetworks, floorNumbers}
 use Rattle.network.specs.Refusal.{refusalCode, hostNumber}
 use Rattle.network.specs.Verdict.{verdict, when, outside}
 use Rattle.network.specs.declared.Refusal.the-variants.{ShortTable, Networks}

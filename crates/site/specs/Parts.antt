@@ -1,7 +1,7 @@
 -- A floor's own parts of the slices. Request C-14: "how many numbers .. are its own (parts in floor order; a part stops at its slice's end)".
 use mathlib.Core.List.{List}
 use Prim.Native.Nat.{ℕ, zero, suc, min, _+_, _*_, _-_}
-use Rattle.bounds.specs.Bounds.{floorNumbers}
+use Rattle.bounds.specs.Sites.{floorNumbers}
 use Rattle.numbers.specs.Numbers.{count, numberAt}
 use Rattle.packed.specs.Part.{part, put}
 

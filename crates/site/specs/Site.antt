@@ -5,7 +5,7 @@ use mathlib.Core.Bool.{false}
 use mathlib.Core.List.{List, [], _∷_, _++_}
 use Prim.Native.Nat.{ℕ, zero, suc, _+_, _*_, _<_}
 use lib.Dec.{ltb}
-use Rattle.bounds.specs.Bounds.{mostNetworks, floorNumbers}
+use Rattle.bounds.specs.Sites.{mostNetworks, floorNumbers}
 use Rattle.network.specs.Network.{Network}
 use Rattle.network.specs.Refusal.{hostNumber}
 use Rattle.network.specs.Verdict.{Condition, when, outside, verdict, afterwards}

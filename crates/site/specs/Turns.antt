@@ -2,7 +2,7 @@
 use mathlib.Core.Path.{_≡_}
 use mathlib.Core.List.{List}
 use Prim.Native.Nat.{ℕ, _*_, _≤_, _<_}
-use Rattle.bounds.specs.Bounds.{mostNetworks, floorNumbers}
+use Rattle.bounds.specs.Sites.{mostNetworks, floorNumbers}
 use Rattle.network.specs.declared.Verdict.the-variants.{Accepted}
 use Rattle.numbers.specs.Numbers.{count, items}
 use Rattle.method.specs.Answer.{outcome}

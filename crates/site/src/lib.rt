@@ -7,7 +7,7 @@ use bounds::FLOOR_NUMBERS;
 use checks::numbers::host_number;
 use network::Verdict;
 ghost use Prim.Native.Nat.{_<_};
-ghost use Rattle.bounds.specs.Bounds.{floorNumbers};
+ghost use Rattle.bounds.specs.Sites.{floorNumbers};
 ghost use Rattle.numbers.specs.Numbers.{items};
 ghost use Rattle.call.specs.Deliver.{slices};
 ghost use Rattle.site.specs.Site.{Sited};

@@ -3,7 +3,7 @@
 use bounds::FLOOR_NUMBERS;
 ghost use mathlib.Core.Path.{_≡_};
 ghost use Prim.Native.Nat.{min, _<_};
-ghost use Rattle.bounds.specs.Bounds.{floorNumbers};
+ghost use Rattle.bounds.specs.Sites.{floorNumbers};
 ghost use Rattle.numbers.specs.Numbers.{count, items};
 ghost use Rattle.site.specs.Parts.{begins};
 ghost use Rattle.site.specs.Turns.{spanOf, partsOf};

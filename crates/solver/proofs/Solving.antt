@@ -7,10 +7,10 @@ use native.Mathlib.Omega.{arith}
 use lib.IntN.{ℤ, pos}
 use lib.ListN.{length, getD, replicate}
 use Rattle.network.specs.Network.{Network, arcs, commodities}
-use Rattle.network.specs.Resources.{resources, rooms}
+use Rattle.network.specs.Resources.{resources, resourceCapacities}
 use Rattle.network.specs.Sound.{Sound}
-use Rattle.network.proofs.Resources.{rooms-length}
-use Rattle.network.proofs.Sounds.{resources-within, room-within}
+use Rattle.network.proofs.Resources.{resource-capacities-length}
+use Rattle.network.proofs.Sounds.{resources-within, resource-capacity-within}
 use Rattle.method.specs.Answer.{outcome, outcomeOf, unjoined}
 use Rattle.method.specs.Choice.{Choice, choice}
 use Rattle.method.specs.Iteration.{initial, weight}
@@ -27,16 +27,16 @@ use Rattle.solver.specs.Solved.{Solved, answerOf, noAnswer}
 
 -- The tables once they are cleared are those of the definition's start.
 pub initial-is :
-    (net : Network) {caps L Y K : List ℕ} {F : List ℤ} {m y k f : ℕ} → caps ≡ rooms net → L ≡ firstLengths caps → Y ≡ replicate y 0 →
+    (net : Network) {caps L Y K : List ℕ} {F : List ℤ} {m y k f : ℕ} → caps ≡ resourceCapacities net → L ≡ firstLengths caps → Y ≡ replicate y 0 →
     K ≡ replicate k 0 → F ≡ replicate f (pos 0) → m ≡ resources net → y ≡ m → k ≡ m → f ≡ commodities net * arcs net →
     stateOf L F Y K begun ≡ initial net
 unfolding initial
 initial-is net ec started unloaded nothing empty em ey ek ef = rw (started, unloaded, nothing, empty, ey, ek, ef, em, ec) refl
 
 -- D of them is the definition's.
-pub weight-is : (net : Network) {caps : List ℕ} → caps ≡ rooms net → (L : List ℕ) {d : ℕ} → d ≡ weightOf caps L → d ≡ weight net L
+pub weight-is : (net : Network) {caps : List ℕ} → caps ≡ resourceCapacities net → (L : List ℕ) {d : ℕ} → d ≡ weightOf caps L → d ≡ weight net L
 unfolding weight
-weight-is net ec L h = rw (ec, rooms-length net) at h
+weight-is net ec L h = rw (ec, resource-capacities-length net) at h
 
 pub outcome-some : (net : Network) (q : ℕ) (c : Choice) → choice net (initial net .lengths) ≡ some c → outcome net q ≡ outcomeOf net (run net q)
 unfolding outcome
@@ -64,7 +64,7 @@ solved-none net q sound flow kept h f k =
 pub solved-some :
     (net : Network) (q : ℕ) → Sound net q → (c : Choice) → choice net (initial net .lengths) ≡ some c → (flow : List ℤ) (kept loads lengths : List ℕ) (p : Progress) →
     stateOf lengths flow loads kept p ≡ run net q → length loads ≡ resources net →
-    Solved net q (answerOf (rooms net) loads p) flow kept
+    Solved net q (answerOf (resourceCapacities net) loads p) flow kept
 unfolding outcomeOf
 solved-some net q sound c h flow kept loads lengths p r size =
     let e : outcome net q ≡ outcomeOf net (stateOf lengths flow loads kept p) = outcome-some net q c h ∙ ap (outcomeOf net) (sym r) in
@@ -78,12 +78,12 @@ solved-some net q sound c h flow kept loads lengths p r size =
 -- Loads and capacities of the end, as the answer compares them.
 pub ranking :
     (net : Network) (q : ℕ) → Sound net q → Chooses net → (loads : List ℕ) → loads ≡ run net q .loads → length loads ≡ resources net →
-    Ranking loads (rooms net)
+    Ranking loads (resourceCapacities net)
 ranking net q sound chooses loads r size =
     let z = final-sizes net q sound chooses in
     record {
       some = omega (arith, resources-within net q sound .least);
-      same = size ∙ sym (rooms-length net);
+      same = size ∙ sym (resource-capacities-length net);
       amounts = λ e l. omega (arith, ap (λ t. getD t e 0) r, z .load-high e (omega arith));
-      sizes = λ e l. room-within net q sound e (omega (arith, rooms-length net)) .most;
+      sizes = λ e l. resource-capacity-within net q sound e (omega (arith, resource-capacities-length net)) .most;
     }

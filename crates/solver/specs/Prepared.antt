@@ -6,7 +6,7 @@ use lib.IntN.{ℤ}
 use lib.ListN.{length}
 use Rattle.bounds.specs.Bounds.{mostNodes, mostArcs}
 use Rattle.network.specs.Network.{Network, arcs, commodities}
-use Rattle.network.specs.Resources.{rooms}
+use Rattle.network.specs.Resources.{resourceCapacities}
 use Rattle.packed.specs.Packed.{netIn, Lent, tableNumbers}
 use Rattle.packed.specs.declared.Shape.{Shape}
 use Rattle.method.specs.Iteration.{initial, weight}
@@ -31,7 +31,7 @@ pub record Laying (s : Shape) (net : List ℕ) (numbers : ℕ) : Type 0 where
 -- The sizes of the tables, for an accepted network and the capacities of its resources.
 pub record Preparing (s : Shape) (q : ℕ) (net caps : List ℕ) (flow : List ℤ) (tables memory : List ℕ) : Type 0 where
   pub lent : Lent s q net
-  pub caps-are : caps ≡ rooms (netIn s net)
+  pub caps-are : caps ≡ resourceCapacities (netIn s net)
   pub flows : length flow ≡ commodities (netIn s net) * arcs (netIn s net)
   pub tabled : tableNumbers ≤ length tables
   pub memorised : memoryNumbers ≤ length memory

@@ -1,5 +1,5 @@
 // The outcome from the tables of the start: no answer where no commodity is joined, else that of the run.
-use choice::ROOMS;
+use choice::RESOURCE_CAPACITIES;
 use method::Answer;
 use packed::LENGTHS;
 use packed::LOADS;
@@ -16,16 +16,16 @@ ghost use Rattle.solver.specs.Prepared.{Cleared};
 ghost use Rattle.solver.specs.Solved.{Answering, Solved, answerOf, noAnswer};
 
 // The answer: the fullest resource gives the scale.
-fn answer(s: Shape, rooms: &[u64], tables: &[u64], p: Progress) -> Answer
-    requires { ⌜ Answering s (now rooms) (now tables) ⌝ }
-    ensures { λ r. ⌜ r ≡ answerOf (now (rooms .entry)) (loadsIn s (now (tables .entry))) p ⌝ }
+fn answer(s: Shape, capacities: &[u64], tables: &[u64], p: Progress) -> Answer
+    requires { ⌜ Answering s (now capacities) (now tables) ⌝ }
+    ensures { λ r. ⌜ r ≡ answerOf (now (capacities .entry)) (loadsIn s (now (tables .entry))) p ⌝ }
 {
     let m = s.resources;
     let loads = &tables[LOADS..LOADS + m];
-    let b = loads::fullest(loads, rooms);
+    let b = loads::fullest(loads, capacities);
     Answer {
         total: p.total,
-        capacity: rooms[b],
+        capacity: capacities[b],
         load: loads[b],
         bound: p.bound,
         alpha: p.alpha,
@@ -71,5 +71,10 @@ pub fn outcome(
         return unjoined();
     }
     let p = runs::run(s, q, net, indexes, flow, tables, memory, path, weight);
-    answer(s, &indexes[ROOMS..ROOMS + m], tables, p)
+    answer(
+        s,
+        &indexes[RESOURCE_CAPACITIES..RESOURCE_CAPACITIES + m],
+        tables,
+        p,
+    )
 }

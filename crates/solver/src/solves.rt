@@ -2,7 +2,7 @@
 use crate::outcomes::outcome;
 use choice::INTO;
 use choice::OUT;
-use choice::ROOMS;
+use choice::RESOURCE_CAPACITIES;
 use index::INDEX_NUMBERS;
 use memory::pages;
 use method::Answer;
@@ -25,7 +25,11 @@ fn index_all(s: Shape, net: &[u64], indexes: &mut [u64])
     index::index_into(s, net, &mut indexes[INTO..INTO + INDEX_NUMBERS]);
     index::index_out(s, net, &mut indexes[OUT..OUT + INDEX_NUMBERS]);
     let m = s.resources;
-    index::rooms(s, net, &mut indexes[ROOMS..ROOMS + m]);
+    index::resource_capacities(
+        s,
+        net,
+        &mut indexes[RESOURCE_CAPACITIES..RESOURCE_CAPACITIES + m],
+    );
 }
 
 // The tables before the first choice: lengths at their start, zeros in the others; D of the lengths. q and the network are taken for the contract.
@@ -33,16 +37,16 @@ fn prepare(
     s: Shape,
     q: u64,
     net: &[u64],
-    rooms: &[u64],
+    capacities: &[u64],
     flow: &mut [i64],
     tables: &mut [u64],
     memory: &mut [u64],
 ) -> u64
-    requires { ⌜ Preparing s q (now net) (now rooms) (now flow) (now tables) (now memory) ⌝ }
+    requires { ⌜ Preparing s q (now net) (now capacities) (now flow) (now tables) (now memory) ⌝ }
     ensures { λ r. ⌜ Cleared s (netIn s (now (net .entry))) (now (flow .exit)) (now (tables .exit)) (now (memory .exit)) r ⌝ }
 {
     let m = s.resources;
-    let weight = lengths::start(rooms, &mut tables[LENGTHS..LENGTHS + m]);
+    let weight = lengths::start(capacities, &mut tables[LENGTHS..LENGTHS + m]);
     loads::clear(&mut tables[LOADS..LOADS + m]);
     loads::clear(&mut tables[KEPT..KEPT + m]);
     loads::clear_flow(flow);
@@ -67,6 +71,14 @@ pub fn solve_in(
 {
     index_all(s, net, indexes);
     let m = s.resources;
-    let weight = prepare(s, q, net, &indexes[ROOMS..ROOMS + m], flow, tables, memory);
+    let weight = prepare(
+        s,
+        q,
+        net,
+        &indexes[RESOURCE_CAPACITIES..RESOURCE_CAPACITIES + m],
+        flow,
+        tables,
+        memory,
+    );
     outcome(s, q, net, indexes, flow, tables, memory, path, weight)
 }

@@ -10,8 +10,8 @@ use lib.ListN.{length, getD}
 use Rattle.length.specs.Length.{growth, halving}
 use Rattle.network.specs.Network.{Network, arcs, source}
 use Rattle.network.specs.Path.{pathLength}
-use Rattle.network.specs.Resources.{rooms}
-use Rattle.network.proofs.Resources.{rooms-length}
+use Rattle.network.specs.Resources.{resourceCapacities}
+use Rattle.network.proofs.Resources.{resource-capacities-length}
 use Rattle.method.specs.Choice.{Choice, usedBy}
 use Rattle.method.specs.Iteration.{weight, draw, update, pushed, grown, settled, advance}
 use Rattle.method.proofs.Times.{update-length}
@@ -23,9 +23,9 @@ use Rattle.step.specs.declared.Progress.{Progress}
 use Rattle.step.specs.Progress.{stateOf, counted, halves}
 use Rattle.step.specs.Steps.{Stepped}
 
-module _ (net : Network) (q t : ℕ) (c : Choice) (L : List ℕ) (F : List ℤ) (Y K : List ℕ) (p : Progress) (same : length L ≡ length (rooms net)) where
+module _ (net : Network) (q t : ℕ) (c : Choice) (L : List ℕ) (F : List ℤ) (Y K : List ℕ) (p : Progress) (same : length L ≡ length (resourceCapacities net)) where
   abbrev caps : List ℕ
-  caps = rooms net
+  caps = resourceCapacities net
 
   abbrev path : List ℕ
   path = usedBy net c
@@ -57,7 +57,7 @@ module _ (net : Network) (q t : ℕ) (c : Choice) (L : List ℕ) (F : List ℤ) 
         (d : ℕ) (b e : Bool) →
         stateOf lengths flow loads (cond better L K) (counted p g better a d b e) ≡ advance net q c (stateOf L F Y K p)
     unfolding advance grown settled
-    advanced d b e = rw (h, update-length (λ e x. growth q g (getD caps e 0) x) path L ∙ (same ∙ rooms-length net), add-one (p .count)) refl
+    advanced d b e = rw (h, update-length (λ e x. growth q g (getD caps e 0) x) path L ∙ (same ∙ resource-capacities-length net), add-one (p .count)) refl
 
     pub stepped :
         let r = counted p g better a (weightOf caps lengths) (halves caps q path L) (atThreshold t caps loads) in
@@ -66,7 +66,7 @@ module _ (net : Network) (q t : ℕ) (c : Choice) (L : List ℕ) (F : List ℤ) 
     stepped =
         record {
           state = advanced (weightOf caps lengths) (halves caps q path L) (atThreshold t caps loads);
-          weight = rw (rooms-length net) refl;
+          weight = rw (resource-capacities-length net) refl;
           halved = refl;
           ended = refl;
         }

@@ -8,7 +8,7 @@ use lib.ListN.{length, take}
 use Rattle.bounds.specs.Bounds.{mostArcs}
 use Rattle.network.specs.Network.{Network}
 use Rattle.network.specs.Path.{pathLength}
-use Rattle.network.specs.Resources.{resources, rooms}
+use Rattle.network.specs.Resources.{resources, resourceCapacities}
 use Rattle.packed.specs.Packed.{netIn, Packed, tableNumbers}
 use Rattle.packed.specs.declared.Shape.{Shape}
 use Rattle.method.specs.Choice.{Choice, usedBy, choiceOf}
@@ -24,18 +24,18 @@ use Rattle.step.specs.Progress.{stateIn, halves}
 pub record Stepping (net : Network) (q : ℕ) (c : Choice) (a : ℕ) (s : State) : Type 0 where
   pub some-arc : 1 ≤ length (usedBy net c)
   pub alpha : a ≡ pathLength (s .lengths) (usedBy net c)
-  pub growing : Growing (s .lengths) (rooms net) q (draw (rooms net) (usedBy net c)) (usedBy net c)
-  pub grown : Settling (rooms net) (longer (rooms net) q (draw (rooms net) (usedBy net c)) (usedBy net c) (s .lengths))
-  pub flow : Pushing net (c .commodity) (c .path) (draw (rooms net) (usedBy net c)) (s .flow)
-  pub loads : Adding (s .loads) (usedBy net c) (draw (rooms net) (usedBy net c))
+  pub growing : Growing (s .lengths) (resourceCapacities net) q (draw (resourceCapacities net) (usedBy net c)) (usedBy net c)
+  pub grown : Settling (resourceCapacities net) (longer (resourceCapacities net) q (draw (resourceCapacities net) (usedBy net c)) (usedBy net c) (s .lengths))
+  pub flow : Pushing net (c .commodity) (c .path) (draw (resourceCapacities net) (usedBy net c)) (s .flow)
+  pub loads : Adding (s .loads) (usedBy net c) (draw (resourceCapacities net) (usedBy net c))
   pub total : s .total < 2 ^ 32
   pub count : s .count < 2 ^ 32
 
 -- What it asks of the numbers beside the state: D of the lengths is at hand, and no load is at the threshold yet.
 pub record Kept (net : Network) (threshold : ℕ) (s : State) (p : Progress) : Type 0 where
   pub weight : p .weight ≡ weight net (s .lengths)
-  pub ending : Ending (s .loads) (rooms net) threshold
-  pub none : atThreshold threshold (rooms net) (s .loads) ≡ false
+  pub ending : Ending (s .loads) (resourceCapacities net) threshold
+  pub none : atThreshold threshold (resourceCapacities net) (s .loads) ≡ false
 
 -- The choice that was selected: the arcs of its path come first.
 abbrev pub chosenIn : Selected → List ℕ → Choice
@@ -47,7 +47,7 @@ pub record Steppable (s : Shape) (q threshold : ℕ) (c : Selected) (net caps pa
   pub counted : s .resources ≡ resources (netIn s net)
   pub few : s .resources ≤ mostArcs
   pub places : tableNumbers ≤ length tables
-  pub caps-are : caps ≡ rooms (netIn s net)
+  pub caps-are : caps ≡ resourceCapacities (netIn s net)
   pub arcs-first : c .arcs ≤ length path
   pub path-is : path ≡ usedBy (netIn s net) (chosenIn c path)
   pub stepping : Stepping (netIn s net) q (chosenIn c path) (c .alpha) (stateIn s flow tables p)
@@ -57,5 +57,5 @@ pub record Steppable (s : Shape) (q threshold : ℕ) (c : Selected) (net caps pa
 pub record Stepped (net : Network) (q threshold : ℕ) (c : Choice) (old new : State) (r : Progress) : Type 0 where
   pub state : new ≡ advance net q c old
   pub weight : r .weight ≡ weight net (new .lengths)
-  pub halved : r .halved ≡ halves (rooms net) q (usedBy net c) (old .lengths)
-  pub ended : r .ended ≡ atThreshold threshold (rooms net) (new .loads)
+  pub halved : r .halved ≡ halves (resourceCapacities net) q (usedBy net c) (old .lengths)
+  pub ended : r .ended ≡ atThreshold threshold (resourceCapacities net) (new .loads)

@@ -70,33 +70,39 @@ fn count(p: Progress, g: u64, better: bool, alpha: u64, grown: Grown, ended: boo
     }
 }
 
-// The iteration that draws along the path that was selected. What it uses stands in path, its arcs first, and rooms has the capacities of the resources.
+// The iteration that draws along the path that was selected. What it uses stands in path, its arcs first, and capacities has those of the resources.
 // Only these resources are looked at, unless the lengths are kept or halved.
 pub fn step(
     s: Shape,
     q: u64,
     threshold: u64,
     net: &[u64],
-    rooms: &[u64],
+    capacities: &[u64],
     c: Selected,
     path: &[u64],
     flow: &mut [i64],
     tables: &mut [u64],
     p: Progress,
 ) -> Progress
-    requires { ⌜ Steppable s q threshold c (now net) (now rooms) (now path) (now flow) (now tables) p ⌝ }
+    requires { ⌜ Steppable s q threshold c (now net) (now capacities) (now path) (now flow) (now tables) p ⌝ }
     ensures { λ r. ⌜ Stepped (netIn s (now (net .entry))) q threshold (chosenIn c (now (path .entry))) (stateIn s (now (flow .entry)) (now (tables .entry)) p) (stateIn s (now (flow .exit)) (now (tables .exit)) r) r ⌝ }
 {
     let m = s.resources;
-    let g = draws::draw(rooms, path);
+    let g = draws::draw(capacities, path);
     let better = arith::less_product(p.weight, p.alpha, p.bound, c.alpha);
     keep(better, m, tables);
     let arcs = c.arcs;
     draws::push(flow, s, net, c.commodity, &path[..arcs], g);
-    let ended = loads::load(&mut tables[LOADS..LOADS + m], rooms, threshold, path, g);
+    let ended = loads::load(
+        &mut tables[LOADS..LOADS + m],
+        capacities,
+        threshold,
+        path,
+        g,
+    );
     let grown = lengths::lengthen(
         &mut tables[LENGTHS..LENGTHS + m],
-        rooms,
+        capacities,
         q,
         g,
         path,

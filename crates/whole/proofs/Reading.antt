@@ -6,7 +6,7 @@ use native.Mathlib.Omega.{arith}
 use lib.Dec.{lit≤}
 use lib.IntN.{ℤ}
 use Rattle.bounds.specs.Bounds.{answerNumbers}
-use Rattle.signed.specs.Signed.{fromTwos}
+use Rattle.signed.specs.FromTwos.{fromTwos}
 use Rattle.network.specs.Flow.{outflow}
 use Rattle.network.specs.Network.{Network, arcs, commodities}
 use Rattle.network.specs.declared.Verdict.{Verdict}

@@ -2,7 +2,7 @@
 use mathlib.Core.List.{List, []}
 use Prim.Native.Nat.{ℕ, _+_, _*_, _≤_, _<_, _^_}
 use lib.IntN.{ℤ}
-use Rattle.signed.specs.Signed.{fromTwos}
+use Rattle.signed.specs.FromTwos.{fromTwos}
 use Rattle.network.specs.Flow.{outflow}
 use Rattle.numbers.specs.Numbers.{count, items, numberAt}
 use Rattle.decode.specs.Decode.{networkIn}

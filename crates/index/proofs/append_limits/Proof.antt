@@ -10,12 +10,12 @@ use lib.ListN.{length}
 use Rattle.network.specs.Network.{Network, limit}
 use Rattle.packed.specs.Packed.{netIn}
 use Rattle.packed.proofs.Columns.{arcs-is, capacities-length}
-use Rattle.index.proofs.Rooming.{Rooming, rooming-none, rooming-on, rooming-place, rooming-more, rooming-all}
+use Rattle.index.proofs.Gathering.{Gathering, gathering-none, gathering-on, gathering-place, gathering-more, gathering-all}
 use Rattle.index.proofs.append_limits.Statement.{statement}
 use Rattle.index.proofs.append_limits.Tie as tie
 
 abbrev Inv-loop : tie.InvT-loop
-Inv-loop s net table₀ given limits end₀ v₀ table end v = Rooming (netIn s net) table end v
+Inv-loop s net table₀ given limits end₀ v₀ table end v = Gathering (netIn s net) table end v
 
 abbrev μ-loop : tie.MeasureT-loop
 μ-loop s net table₀ given limits end₀ v₀ table end v = s .nodes + 1 - v
@@ -40,20 +40,20 @@ read c = c .limit .ensures
 place : (c : tie.Then1 Inv-loop μ-loop) → let t = c .before .before in t .before .loop .end < length (t .before .loop .table)
 place c =
     let t = c .before .before in
-    rooming-place (t .before .loop .inv) (node t) (λ z. c .if1 .taken (read (c .before) ∙ z))
+    gathering-place (t .before .loop .inv) (node t) (λ z. c .if1 .taken (read (c .before) ∙ z))
 
 loop-holds : tie.Need-loop-holds Inv-loop μ-loop
 loop-holds c =
     let p = c .before .before .before .pre in
-    rooming-none (sym (arcs-is (p .roomy .packed))) (capacities-length (p .roomy .packed)) (p .capacities) (p .roomy .whole ∙ p .roomy .counted)
+    gathering-none (sym (arcs-is (p .roomy .packed))) (capacities-length (p .roomy .packed)) (p .capacities) (p .roomy .whole ∙ p .roomy .counted)
 
 loop-again : tie.Need-loop-again Inv-loop μ-loop
 loop-again c =
     let t = c .before .before in
     let I = t .before .loop .inv in
     ⊎-elim
-    (λ w. rw (w .1, w .2) (rooming-more I (node t) (λ z. w .0 .taken (read (c .before) ∙ z)) (read (c .before))))
-    (λ w. rw (w .1, w .2) (rooming-on I (node t) (sym (read (c .before)) ∙ w .0 .left)))
+    (λ w. rw (w .1, w .2) (gathering-more I (node t) (λ z. w .0 .taken (read (c .before) ∙ z)) (read (c .before))))
+    (λ w. rw (w .1, w .2) (gathering-on I (node t) (sym (read (c .before)) ∙ w .0 .left)))
     (c .if1 .came)
 
 same-length : tie.Need-same-length Inv-loop μ-loop
@@ -65,7 +65,7 @@ returns : tie.Need-returns Inv-loop μ-loop
 unfolding netIn
 returns c =
     let I = c .before .loop .inv in
-    rooming-all I (omega (arith, I .within, c .loop-test .left))
+    gathering-all I (omega (arith, I .within, c .loop-test .left))
 
 pub append-limits-spec : {M : Type 1} → statement M
 append-limits-spec =

@@ -2,7 +2,7 @@
 -- Assumes nothing.
 use native.Mathlib.Omega.{arith}
 use borrow.Author.Needs.{needs}
-use Rattle.paths.proofs.Listings.{listing-zeros}
+use Rattle.paths.proofs.Worklists.{worklist-zeros}
 use Rattle.search.proofs.distances.Statement.{statement}
 use Rattle.search.proofs.distances.Tie as tie
 
@@ -10,7 +10,7 @@ distances-in-requires : tie.Need-distances-in-requires
 distances-in-requires c κs =
     let s = c .before .before .before .before .before .before in
     let n = s .pre .index .arcs .nodes in
-    (s .pre, listing-zeros _ 65 (omega (arith, n)))
+    (s .pre, worklist-zeros _ 65 (omega (arith, n)))
 
 pub distances-spec : {M : Type 1} → statement M
 distances-spec =

@@ -11,7 +11,7 @@ use Rattle.network.specs.Network.{Network}
 use Rattle.packed.specs.Packed.{netIn}
 use Rattle.paths.specs.Calls.{Seeking}
 use Rattle.paths.specs.Far.{far}
-use Rattle.paths.specs.Listing.{Enlisted}
+use Rattle.paths.specs.Worklist.{Enlisted}
 use Rattle.paths.specs.Order.{orderFrom}
 use Rattle.paths.specs.Scan.{Waits, Scanning}
 use Rattle.paths.specs.Searching.{total, Searching, Any}
@@ -97,7 +97,7 @@ loop-holds c =
 
 scanning : (c : tie.In-loop Inv-loop μ-loop) → let s = entry (c .before) .args in
     Scanning (netIn (s .s) (s .net .now) .nodes) (c .before .loop .page) (c .before .loop .listed)
-scanning c = let S = c .before .loop .inv .searching in ordered-scanning (S .ordered) (S .listing) (room (c .before))
+scanning c = let S = c .before .loop .inv .searching in ordered-scanning (S .ordered) (S .worklist) (room (c .before))
 
 scan-requires : tie.Need-scan-requires Inv-loop μ-loop
 unfolding netIn
@@ -118,7 +118,7 @@ waits c =
     let t = turn (scan-at c) in
     let S = t .before .loop .inv .searching in
     ⊎-elim
-    (λ w. at-place (w .6) (ordered-waits (S .ordered) (S .listing) (omega (arith, t .loop-test .taken)) (w .4 .ensures)))
+    (λ w. at-place (w .6) (ordered-waits (S .ordered) (S .worklist) (omega (arith, t .loop-test .taken)) (w .4 .ensures)))
     (λ w. at-place (w .2) (record { place = w .0 .left; flag = scan-at c .scan .ensures .flag (w .0 .left) }))
     (c .if1 .came)
 
@@ -132,7 +132,7 @@ take-out-requires c κs =
     let J = c .before .before .before in
     let t = turn (scan-at J) in
     let S = t .before .loop .inv .searching in
-    record { arranged = ordered-arranged (S .ordered) (room (t .before)); listing = S .listing; waits = waits J }
+    record { arranged = ordered-arranged (S .ordered) (room (t .before)); worklist = S .worklist; waits = waits J }
 
 sub-relax-into : tie.Need-sub-relax-into Inv-loop μ-loop
 sub-relax-into c = omega (arith, turn (scan-at (found-at (c .before .before .before .before))) .loop-test .taken)

@@ -6,7 +6,7 @@ use Prim.Native.Nat.{ℕ, _+_, _*_, _≤_, _<_}
 use native.Mathlib.Omega.{arith}
 use lib.Dec.{lit≤}
 use lib.ListN.{length}
-use Rattle.bounds.specs.Bounds.{floorNumbers}
+use Rattle.bounds.specs.Sites.{floorNumbers}
 use Rattle.numbers.specs.Numbers.{count, numberAt}
 use Rattle.numbers.proofs.Columns.{member-below}
 use Rattle.packed.specs.Part.{put}

@@ -6,7 +6,7 @@ use mathlib.Core.Path.{_≡_, refl, _∙_}
 use Prim.Native.Nat.{_-_, _≤_}
 use native.Mathlib.Omega.{arith}
 use lib.ListN.{length}
-use Rattle.bounds.specs.Bounds.{floorNumbers}
+use Rattle.bounds.specs.Sites.{floorNumbers}
 use Rattle.numbers.specs.Numbers.{items}
 use Rattle.call.specs.Deliver.{slices}
 use Rattle.call.specs.Host.{Slices}

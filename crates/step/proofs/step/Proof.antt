@@ -8,7 +8,7 @@ use native.Mathlib.Omega.{arith}
 use Prim.Native.Nat.{ℕ}
 use lib.Seq.{length-take-le}
 use Rattle.network.specs.Network.{Network}
-use Rattle.network.specs.Resources.{rooms}
+use Rattle.network.specs.Resources.{resourceCapacities}
 use Rattle.method.specs.Choice.{Choice, usedBy}
 use Rattle.method.specs.Iteration.{draw}
 use Rattle.tables.specs.Calls.{Loading}
@@ -75,7 +75,7 @@ abbrev start-of : tie.After-load → tie.Start
 start-of c = entry (draw-at (keep-at (push-at c)))
 
 -- The slices of the capacities and of the path hold what the definitions say, so that the draw is the method's.
-drawn : (f : tie.After-draw) → f .draw .result ≡ draw (rooms (net-of (entry f))) (usedBy (net-of (entry f)) (chosen (entry f)))
+drawn : (f : tie.After-draw) → f .draw .result ≡ draw (resourceCapacities (net-of (entry f))) (usedBy (net-of (entry f)) (chosen (entry f)))
 drawn f = let s = entry f in f .draw .ensures ∙ ap₂ draw (s .pre .caps-are) (s .pre .path-is)
 
 loaded : (c : tie.After-load) → let k = keep-at (push-at c) in let s = start-of c in

@@ -8,7 +8,7 @@ use native.Mathlib.Omega.{arith}
 use lib.ListN.{length, getD}
 use Rattle.bounds.specs.Bounds.{mostNodes, mostCommodities}
 use Rattle.network.specs.Network.{Network, commodities, source, sink}
-use Rattle.network.specs.Resources.{nodeLength}
+use Rattle.network.specs.Onward.{nodeLength}
 use Rattle.packed.specs.Packed.{part, netIn, sourcesFrom, sinksFrom}
 use Rattle.packed.proofs.Columns.{commodities-is, part-at, part-length}
 use Rattle.index.specs.Index.{indexNumbers}

@@ -7,7 +7,7 @@ use mathlib.Core.Option.{some}
 use Prim.Native.Nat.{ℕ}
 use borrow.Author.Tests.{not-true, not-false}
 use borrow.Author.Needs.{needs}
-use Rattle.arith.specs.Lists.{same}
+use Rattle.arith.specs.Same.{same}
 use Rattle.lines.specs.Meaning.{word, shaped, given}
 use Rattle.lines.specs.Number.{numberOf}
 use Rattle.lines.specs.Pieces.{wordsOf}

@@ -6,7 +6,7 @@ use native.Mathlib.Omega.{arith}
 use lib.ListN.{getD}
 use borrow.Author.Needs.{needs}
 use Rattle.paths.proofs.Enlisting.{met-came, met-stayed}
-use Rattle.paths.proofs.Listings.{listing-within}
+use Rattle.paths.proofs.Worklists.{worklist-within}
 use Rattle.page.proofs.list.enlist.Statement.{statement}
 use Rattle.page.proofs.list.enlist.Tie as tie
 
@@ -29,4 +29,4 @@ returns c =
 pub enlist-spec : {M : Type 1} → statement M
 enlist-spec =
     tie.close (tie.spec (λ c. search needs) (λ c. search needs) (λ c. search needs) (λ c. search needs) (λ c. rises (c .before) .0)
-    (λ c. let s = entry (c .before) in omega (arith, rises (c .before), s .good, listing-within (s .pre .0), s .pre .0 .room)) (λ c. search needs) returns)
+    (λ c. let s = entry (c .before) in omega (arith, rises (c .before), s .good, worklist-within (s .pre .0), s .pre .0 .room)) (λ c. search needs) returns)

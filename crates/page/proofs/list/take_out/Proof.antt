@@ -13,7 +13,7 @@ place : (s : tie.Start) → orderFrom + s .args .at < length (s .args .page .now
 place s = omega (arith, s .pre .arranged .room, s .pre .waits .place)
 
 flag : (s : tie.Start) → nodeAt (s .args .page .now) (s .args .at) < length (s .args .listed .now)
-flag s = omega (arith, s .pre .arranged .nodes (s .args .at) (s .pre .waits .place), s .pre .listing .room)
+flag s = omega (arith, s .pre .arranged .nodes (s .args .at) (s .pre .waits .place), s .pre .worklist .room)
 
 add-v : tie.Need-add-v
 add-v c = omega (arith, c .good, place c)
@@ -33,7 +33,7 @@ slice-write-listed c = flag (c .before)
 returns : tie.Need-returns
 returns c =
     let P = c .before .pre in
-    taken-out (P .listing) _ (P .arranged .nodes _ (P .waits .place)) (P .waits .flag)
+    taken-out (P .worklist) _ (P .arranged .nodes _ (P .waits .place)) (P .waits .flag)
 
 pub take-out-spec : {M : Type 1} → statement M
 take-out-spec =

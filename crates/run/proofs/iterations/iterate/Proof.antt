@@ -17,7 +17,7 @@ use Rattle.method.specs.Choice.{Choice, choice}
 use Rattle.method.specs.Iteration.{State}
 use Rattle.method.proofs.Ends.{underway-reached}
 use Rattle.method.proofs.Reached.{Reached}
-use Rattle.choice.specs.Calls.{roomsFrom}
+use Rattle.choice.specs.Calls.{resourceCapacitiesFrom}
 use Rattle.choice.specs.Chose.{Picked}
 use Rattle.step.specs.Progress.{stateIn}
 use Rattle.step.specs.Steps.{chosenIn, Stepping}
@@ -88,7 +88,7 @@ step-requires c κs =
       counted = a .counted;
       few = omega (arith, a .counted, a .sound .counts .of-resources);
       places = s .pre .0 .tables;
-      caps-are = ap (λ n. part roomsFrom n (now (s .args .indexes))) (a .counted) ∙ s .pre .0 .indexed .rooms;
+      caps-are = ap (λ n. part resourceCapacitiesFrom n (now (s .args .indexes))) (a .counted) ∙ s .pre .0 .indexed .capacities;
       arcs-first = omega (arith, picked f .some-more, length-take-le (f .choose .result .used) (path f) (room f));
       path-is = uses;
       stepping =

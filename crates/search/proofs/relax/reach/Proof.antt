@@ -8,7 +8,7 @@ use lib.ListN.{length, getD}
 use borrow.Author.Needs.{needs}
 use Rattle.bounds.specs.Bounds.{mostNodes}
 use Rattle.network.specs.Path.{leads}
-use Rattle.network.specs.Resources.{nodeLength}
+use Rattle.network.specs.Onward.{nodeLength}
 use Rattle.packed.specs.Packed.{netIn}
 use Rattle.index.specs.Index.{endsFrom, arcAt, endAt}
 use Rattle.network.proofs.Leads.{leads-from}
@@ -102,7 +102,7 @@ enlist-requires : tie.Need-enlist-requires
 unfolding netIn
 enlist-requires c κs =
     let s = entry (looked-at (c .before .before .before)) in
-    (s .pre .searching .listing, leads-from _ _ _ _ (arc s) (s .pre .searching .fit .ends))
+    (s .pre .searching .worklist, leads-from _ _ _ _ (arc s) (s .pre .searching .fit .ends))
 
 returns-2 : tie.Need-returns-2
 unfolding netIn

@@ -7,7 +7,7 @@ use native.Mathlib.Nat.{le-refl}
 use native.Mathlib.Omega.{arith}
 use lib.ListN.{length, getD}
 use Rattle.network.specs.Network.{Network}
-use Rattle.network.specs.Resources.{nodeLength}
+use Rattle.network.specs.Onward.{nodeLength}
 use Rattle.packed.specs.Packed.{netIn}
 use Rattle.index.specs.Index.{begins}
 use Rattle.paths.specs.Far.{far}

@@ -6,7 +6,7 @@ use mathlib.Core.Path.{_≡_, refl, ap, _∙_}
 use Prim.Native.Nat.{_+_, _*_, _-_, _≤_, _<_}
 use native.Mathlib.Nat.{le-antisymm}
 use native.Mathlib.Omega.{arith}
-use Rattle.bounds.specs.Bounds.{floorNumbers}
+use Rattle.bounds.specs.Sites.{floorNumbers}
 use Rattle.numbers.specs.Numbers.{count}
 use Rattle.numbers.proofs.Columns.{member-below}
 use Rattle.site.specs.Parts.{begins}

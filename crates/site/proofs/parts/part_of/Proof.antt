@@ -4,7 +4,7 @@ use denote.Ref.{now}
 use mathlib.Core.Path.{_≡_, ap, ap₂, _∙_}
 use Prim.Native.Nat.{ℕ, min, _+_, _*_, _-_, _≤_, _<_}
 use native.Mathlib.Omega.{arith}
-use Rattle.bounds.specs.Bounds.{floorNumbers}
+use Rattle.bounds.specs.Sites.{floorNumbers}
 use Rattle.numbers.specs.Numbers.{count}
 use Rattle.numbers.proofs.Columns.{member-below}
 use Rattle.site.specs.Parts.{begins, numbersIn}

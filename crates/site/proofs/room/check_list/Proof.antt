@@ -6,7 +6,7 @@ use mathlib.Core.Path.{_≡_, ap, ap₂, _∙_}
 use Prim.Native.Nat.{_*_}
 use native.Mathlib.Omega.{arith}
 use lib.Dec.{ltb}
-use Rattle.bounds.specs.Bounds.{mostNetworks, floorNumbers}
+use Rattle.bounds.specs.Sites.{mostNetworks, floorNumbers}
 use Rattle.network.specs.Verdict.{outside}
 use Rattle.network.proofs.First.{decides, passes, none-left}
 use Rattle.numbers.specs.Numbers.{items}

@@ -9,13 +9,13 @@ use native.Mathlib.Omega.{arith}
 use lib.ListN.{length}
 use Rattle.bounds.specs.Bounds.{mostArcs}
 use Rattle.network.specs.Network.{Network}
-use Rattle.network.specs.Resources.{resources, rooms}
+use Rattle.network.specs.Resources.{resources, resourceCapacities}
 use Rattle.packed.specs.Packed.{part, netIn, lengthsIn, loadsIn, keptIn, loadsFrom, tableNumbers}
 use Rattle.packed.proofs.Columns.{part-length}
 use Rattle.method.specs.Iteration.{initial}
 use Rattle.method.proofs.Guaranteed.{always}
 use Rattle.method.proofs.Reached.{reached-start}
-use Rattle.choice.specs.Calls.{roomsFrom}
+use Rattle.choice.specs.Calls.{resourceCapacitiesFrom}
 use Rattle.choice.specs.Chose.{Picked, Chose}
 use Rattle.run.specs.Runs.{Chooses}
 use Rattle.run.proofs.Chosen.{choosing}
@@ -96,8 +96,8 @@ loaded c =
     part-length loadsFrom (start-of c .args .s .resources) (tables c) (omega (arith, few c, room c)) ∙ start-of c .pre .0 .lent .counted
 
 -- The part of the slice of indexes that is lent has the capacities of the resources.
-caps-are : (c : tie.After-run) → let s = start-of c in part roomsFrom (s .args .s .resources) (now (s .args .indexes)) ≡ rooms (net s)
-caps-are c = let s = start-of c in ap (λ n. part roomsFrom n (now (s .args .indexes))) (s .pre .0 .lent .counted) ∙ s .pre .0 .indexed .rooms
+caps-are : (c : tie.After-run) → let s = start-of c in part resourceCapacitiesFrom (s .args .s .resources) (now (s .args .indexes)) ≡ resourceCapacities (net s)
+caps-are c = let s = start-of c in ap (λ n. part resourceCapacitiesFrom n (now (s .args .indexes))) (s .pre .0 .lent .counted) ∙ s .pre .0 .indexed .capacities
 
 -- The end of that part is within the slice.
 add-answer : tie.Need-add-answer

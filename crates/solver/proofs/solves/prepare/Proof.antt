@@ -6,8 +6,8 @@ use Prim.Native.Nat.{ℕ, _≤_}
 use native.Mathlib.Omega.{arith}
 use lib.ListN.{replicate}
 use Rattle.bounds.specs.Bounds.{mostArcs}
-use Rattle.network.proofs.Resources.{rooms-length}
-use Rattle.network.proofs.Sounds.{sound-ends, room-within}
+use Rattle.network.proofs.Resources.{resource-capacities-length}
+use Rattle.network.proofs.Sounds.{sound-ends, resource-capacity-within}
 use Rattle.method.specs.Iteration.{initial, weight}
 use Rattle.packed.specs.Packed.{part, put, netIn, lengthsFrom, loadsFrom, keptFrom}
 use Rattle.packed.proofs.Columns.{part-length, commodities-is}
@@ -51,12 +51,12 @@ start-requires c κs =
     let T = now (s .args .tables) in
     subst (λ caps. Startable caps (part lengthsFrom (m s) T)) (sym (s .pre .caps-are))
     (record {
-      same = part-length lengthsFrom (m s) T (omega (arith, few s, s .pre .tabled)) ∙ (a .counted ∙ sym (rooms-length net));
-      arcs = omega (arith, rooms-length net, a .sound .counts .of-resources);
+      same = part-length lengthsFrom (m s) T (omega (arith, few s, s .pre .tabled)) ∙ (a .counted ∙ sym (resource-capacities-length net));
+      arcs = omega (arith, resource-capacities-length net, a .sound .counts .of-resources);
       sizes =
           record {
-            least = λ e l. room-within net (s .args .q) (a .sound) e (omega (arith, rooms-length net)) .least;
-            most = λ e l. room-within net (s .args .q) (a .sound) e (omega (arith, rooms-length net)) .most;
+            least = λ e l. resource-capacity-within net (s .args .q) (a .sound) e (omega (arith, resource-capacities-length net)) .least;
+            most = λ e l. resource-capacity-within net (s .args .q) (a .sound) e (omega (arith, resource-capacities-length net)) .most;
           };
     })
 

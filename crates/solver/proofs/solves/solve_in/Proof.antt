@@ -4,7 +4,7 @@ use mathlib.Core.Path.{ap, _∙_}
 use native.Mathlib.Omega.{arith}
 use Rattle.network.proofs.Sounds.{sound-ends}
 use Rattle.packed.specs.Packed.{part, netIn}
-use Rattle.choice.specs.Calls.{roomsFrom}
+use Rattle.choice.specs.Calls.{resourceCapacitiesFrom}
 use Rattle.solver.proofs.solves.solve_in.Statement.{statement}
 use Rattle.solver.proofs.solves.solve_in.Tie as tie
 
@@ -37,7 +37,7 @@ prepare-requires c κs =
     let index = c .before .before .before .before .before .before .before in let s = entry index in let p = s .pre in
     record {
       lent = p .lent;
-      caps-are = ap (λ n. part roomsFrom n (index .index-all .last .1 .1 .0)) (p .lent .counted) ∙ index .index-all .ensures .rooms;
+      caps-are = ap (λ n. part resourceCapacitiesFrom n (index .index-all .last .1 .1 .0)) (p .lent .counted) ∙ index .index-all .ensures .capacities;
       flows = p .flows;
       tabled = p .tabled;
       memorised = p .memorised;
@@ -57,6 +57,9 @@ outcome-requires c κs =
       prepare .prepare .ensures,
     )
 
+same-length : tie.Need-same-length
+same-length c = index-at (prepare-at (outcome-at c)) .index-all .kept .1 .1 .0
+
 same-length-2 : tie.Need-same-length-2
 same-length-2 c = let o = outcome-at c in o .outcome .kept .1 .1 .1 .1 .0 ∙ prepare-at o .prepare .kept .1 .1 .1 .1 .0
 
@@ -68,5 +71,5 @@ same-length-4 c = let o = outcome-at c in o .outcome .kept .1 .1 .1 .1 .1 .1 .0 
 
 pub solve-in-spec : {M : Type 1} → statement M
 solve-in-spec =
-    tie.close (tie.spec index-all-requires (λ c. search needs) (λ c. search needs) (λ c. search needs) (λ c. search needs) prepare-requires outcome-requires (λ c. search needs) same-length-2
+    tie.close (tie.spec index-all-requires (λ c. search needs) (λ c. search needs) (λ c. search needs) (λ c. search needs) prepare-requires outcome-requires same-length same-length-2
     same-length-3 same-length-4 (λ c. search needs) (λ c. search needs))

@@ -1,4 +1,4 @@
--- `index::rooms` meets its contract: the capacities come first, and the limits behind them.
+-- `index::resource_capacities` meets its contract: the capacities come first, and the limits behind them.
 -- Assumes nothing.
 use borrow.Author.Needs.{needs}
 use denote.Ref.{now}
@@ -8,8 +8,8 @@ use lib.ListN.{take}
 use Rattle.network.proofs.Resources.{arcs-le}
 use Rattle.packed.specs.Packed.{netIn}
 use Rattle.packed.proofs.Columns.{arcs-is, capacities-length}
-use Rattle.index.proofs.rooms.Statement.{statement}
-use Rattle.index.proofs.rooms.Tie as tie
+use Rattle.index.proofs.resource_capacities.Statement.{statement}
+use Rattle.index.proofs.resource_capacities.Tie as tie
 
 copy-requires : tie.Need-copy-requires
 unfolding netIn
@@ -27,7 +27,7 @@ append-limits-requires c κs =
       capacities = ap (λ n. take n (C .copy .last .1 .0)) (sym (capacities-length (p .packed) ∙ arcs-is (p .packed))) ∙ C .copy .ensures;
     }
 
-pub rooms-spec : {M : Type 1} → statement M
-rooms-spec =
+pub resource-capacities-spec : {M : Type 1} → statement M
+resource-capacities-spec =
     tie.close (tie.spec (λ c. search needs) (λ c. search needs) (λ c. search needs) (λ c. search needs) copy-requires
     append-limits-requires (λ c. search needs) (λ c. search needs))

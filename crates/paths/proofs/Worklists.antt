@@ -10,11 +10,11 @@ use lib.ListN.{getD, replicate, length-replicate, getD-replicate}
 use Rattle.arith.specs.Sum.{sum}
 use Rattle.arith.proofs.Order.{le-or-lt}
 use Rattle.arith.proofs.Sums.{sum-cong, sum-zero, sum-const, sum-le, sum-lt}
-use Rattle.paths.specs.Listing.{Listing}
+use Rattle.paths.specs.Worklist.{Worklist}
 
 -- Zeros are an empty list.
-pub listing-zeros : (n size : ℕ) → n < size → Listing n (replicate size 0) 0
-listing-zeros n size b =
+pub worklist-zeros : (n size : ℕ) → n < size → Worklist n (replicate size 0) 0
+worklist-zeros n size b =
     record {
       room = omega (arith, length-replicate {A = ℕ} size 0);
       flags = λ v c. omega (arith, zeros v c);
@@ -34,10 +34,10 @@ some-summand (suc n) f h =
     (λ (b : f n < 1). let (i, c, g) = some-summand n f (omega arith) in (i, omega arith, g))
     (le-or-lt 1 (f n))
 
-module _ {n : ℕ} {listed : List ℕ} {size : ℕ} (L : Listing n listed size) where
+module _ {n : ℕ} {listed : List ℕ} {size : ℕ} (L : Worklist n listed size) where
   -- There are no more on it than nodes.
-  pub listing-within : size ≤ n
-  listing-within =
+  pub worklist-within : size ≤ n
+  worklist-within =
       omega (
         arith,
         L .count,
@@ -46,17 +46,17 @@ module _ {n : ℕ} {listed : List ℕ} {size : ℕ} (L : Listing n listed size) 
       )
 
   -- A flag is 0 or 1.
-  pub listing-flag : (v : ℕ) → v ≤ n → (getD listed v 0 ≡ 0 → ⊥) → getD listed v 0 ≡ 1
-  listing-flag v b h =
+  pub worklist-flag : (v : ℕ) → v ≤ n → (getD listed v 0 ≡ 0 → ⊥) → getD listed v 0 ≡ 1
+  worklist-flag v b h =
       ⊎-elim
       (λ (q : 0 ≡ getD listed v 0). absurd (h (sym q)))
       (λ (c : 0 < getD listed v 0). omega (arith, L .flags v b))
       (eq-or-lt-of-le (omega arith))
 
   -- On an empty list there is no node,
-  pub listing-none : size ≤ 0 → (v : ℕ) → (1 ≤ v) × (v ≤ n) → getD listed v 0 ≡ 0
-  listing-none q zero node = absurd (omega arith)
-  listing-none q (suc k) node =
+  pub worklist-none : size ≤ 0 → (v : ℕ) → (1 ≤ v) × (v ≤ n) → getD listed v 0 ≡ 0
+  worklist-none q zero node = absurd (omega arith)
+  worklist-none q (suc k) node =
       ⊎-elim
       (λ (h : 0 ≡ getD listed (suc k) 0). sym h)
       (λ (h : 0 < getD listed (suc k) 0). absurd (omega (
@@ -68,7 +68,7 @@ module _ {n : ℕ} {listed : List ℕ} {size : ℕ} (L : Listing n listed size) 
       (eq-or-lt-of-le (omega arith))
 
   -- and on any other there is one.
-  pub listing-some : 0 < size → (v : ℕ) × ((1 ≤ v) × (v ≤ n)) × (1 ≤ getD listed v 0)
-  listing-some h =
+  pub worklist-some : 0 < size → (v : ℕ) × ((1 ≤ v) × (v ≤ n)) × (1 ≤ getD listed v 0)
+  worklist-some h =
       let (i, b, g) = some-summand n (λ i. getD listed (suc i) 0) (omega (arith, L .count)) in
       (suc i, (omega arith, b), g)
