@@ -146,7 +146,7 @@ fn page() {
 // "Turned down", and an incomplete last pair, which is not read.
 fn refusals() {
     let a = arc(1, 2, 5);
-    run(b"one usedAt:", 1, 4, [a, a], 2, &[1, 2]);
+    run(b"one station:", 1, 4, [a, a], 2, &[1, 2]);
     run(b"no belt:", 2, 4, [a, a], 0, &[1, 2]);
     run(b"no pair:", 2, 4, [a, a], 1, &[1]);
     run(b"short tables:", 2, 4, [a, a], 2, &[1, 2, 1, 2, 1, 2]);
@@ -179,8 +179,8 @@ fn at_the_end(name: &[u8], limit: u64) {
 }
 
 fn limited() {
-    at_the_end(b"a usedAt of 3:", 3);
-    at_the_end(b"a usedAt of 1001:", 1001);
+    at_the_end(b"a station of 3:", 3);
+    at_the_end(b"a station of 1001:", 1001);
 }
 
 fn main() {
