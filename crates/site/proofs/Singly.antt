@@ -7,15 +7,12 @@ use native.Mathlib.Omega.{arith}
 use lib.ListN.{length, drop, length-append}
 use Rattle.network.specs.Network.{Network}
 use Rattle.network.specs.Refusal.{hostNumber}
-use Rattle.network.specs.Verdict.{verdict}
-use Rattle.network.specs.declared.Verdict.the-variants.{Accepted}
 use Rattle.numbers.specs.Digits.{toBytes}
 use Rattle.numbers.specs.Numbers.{count, numberAt}
 use Rattle.numbers.proofs.Digits.{length-digits}
 use Rattle.packed.specs.Part.{part, put}
 use Rattle.packed.proofs.Columns.{part-length}
 use Rattle.packed.proofs.Replaced.{length-kept, part-early, part-late, drop-kept}
-use Rattle.network.proofs.HostNumber.{zero-accepted}
 use Rattle.call.specs.Host.{Slices, verdictIn, called, Served, Hosted}
 use Rattle.call.proofs.Equal.{same-slices}
 use Rattle.call.proofs.Hosts.{result-fits}
@@ -28,6 +25,7 @@ use Rattle.site.specs.Turns.{Guaranteed}
 use Rattle.site.proofs.Eight.{seven-of, returned-read, answer-left}
 use Rattle.site.proofs.Listed.{listed}
 use Rattle.site.proofs.Shared.{own-early, own-late, own-behind}
+use Rattle.site.proofs.Sites.{site-answered}
 
 -- The contract of a floor's own call, with each slice in another form.
 moved :
@@ -138,6 +136,5 @@ module _ (t : Site) (old : Slices) (room : 8 * networks t ≤ count (old .answer
 -- A call that returned 0.
 pub singly : {t : Site} {old new : Slices} {r : ℕ} → Sited t old new r → r ≡ 0 → Singly t old new
 singly {t} {old} {new} s e =
-    let v = verdict (listConditions (t .floors) (old .answer)) in
-    let a : v ≡ Accepted = zero-accepted v (sym (s .returned) ∙ e) in
+    let a = site-answered t old s e in
     subst (Singly t old) (sym (s .left ∙ taken-up a (sent t old (networks t)) old)) (of-sent t old (listed (t .floors) (old .answer) a .room) (s .guarantee a))

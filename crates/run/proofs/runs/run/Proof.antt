@@ -2,8 +2,9 @@
 -- Assumes nothing.
 use borrow.Author.Needs.{needs}
 use denote.Ref.{now}
-use mathlib.Core.Path.{refl, _∙_}
+use mathlib.Core.Path.{refl, ap, _∙_}
 use native.Mathlib.Omega.{arith}
+use Rattle.length.specs.Level.{threshold}
 use Rattle.network.specs.Network.{Network}
 use Rattle.network.proofs.Sounds.{resources-within}
 use Rattle.packed.specs.Packed.{netIn}
@@ -44,7 +45,7 @@ loop-holds c =
     let a = s .pre .0 .lent in (
       begin-running (c .begin .ensures) (a .sound) (s .pre .1 .start) (s .pre .1 .chooses),
       (
-        begin-noted (c .begin .ensures) (s .pre .1 .weight) (rw (a .counted) at (c .before .threshold .ensures)),
+        begin-noted (c .begin .ensures) (s .pre .1 .weight) (c .before .threshold .ensures ∙ ap (λ m. threshold m (s .args .q)) (a .counted)),
         (s .pre .1 .memory-of, record { flows = refl; tabled = refl; memorised = refl; paths = refl }),
       ),
     )
