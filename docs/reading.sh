@@ -7,8 +7,8 @@ page=docs/READING.md
 row='^\| `([a-z_]+/specs/[A-Za-z]+\.antt)` \| [0-9]+ \|'
 lines() { grep -vcE '^[[:space:]]*(--|use |$)' "crates/$1"; }
 
-# Six such lines stand in Run and Guarantee, all of Bounds and Fits are.
-named=6 sum=0 sums=()
+# Two such lines stand in Guarantee, all of Bounds and Fits are.
+named=2 sum=0 sums=()
 while read -r file; do
     count=$(lines "$file") sum=$((sum + count))
     case $file in bounds/specs/Bounds.antt | method/specs/Fits.antt) named=$((named + count)) ;; esac

@@ -93,7 +93,7 @@ fn judge_all() -> ExitCode {
 
 fn cases() -> Vec<Case> {
     let case = |name, slip, net, q, breaks, fact| Case { name, slip, net, q, breaks, fact };
-    let over: [&[&str]; 2] = [&["capacities"], &["capacities", "V above B"]];
+    let over: [&[&str]; 2] = [&["keeps"], &["keeps", "V above B"]];
     vec![
         case("start rounded down", Slip::StartDown, one_belt(3), 4, &[], scaled),
         case("growth rounded down", Slip::GrowthDown, two_feeders(), 16, &SHARES, lower),
@@ -152,7 +152,7 @@ fn broken(run: &Run) -> Vec<&'static str> {
     let mut loads = run.net.arcs.iter().zip(&run.loads);
     let over = loads.any(|(arc, y)| wide(*y) * wide(upper) > wide(arc.capacity) * wide(lower));
     let near = shares(run.q).map(|(name, share)| (name, !reaches(v, share, b)));
-    let first = [("capacities", over), ("V above B", v > b)];
+    let first = [("keeps", over), ("V above B", v > b)];
     let promises = first.into_iter().chain(near).chain([("count", run.iterations > m * run.mark)]);
     promises.filter(|(_, broken)| *broken).map(|(name, _)| name).collect()
 }
@@ -190,7 +190,7 @@ fn within(run: &Run) -> Fact {
     let (b, (upper, lower)) = (run.fullest(), run.scale());
     let (capacity, load) = (run.net.arcs[b].capacity, run.loads[b]);
     let says = format!(
-        "capacities: belt {} of {capacity} has load {load} and T = {}, so it carries {load} / {}",
+        "keeps: belt {} of {capacity} has load {load} and T = {}, so it carries {load} / {}",
         b + 1,
         run.mark,
         lower / upper
@@ -202,7 +202,7 @@ fn within(run: &Run) -> Fact {
 fn best(run: &Run) -> Fact {
     let (bound, least) = (run.bound(), run.least);
     let says = format!(
-        "best: choice {} met {} / {} = {}, choice {} gives {} / {} = {}",
+        "is-tightest: choice {} met {} / {} = {}, choice {} gives {} / {} = {}",
         least.iteration,
         least.weight,
         least.alpha,
