@@ -1,4 +1,4 @@
-// Document 01's bounds, each named once for the code. The definitions name the same numbers (specs/Bounds.antt); docs/WORKING.md says which step of
+// Document 01's bounds, each named once for the code. The definitions name the same numbers (in specs/); docs/WORKING.md says which step of
 // a proof stops each of them from growing.
 
 // Nodes. Document 01, "The floor and its flow".
