@@ -138,7 +138,7 @@ page=docs/METHOD.md
 while read -r title; do
     heading "$page" "$title" || fault "$page: lacks the section $title of document 01"
 done < <(git ls-files README.md bench crates docs examples include tests | grep -vE '^tests/listing/|\.(csv|max|svg)$' | while read -r file; do
-    unbroken "$file" | grep -oE "01('s [a-z]+)?, \"[A-Z][^\"]*\"" | cut -d'"' -f2
+    unbroken "$file" | grep -oE "01('s [a-z]+)?, \"[^\"]*\"" | cut -d'"' -f2
 done | sort -u)
 while read -r title; do
     heading "$page" "$title" || fault "docs/READING.md: $page has no section $title"

@@ -1,5 +1,5 @@
--- The kept fraction is the least of all: no iteration of the run met a smaller D / alpha (document 01, "the bound B").
--- Assumes nothing.
+-- The kept fraction is the least of all: no iteration of the run met a smaller D / alpha. It is
+-- the B of document 01, "One choice of route". Assumes nothing.
 use Prim.Native.Nat.{ℕ, _*_, _≤_}
 use native.Mathlib.Nat.{le-refl}
 use Rattle.packing.proofs.Fraction.{at-most-old, at-most-met}
