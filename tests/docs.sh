@@ -95,7 +95,9 @@ for note in docs/changes/*.md; do
     grep -qF "]($note)" README.md || fault "README.md: does not lead to $note"
 done
 
+citations=0
 while IFS=$'\t' read -r file kind words; do
+    citations=$((citations + 1))
     case $kind in
     page)
         name=${words%%.md*}.md target=
@@ -128,6 +130,7 @@ while IFS=$'\t' read -r file kind words; do
         ;;
     esac
 done < <(cited $(git ls-files 'crates/*.antt' 'crates/*.rt' 'crates/*.edit' README.md 'docs/*.md' | grep -v '^docs/changes/') | sort -u)
+[ "$citations" -gt 0 ] || fault "no citation was found"
 
 # Pages say what document 01 is by a link, and the class's own word for the greatest load ratio is met once.
 bare=$(grep -nE '[Dd]ocument 01|the mission' README.md docs/*.md | grep -v -e '^docs/METHOD.md:' -e 'METHOD\.md')
@@ -138,7 +141,7 @@ page=docs/METHOD.md
 while read -r title; do
     heading "$page" "$title" || fault "$page: lacks the section $title of document 01"
 done < <(git ls-files README.md bench crates docs examples include tests | grep -vE '^tests/listing/|\.(csv|max|svg)$' | while read -r file; do
-    unbroken "$file" | grep -oE "01('s [a-z]+)?, \"[A-Z][^\"]*\"" | cut -d'"' -f2
+    unbroken "$file" | grep -oE "01('s [a-z]+)?, \"[^\"]*\"" | cut -d'"' -f2
 done | sort -u)
 while read -r title; do
     heading "$page" "$title" || fault "docs/READING.md: $page has no section $title"
@@ -176,5 +179,5 @@ for contract in call/specs/Host whole/specs/Whole site/specs/Site dimacs/specs/R
     case $read_so_far in *" $contract.antt "*) ;; *) fault "$page: lacks $contract" ;; esac
 done
 
-echo "docs: $(wc -w <<<"$read_so_far") definition files, $(grep -c '^| [0-9]' docs/METHOD.md) refusals; $faults faults"
+echo "docs: $(wc -w <<<"$read_so_far") definition files, $(grep -c '^| [0-9]' docs/METHOD.md) refusals, $citations citations; $faults faults"
 [ "$faults" -eq 0 ]

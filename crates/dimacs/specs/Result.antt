@@ -41,8 +41,8 @@ resultOf (refused r) =
       capacities = replicate mostArcs 0;
     }
 
--- Document 01's number and place of what a file comes to: 0 and 0, or the refusal's. They are not put
--- into one number as a host call does: line 1,000 of a file would then be told as a long file is.
+-- Document 01's number and place of what a file comes to: 0 and 0, or the refusal's. They are not
+-- joined as a host call joins them: line 1,000 of a file and a long file would be one number.
 unfoldable pub fileCode : File → Code
 fileCode (holds net) = at 0 0
 fileCode (refused r) = refusalCode r

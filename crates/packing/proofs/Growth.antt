@@ -10,7 +10,7 @@ use Rattle.packing.proofs.PowerAtMost.{PowerAtMost, scale, power, weake
 use Rattle.packing.proofs.Euler.{euler}
 use Rattle.packing.proofs.Every.{every, every-at}
 
--- the test K at q = 4 + k
+-- the test at the precision q = 4 + k
 test : ℕ → Bool
 test k = leb (65 ^ 520 * (4 + k) ^ (8 * (4 + k) + 5)) (64 ^ 520 * (4 + k + 1) ^ (8 * (4 + k) + 5))
 
