@@ -33,8 +33,8 @@ abbrev μ-loop : tie.MeasureT-loop
 abbrev net : tie.Start Inv-loop μ-loop → Network
 net s = netIn (s .args .s) (now (s .args .net))
 
--- The table of L has a row for this many resources. It has one for this many arcs too, so that a mark
--- by the arcs fails not here but where it has to be the method's mark.
+-- The table of L has a row for this many resources. It has one for this many arcs too, so that a
+-- mark by the arcs fails not here but where it has to be the method's mark.
 threshold-requires : tie.Need-threshold-requires Inv-loop μ-loop
 threshold-requires c κs =
     let a = c .before .before .before .before .before .pre .0 .lent in
