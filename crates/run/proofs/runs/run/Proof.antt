@@ -8,6 +8,7 @@ use Rattle.length.specs.Level.{threshold}
 use Rattle.network.specs.Network.{Network}
 use Rattle.network.proofs.Sounds.{resources-within}
 use Rattle.packed.specs.Packed.{netIn}
+use Rattle.packed.proofs.Columns.{arcs-is}
 use Rattle.method.specs.Iteration.{State}
 use Rattle.memory.specs.Memory.{Memory}
 use Rattle.step.specs.Progress.{stateIn}
@@ -32,12 +33,16 @@ abbrev μ-loop : tie.MeasureT-loop
 abbrev net : tie.Start Inv-loop μ-loop → Network
 net s = netIn (s .args .s) (now (s .args .net))
 
+-- The table of L has a row for this many resources. It has one for this many arcs too, so that a
+-- mark by the arcs fails not here but where it has to be the method's mark.
 threshold-requires : tie.Need-threshold-requires Inv-loop μ-loop
 threshold-requires c κs =
     let a = c .before .before .before .before .before .pre .0 .lent in
     let k = resources-within _ _ (a .sound) in
+    let e = a .sound .counts .of-arcs in
+    let m = arcs-is (a .packed) in
     let p = a .sound .counts .precision in
-    (omega (arith, k .least, a .counted), omega (arith, k .most, a .counted), p .least, p .most)
+    (omega (arith, k .least, a .counted, e .least, m), omega (arith, k .most, a .counted, e .most, m), p .least, p .most)
 
 loop-holds : tie.Need-loop-holds Inv-loop μ-loop
 loop-holds c =
