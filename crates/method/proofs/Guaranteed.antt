@@ -10,8 +10,8 @@ use native.Mathlib.Nat.{mul-pos, mul-le-mul-right, le-of-mul-le-mul-left}
 use native.Mathlib.Omega.{arith}
 use borrow.Author.Tests.{leb-true}
 use lib.Dec.{leb, lit≤}
-use lib.IntN.{ℤ, pos}
-use lib.ListN.{getD, replicate}
+use lib.IntN.{ℤ}
+use lib.ListN.{getD}
 use Rattle.arith.proofs.Exists.{exists-true}
 use Rattle.length.specs.Level.{level, threshold}
 use Rattle.network.specs.Network.{Network, arcs, commodities, source}
@@ -27,7 +27,7 @@ use Rattle.packing.proofs.Count.{count-all}
 use Rattle.packing.proofs.Near.{near, near-two, near-share}
 use Rattle.packing.proofs.Health.{positive-alpha}
 use Rattle.packing.proofs.Run as packing
-use Rattle.method.specs.Answer.{fullest, amounts, unjoined, outcomeOf, outcome}
+use Rattle.method.specs.Answer.{fullest, unjoined, outcomeOf, outcome}
 use Rattle.method.specs.Choice.{Choice, choice}
 use Rattle.method.specs.Guarantee.{Guarantee}
 use Rattle.method.specs.Iteration.{State, initial, weight, advance, iteration}
@@ -155,25 +155,6 @@ module _ (net : Network) (q : ℕ) (sound : Sound net q) where
           absurd (none (f .choosing .commodity) (c .commodity) (f .choosing .path, c .path)),
     )
 
-    -- The scale by the fullest resource: sizes and uses are within the loads, and no load over capacity is greater.
-    scale-keeps : Keeps net (resourceCapacity net b) (getD (t .loads) b 0) (amounts net (t .flow))
-    scale-keeps =
-        keeping net (resourceCapacity net b) (getD (t .loads) b 0) (amounts net (t .flow))
-        (λ e l.
-        omega (
-          arith,
-          mul-le-mul-right (resourceCapacity net b) (valid .table .within e l),
-          full .greatest e (omega (arith, arcs-le net)),
-          ap (λ c. c * getD (t .loads) b 0) (resource-capacity-arc net e l),
-        ))
-        (λ v l h.
-        omega (
-          arith,
-          mul-le-mul-right (resourceCapacity net b) (valid .table .limits v h),
-          full .greatest (place net v) (omega (arith, place-high net v l h)),
-          ap (λ c. c * getD (t .loads) b 0) (resource-capacity-node net v l h),
-        ))
-
     final-guarantee :
         Sizes net t → run net q ≡ t → t ≡ nth net q (t .count) → ((j : ℕ) → j < t .count → ended net q (nth net q j) ≡ false) →
         Guarantee net q (outcomeOf net t)
@@ -184,7 +165,23 @@ module _ (net : Network) (q : ℕ) (sound : Sound net q) where
           flow = valid .table .flows;
           total = valid .table .carries;
           sources = λ i l. valid .table .sources i;
-          keeps = scale-keeps;
+          -- Sizes and uses are within the loads, and no load over capacity is greater than that of b.
+          keeps =
+              keeping net _ _ _
+              (λ e l.
+              omega (
+                arith,
+                mul-le-mul-right (resourceCapacity net b) (valid .table .within e l),
+                full .greatest e (omega (arith, arcs-le net)),
+                ap (λ c. c * getD (t .loads) b 0) (resource-capacity-arc net e l),
+              ))
+              (λ v l h.
+              omega (
+                arith,
+                mul-le-mul-right (resourceCapacity net b) (valid .table .limits v h),
+                full .greatest (place net v) (omega (arith, place-high net v l h)),
+                ap (λ c. c * getD (t .loads) b 0) (resource-capacity-node net v l h),
+              ));
           some-load = loaded;
           upper = upper;
           some-alpha = alpha-pos;
@@ -209,7 +206,7 @@ module _ (net : Network) (q : ℕ) (sound : Sound net q) where
         total = zero-carries net (commodities net * arcs net);
         sources = λ i l. in-zero net (commodities net * arcs net) i (source net i);
         keeps =
-            keeping net 1 1 (amounts net (replicate (commodities net * arcs net) (pos 0)))
+            keeping net _ _ _
             (λ e l. omega (arith, zero-sizes net (commodities net * arcs net) e))
             (λ v l h. omega (arith, zero-use net (commodities net * arcs net) v));
         some-load = omega arith;
