@@ -1,5 +1,6 @@
--- Document 01's worked runs, computed from the definitions: the figures of its listing and of "Run by a program", a run in which the number of belts
--- decides between equal routes, reversible belts, limited stations, an unjoined network, other precisions, and two belts that are the fullest.
+-- Document 01's worked runs, computed from the definitions: the figures of its listing and of "Run
+-- by a program", a run in which the number of belts decides between equal routes, reversible belts,
+-- limited stations, an unjoined network, other precisions, and two belts that are the fullest.
 -- Assumes nothing.
 use mathlib.Core.Path.{_≡_}
 use mathlib.Core.Bool.{Bool, true, _&&_}
@@ -123,7 +124,8 @@ rows =
       precision = 4;
       figures = 0 ∷ 1 ∷ 1 ∷ 0 ∷ 1 ∷ 0 ∷ 0 ∷ 0 ∷ 0 ∷ 0 ∷ [];
     } ∷
-    -- the finest precision: one belt of 5 takes T = 16 choices; the figures of this and the next two are a second solver's
+    -- the finest precision: one belt of 5 takes T = 16 choices; the figures of this and of the next
+    -- two are a second solver's
     record {
       network = net 2 (1 ∷ []) (2 ∷ []) (5 ∷ []) (1 ∷ []) (2 ∷ []);
       precision = 16;

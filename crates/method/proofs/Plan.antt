@@ -1,4 +1,5 @@
--- V is at most B: the plan itself is one of the flows that `upper` speaks of, so both halves of the guarantee are about the same flows.
+-- V is at most B: the plan itself is one of the flows that `upper` speaks of, so both halves of the
+-- guarantee are about the same flows.
 -- Assumes nothing.
 use mathlib.Core.Path.{_≡_, ap}
 use Prim.Native.Nat.{ℕ, _+_, _*_, _≤_}

@@ -18,7 +18,8 @@ Unsigned64 xs = (j : ℕ) → getD xs j 0 < 2 ^ 64
 abbrev pub Signed64 : List ℤ → Type 0
 Signed64 xs = (j : ℕ) → size (getD xs j (pos 0)) < 2 ^ 63
 
--- k * m amounts, and a length for each resource. Lengths and the answer's numbers are below 2^64, and so are F * c(b) and the sizes on each arc times c(b).
+-- k * m amounts, and a length for each resource. Lengths and the answer's numbers are below 2^64,
+-- and so are F * c(b) and the sizes on each arc times c(b).
 pub record Fits (net : Network) (o : Outcome) : Type 0 where
   pub amounts-count : length (o .flow) ≡ commodities net * arcs net
   pub lengths-count : length (o .lengths) ≡ resources net

@@ -34,7 +34,8 @@ pub record Guarantee (net : Network) (q : ℕ) (o : Outcome) : Type 0 where
   pub closer : (4 * q - 7) * (o .answer .bound * o .answer .load) ≤ 4 * q * (o .answer .total * o .answer .capacity * o .answer .alpha)
   pub nearer :
       (8 * q - 9) * (o .answer .bound * o .answer .load) ≤ (8 * q + 5) * (o .answer .total * o .answer .capacity * o .answer .alpha)
-  -- The run is as many iterations as the answer counts. If there is one, the run ends by its own rule after the last, and not before.
+  -- The run has as many iterations as the answer counts. If any was made, the run ends by its own
+  -- rule after the last of them, and after none before.
   pub steps : run net q ≡ nth net q (o .answer .count)
   pub last : 0 < o .answer .count → ended net q (nth net q (o .answer .count)) ≡ true
   pub before : (j : ℕ) → j < o .answer .count → ended net q (nth net q j) ≡ false

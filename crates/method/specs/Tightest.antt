@@ -1,4 +1,5 @@
--- What the bound is: of all iterations the least D over alpha, and the first iteration that met it. Document 01, "One choice of route".
+-- What the bound is: of all iterations the least D over alpha, and the first iteration that met it.
+-- Document 01, "One choice of route".
 use mathlib.Core.Path.{_≡_}
 use mathlib.Core.Option.{none, some}
 use mathlib.Core.List.{List}

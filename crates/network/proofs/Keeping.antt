@@ -1,4 +1,5 @@
--- To keep the capacities and the limits is no more than the two inequalities: a flow that meets them is one that `upper` speaks of.
+-- `Keeps` asks for no more than its two inequalities. A definition that asked for more would make
+-- the bound on every flow a bound on fewer; it fails here.
 -- Assumes nothing.
 use mathlib.Core.Path.{_≡_}
 use mathlib.Core.Bool.{true}

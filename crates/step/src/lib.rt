@@ -70,8 +70,9 @@ fn count(p: Progress, g: u64, better: bool, alpha: u64, grown: Grown, ended: boo
     }
 }
 
-// The iteration that draws along the path that was selected. What it uses stands in path, its arcs first, and capacities has those of the resources.
-// Only these resources are looked at, unless the lengths are kept or halved.
+// The iteration that draws along the path that was selected. What it uses stands in path, its arcs
+// first, and capacities has those of the resources. Only what the path uses is looked at, unless the
+// lengths are kept or halved.
 pub fn step(
     s: Shape,
     q: u64,
