@@ -1,8 +1,10 @@
 #!/usr/bin/env bash
-# The pages agree with the tree: links lead to files and headings; a name with its file in brackets stands in that file; what pages and the comments of crates/ cite,
-# a page, a heading of it, a numbered step or a file of the tree, is there; docs/METHOD.md has every section of document 01 that is cited, every request that has
-# landed and every refusal; and docs/READING.md has every definition file that the contracts rest on, after those that it uses. What pages say of figures is for
-# tests/figures.sh. The notes of docs/changes say what was so when they were written: README leads to each.
+# The pages agree with the tree: links lead to files and headings; a name with its file in brackets stands in that
+# file; what pages and the comments of crates/ cite, a page, a heading of it, a numbered step or a file of the tree,
+# is there; docs/METHOD.md has every section of document 01 that is cited, every request that has landed and every
+# refusal; and docs/READING.md has every definition file that the contracts rest on, after those that it uses. What
+# pages say of figures is for tests/figures.sh. The notes of docs/changes say what was so when they were written:
+# README leads to each.
 set -u
 cd "$(dirname "$0")/.." || exit 2
 faults=0
@@ -14,7 +16,8 @@ kit() { sed -nE '/Rattle·/d; s/^use [A-Za-z.]+\.\{(.*)\}.*/\1/p' "$1" | tr ',' 
 # definition files that a file uses, but for the types declared in code
 uses() { sed -nE '/\.declared\./d; s/^use Rattle·([a-z_]+)(·specs)?\.(specs|proofs)\.([A-Za-z]+)\..*/\1\/\3\/\4.antt/p' "$1"; }
 
-# "FILE NAME" for each name in `name` (crate/proofs/File), `name`, `name` and `name` (all crate/proofs/File), and with a comma for the bracket
+# "FILE NAME" for each name in `name` (crate/proofs/File), `name`, `name` and `name` (all crate/proofs/File), and with
+# a comma for the bracket
 mentions() {
     tr '\n' ' ' <"$1" | sed 's/  */ /g' |
         grep -oE '(`[A-Za-z][A-Za-z-]*`(,| and| \(|;)? ?)+(both |all )?[a-z]+/(specs|proofs)/[A-Za-z]+' |
@@ -35,7 +38,8 @@ coded() {
         done
 }
 
-# What files cite, a line each: the file, what kind of thing, and the words. A page is cited with its heading and the steps below it, where they are named; a number
+# What files cite, a line each: the file, what kind of thing, and the words. A page is cited with its heading and the
+# steps below it, where they are named; a number
 # of a section or step that is of no other paper or page is of the page where it stands.
 cited() {
     awk '
