@@ -1,4 +1,6 @@
 // Laws of sums and powers; products past 64 bits, compared exactly.
+#![tactic(auto)]
+
 ghost use Rattle.std.specs.Prelude.{◌≡◌, ◌*◌, ltb};
 
 pub mod wide;

@@ -8,7 +8,7 @@ const BASE: u64 = 0x1_0000_0000;
 // How many limbs a number has. To hold larger numbers, raise this and the specification's width.
 const LIMBS: usize = 5;
 
-#[derive(Drop)]
+#[derive(Clone, Copy)]
 pub struct Wide {
     pub limbs: [u64; LIMBS],
 }

@@ -1,5 +1,6 @@
 // Document 01's bounds, each named once for the code. The definitions name the same numbers (in
 // specs/); docs/WORKING.md says which step of a proof stops each of them from growing.
+#![tactic(auto)]
 
 // Nodes. Document 01, "The floor and its flow".
 pub const LEAST_NODES: u64 = 2;

@@ -1,4 +1,6 @@
 // The path of an iteration: of all commodities the one whose sink is nearest to its source, and of its shortest paths with fewest arcs the first.
+#![tactic(auto)]
+
 mod lazy;
 
 ghost use Rattle.std.specs.Prelude.{length};

@@ -1,4 +1,6 @@
 // The network of a call, read out of its byte slices into one slice of numbers. Document 01, "The floor and its flow".
+#![tactic(auto)]
+
 ghost use Rattle.std.specs.Prelude.{◌≡◌, ◌≤◌};
 ghost use Rattle.network.specs.Given.{given};
 ghost use Rattle.numbers.specs.Numbers.{count, column};

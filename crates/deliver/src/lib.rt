@@ -1,4 +1,6 @@
 // An accepted call: the outcome written into the lent tables.
+#![tactic(auto)]
+
 ghost use Rattle.std.specs.Prelude.{◌≡◌, ◌+◌, ◌*◌, ◌≤◌, ◌<◌, ◌^◌};
 ghost use Rattle.bounds.specs.Bounds.{answer_numbers};
 ghost use Rattle.numbers.specs.Numbers.{count, written};

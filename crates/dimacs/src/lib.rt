@@ -1,4 +1,6 @@
 // The reader of the DIMACS maximum flow layout: from the bytes of a file to a network of one commodity, or a refusal.
+#![tactic(auto)]
+
 use bounds::MOST_ARCS;
 use lines::Maybe;
 use network::{Refusal, Verdict};
@@ -8,7 +10,7 @@ mod reader;
 pub use reader::read;
 
 // What the p line and the lines after it gave so far, beside the tables of arcs.
-#[derive(Drop)]
+#[derive(Clone, Copy)]
 pub struct Tally {
     pub nodes: u64,
     pub wanted: usize,
@@ -18,7 +20,7 @@ pub struct Tally {
 }
 
 // How far the reading of a file is: before its p line, past it, or turned down.
-#[derive(Drop)]
+#[derive(Clone, Copy)]
 pub enum Stage {
     Before,
     Past(Tally),
@@ -26,7 +28,7 @@ pub enum Stage {
 }
 
 // What a file holds. Of a refused file every number is 0.
-#[derive(Drop)]
+#[derive(Clone, Copy)]
 pub struct Parsed {
     pub verdict: Verdict,
     pub nodes: u64,

@@ -1,4 +1,6 @@
 // What every exported call that solves does, on byte slices: sizes and tables checked, then the call served with the office's own count. Document 01, "The floor and its flow".
+#![tactic(auto)]
+
 mod room;
 mod serve;
 

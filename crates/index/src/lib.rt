@@ -1,6 +1,8 @@
 // The index of the arcs at each node, the arcs of one node side by side in ascending order: a search goes through those into a node, a walk through those
 // out of it. A reversible arc is at both of its ends: here alone the code asks for marks. And the resources: which of them each node is, and their
 // capacities. Here alone the code asks for limits.
+#![tactic(auto)]
+
 ghost use Rattle.std.specs.Prelude.{◌≡◌, ◌∷◌, ◌+◌, ◌≤◌, length, get_or, take};
 ghost use Rattle.network.specs.Resources.{resource_capacities};
 ghost use Rattle.packed.specs.Packed.{net_in};

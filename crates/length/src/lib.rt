@@ -1,4 +1,6 @@
 // Lengths of arcs in whole numbers, and the level and threshold that end a run (document 01, "One choice of route").
+#![tactic(auto)]
+
 ghost use Rattle.std.specs.Prelude.{◌≡◌, ◌+◌, ◌^◌, ◌≤◌, ◌<◌, leb};
 ghost use Rattle.arith.specs.Ceiling.{ceil};
 ghost use Rattle.bounds.specs.Bounds.{most_arcs, most_capacity, least_precision, most_precision};
@@ -18,7 +20,7 @@ fn quotient(a: u64, b: u64) -> u64
 }
 
 // The length of an arc. Below the mark between iterations; growth and halving stay within the bounds of the proofs' `Size`.
-#[derive(Drop)]
+#[derive(Clone, Copy)]
 pub struct Length {
     pub value: u64,
 }
@@ -33,8 +35,8 @@ impl Length {
     // The length that an arc starts with.
     pub fn start(capacity: u64) -> Length
         requires { (1 ≤ capacity) × (capacity ≤ most_capacity) }
-        ensures value_value { result.value ≡ start capacity }
-        ensures* scale { do ⌜ (← (⟦Length::SCALE⟧).entry) ≡ scale ⌝ }
+        ensures value { result.value ≡ start capacity }
+        ensures scale { Length.SCALE ≡ scale }
     {
         Length {
             value: quotient(Length::SCALE, capacity),
@@ -65,7 +67,7 @@ impl Length {
     // Whether the length has reached the mark.
     pub fn marked(self) -> bool
         ensures value { result ≡ leb mark self.value }
-        ensures* mark { do ⌜ (← (⟦Length::MARK⟧).entry) ≡ mark ⌝ }
+        ensures mark { Length.MARK ≡ mark }
     {
         Length::MARK <= self.value
     }

@@ -1,5 +1,7 @@
 // The lengths of all resources: their start, their growth where a path uses them and their halving. Each hands back the bound's D of what it leaves, so that
 // none is summed apart.
+#![tactic(auto)]
+
 ghost use Rattle.std.specs.Prelude.{◌≡◌, cond, map};
 ghost use Rattle.length.specs.Length.{halving};
 ghost use Rattle.tables.specs.Tables.{weight_of};
@@ -26,7 +28,7 @@ pub fn start(capacities: &[u64], lengths: &mut [u64]) -> u64
 }
 
 // D of grown lengths, and whether some length is at the mark.
-#[derive(Drop)]
+#[derive(Clone, Copy)]
 pub struct Grown {
     pub weight: u64,
     pub marked: bool,

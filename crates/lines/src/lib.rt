@@ -1,4 +1,6 @@
 // The lines of a file in the DIMACS maximum flow layout: where a line ends, its words, and what it says.
+#![tactic(auto)]
+
 mod kinds;
 mod words;
 
@@ -6,7 +8,7 @@ pub use kinds::meaning;
 pub use words::scan;
 
 // What one line says.
-#[derive(Drop)]
+#[derive(Clone, Copy)]
 pub enum Line {
     Comment,
     Problem(u64, u64),
@@ -17,14 +19,14 @@ pub enum Line {
 }
 
 // A number that may be missing.
-#[derive(Drop)]
+#[derive(Clone, Copy)]
 pub enum Maybe {
     Missing,
     Given(u64),
 }
 
 // What a scan looks for: the end of a line, the end of a word, the start of a word.
-#[derive(Drop)]
+#[derive(Clone, Copy)]
 pub enum Stop {
     LineFeed,
     Blank,

@@ -1,5 +1,7 @@
 // The listing program: standard input to standard output. One byte more is read than a file may have, so that a long file is known as one.
 // A program of Rattle ends with status 0 whatever happens; ./list tells by the line on standard error that the listing is not whole.
+#![tactic(auto)]
+
 ghost use Rattle.std.specs.Prelude.{◌≡◌, length};
 
 use libc::{STDERR_FILENO, STDIN_FILENO, STDOUT_FILENO};

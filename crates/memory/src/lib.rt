@@ -1,4 +1,6 @@
 // What is remembered from choice to choice, in one slice: the bounds of the commodities, the one of least bound, and a page for each node, from node 0 on.
+#![tactic(auto)]
+
 pub mod pages;
 pub mod raise;
 

@@ -1,9 +1,11 @@
 // The method of Garg and Könemann in document 01's whole numbers: definitions and theorems in specs/ and proofs/. Its code is in the crates above.
+#![tactic(auto)]
+
 use network::Refusal;
 
 // The answer. Document 01, "One choice of route": drawn total F, capacity c(b) and load Y(b) of the fullest resource, the bound's D and alpha, the
 // count of iterations, and which of them, from 1, gave the bound.
-#[derive(Drop)]
+#[derive(Clone, Copy)]
 pub struct Answer {
     pub total: u64,
     pub capacity: u64,
@@ -15,14 +17,14 @@ pub struct Answer {
 }
 
 // What a call that solves comes to: why it is turned down, or its answer.
-#[derive(Drop)]
+#[derive(Clone, Copy)]
 pub enum Reply {
     TurnedDown(Refusal),
     Answered(Answer),
 }
 
 // What an iteration chose: the commodity, how many arcs its path has, how many resources it uses, the arcs among them, and alpha, their length.
-#[derive(Drop)]
+#[derive(Clone, Copy)]
 pub struct Selected {
     pub commodity: usize,
     pub arcs: usize,

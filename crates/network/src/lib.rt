@@ -1,6 +1,8 @@
 // The network's verdict: what a call is turned down for, in document 01's order.
+#![tactic(auto)]
+
 // Why a call is turned down. Document 01, "Turned down": its numbers and places are given by specs/Refusal.antt alone.
-#[derive(Drop)]
+#[derive(Clone, Copy)]
 pub enum Refusal {
     Nodes,
     Arcs,
@@ -19,14 +21,14 @@ pub enum Refusal {
     Office,
 }
 
-#[derive(Drop)]
+#[derive(Clone, Copy)]
 pub enum Verdict {
     Accepted,
     Refused(Refusal),
 }
 
 // Document 01's number of a refusal, and its place.
-#[derive(Drop)]
+#[derive(Clone, Copy)]
 pub struct Code {
     pub number: u64,
     pub place: u64,

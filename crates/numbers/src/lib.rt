@@ -1,6 +1,8 @@
 // Numbers in byte slices, eight bytes each, lowest first (document 01, "The floor and its flow"):
 // the counts of complete numbers and items, one number read or written, a member of every item read
 // out, and a list of numbers written.
+#![tactic(auto)]
+
 ghost use Rattle.std.specs.Prelude.{◌≡◌, ◌++◌, map, ◌+◌, ◌*◌, ◌%◌, ◌<◌, ◌≤◌, length, take, drop};
 ghost use Rattle.numbers.specs.Digits.{from_bytes, to_bytes};
 ghost use Rattle.numbers.specs.Numbers.{count, items, number_at, column, written, put_at};

@@ -1,9 +1,11 @@
 // The network as one slice of numbers: its columns stand at fixed places, each with room for the most arcs, commodities or nodes. It travels from the
 // calls down to the loops as this slice and its shape; only a loop over a column cuts that column out.
+#![tactic(auto)]
+
 use bounds::{MOST_ARCS, MOST_COMMODITIES, MOST_NODES};
 
 // n, m, k, how many of the nodes' limits are given, and how many resources there are: the arcs and the limited nodes.
-#[derive(Drop)]
+#[derive(Clone, Copy)]
 pub struct Shape {
     pub nodes: u64,
     pub arcs: usize,

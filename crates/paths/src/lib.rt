@@ -1,5 +1,7 @@
 // Distances to a sink, and the walk along them: definitions and laws, and what is added up for them. The code is in `search` and `walk`, over the arcs as `index` lays
 // them.
+#![tactic(auto)]
+
 ghost use Rattle.std.specs.Prelude.{◌≡◌, ◌+◌, ◌<◌, length};
 ghost use Rattle.index.specs.Index.{places_from};
 ghost use Rattle.paths.specs.Distances.{via};

@@ -1,5 +1,7 @@
 // The solver for a network lent as a slice of records. Document 01, "The floor and its flow": "The network may also be lent as a list of belt
 // records, checked and copied before any work". Only `solve` holds the slice: what it calls has arrays and slices of numbers.
+#![tactic(auto)]
+
 mod judge;
 mod sizes;
 
@@ -10,7 +12,7 @@ use network::{Refusal, Verdict};
 use packed::{CAPACITIES, HEADS, MARKS, NET_NUMBERS, TAILS};
 
 // Document 01's belt. Its mark is not zero if the belt is reversible (request C-12).
-#[derive(Drop)]
+#[derive(Clone, Copy)]
 pub struct Arc {
     pub tail: u64,
     pub head: u64,
@@ -19,7 +21,7 @@ pub struct Arc {
 }
 
 // What a call returns: why it is turned down, or its answer.
-#[derive(Drop)]
+#[derive(Clone, Copy)]
 pub enum Reply {
     TurnedDown(Refusal),
     Answered(Answer),

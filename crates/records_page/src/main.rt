@@ -1,5 +1,7 @@
 // Document 01's worked floors, some that it turns down, and some with a reversible belt or a limited station, solved through a slice of records. A line for each: what is
 // lent, what the call returns, the flow table and the length table, in which every place held a 9. The file `stdout` has the page's figures.
+#![tactic(auto)]
+
 ghost use Rattle.std.specs.Prelude.{◌≤◌, take};
 ghost use Rattle.records.specs.Records.{Recorded};
 

@@ -1,4 +1,6 @@
 // The rows of the listing, put into a lent table of bytes. Document 01, "File and listing".
+#![tactic(auto)]
+
 pub mod put;
 mod rows;
 

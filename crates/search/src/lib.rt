@@ -1,5 +1,7 @@
 // Distances to a sink by correcting labels: a node that has come nearer goes onto a list, and one after the other is taken out and the arcs into it
 // relaxed, until the list is empty. Which one is next is told by an order of the nodes, and a search leaves that to the next.
+#![tactic(auto)]
+
 mod relax;
 
 ghost use Rattle.std.specs.Prelude.{◌≡◌, ◌++◌, ◌+◌, ◌≤◌, ◌<◌, length, set, drop, replicate};

@@ -1,4 +1,6 @@
 // Signed amounts, in an i64: what goes forward on an arc or, if it is negative, back.
+#![tactic(auto)]
+
 ghost use Rattle.std.specs.Prelude.{◌≡◌, ◌+◌, ◌^◌, ◌<◌, pos, ◌+ℤ◌, ◌-ℤ◌};
 ghost use Rattle.signed.specs.Signed.{ahead, back, size, twos};
 ghost use Rattle.signed.specs.FromTwos.{from_twos};

@@ -1,4 +1,6 @@
 // The call for a site, on byte slices: its floors solved one after the other, each by the call for one floor on its own parts of the slices. Request C-14.
+#![tactic(auto)]
+
 mod list;
 mod parts;
 

@@ -9,14 +9,14 @@ ghost use Rattle.site.specs.Turns.{span_of, parts_of};
 use bounds::FLOOR_NUMBERS;
 
 // A part of a slice: its first byte and its size in bytes.
-#[derive(Drop)]
+#[derive(Clone, Copy)]
 pub struct Span {
     pub from: usize,
     pub size: usize,
 }
 
 // A floor's part of each slice that the floors share.
-#[derive(Drop)]
+#[derive(Clone, Copy)]
 pub struct Parts {
     pub belts: Span,
     pub pairs: Span,

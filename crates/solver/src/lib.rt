@@ -1,4 +1,6 @@
 // The solver: the outcome of the method on lent slices.
+#![tactic(auto)]
+
 mod outcomes;
 mod start;
 

@@ -1,4 +1,6 @@
 // One step of the run on the lent tables: what an iteration does once its path is chosen.
+#![tactic(auto)]
+
 ghost use Rattle.std.specs.Prelude.{◌≡◌, ◌+◌, ◌≤◌, ◌<◌, ◌^◌, length};
 ghost use Rattle.bounds.specs.Bounds.{most_arcs};
 ghost use Rattle.packed.specs.Packed.{net_in, table_numbers};
@@ -13,7 +15,7 @@ use tables::{draws, loads};
 // The drawn total, the count of iterations, and D, alpha and number of the iteration of the least D / alpha so far. Beside these numbers of the
 // method's state, what would else be read off whole tables: D of the present lengths, whether the last iteration halved them, and whether some
 // load is at the threshold.
-#[derive(Drop)]
+#[derive(Clone, Copy)]
 pub struct Progress {
     pub total: u64,
     pub count: u64,

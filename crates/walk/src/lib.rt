@@ -1,6 +1,8 @@
 // The greedy walk by a feasible table: from a node over the lowest-numbered tight arc, until the sink. Where it arrives, its path is the nearest and the
 // first; where the table is out of date it is stuck.
 // The network is taken for the contracts, which speak of it; the arcs are read from the index of those out of each node.
+#![tactic(auto)]
+
 ghost use Rattle.std.specs.Prelude.{◌≡◌, length};
 ghost use Rattle.network.specs.Path.{beyond};
 ghost use Rattle.packed.specs.Packed.{net_in};

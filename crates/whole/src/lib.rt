@@ -1,4 +1,6 @@
 // The call for whole totes an hour, on byte slices: solved as every call is, then two numbers for each pair out of what that left. Request C-15.
+#![tactic(auto)]
+
 mod sent;
 
 ghost use Rattle.std.specs.Prelude.{◌≡◌, ◌+◌, ◌*◌, ◌/◌, ◌%◌, ◌<◌};

@@ -1,0 +1,30 @@
+-- `arith::wide::Wide::times` meets its contract: self * k is the product by the low limb of k, added to the product by its high limb, one place up.
+-- Assumes nothing.
+use native.Mathlib.Omega.{arith}
+use Rattle.arith.specs.Limbs.{from_limbs}
+use Rattle.arith.proofs.Products.{split-product}
+use borrow.Author.Rules.{rules}
+use Rattle.arith.proofs.wide.Wide.times.Goals as goal
+
+pub times_plus-high-requires : goal.times_plus-high-requires
+times_plus-high-requires c =
+    let s = c.before in
+    (s.requires.0, c.from.ensures.limbs, omega arith, omega (arith, split-product (from_limbs s.args.self.limbs) s.args.k))
+
+pub shifted-requires : goal.shifted-requires
+shifted-requires c =
+    let s = c.before.before in
+    (c.times_plus-high.ensures.limbs, omega (arith, split-product (from_limbs s.args.self.limbs) s.args.k))
+
+pub times_plus-requires : goal.times_plus-requires
+times_plus-requires c =
+    let s = c.before.before.before in
+    (s.requires.0, c.shifted.ensures.limbs, omega arith, omega (arith, split-product (from_limbs s.args.self.limbs) s.args.k))
+
+pub returns : goal.returns
+returns c =
+    let s = c.before.before.before.before in
+    record {
+      limbs = c.times_plus.ensures.limbs;
+      number = omega (arith, split-product (from_limbs s.args.self.limbs) s.args.k);
+    }

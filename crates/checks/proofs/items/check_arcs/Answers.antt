@@ -1,0 +1,59 @@
+-- `checks::items::check_arcs` meets its contract: the search from the present arc on finds what the whole search finds.
+-- Assumes nothing.
+use mathlib.Core.Path.{◌≡◌, ap, ◌∙◌}
+use Prim.Native.Nat.{◌-◌}
+use native.Mathlib.Omega.{arith}
+use lib.ListN.{length}
+use borrow.Author.Rules.{rules}
+use Rattle.arith.specs.Lists.{up_to, flat}
+use Rattle.bounds.specs.Bounds.{most_capacity}
+use Rattle.network.specs.Network.{Network, tail, head, capacity}
+use Rattle.network.specs.Parts.{of_arcs}
+use Rattle.network.specs.Verdict.{verdict, loose, outside, arc_conditions}
+use Rattle.network.proofs.Bounds.{loose-of}
+use Rattle.network.proofs.First.{decides, passes, none_left}
+use Rattle.network.proofs.Search.{found, search-all, search-ends, search-stops, search-goes-on}
+use Rattle.checks.proofs.items.check_arcs.Goals as goal
+
+-- the network, and the present arc's two tests as the definition has them
+abbrev net : goal.At-loop-e → Network
+net c =
+    let args = c.before.before.before.before.args in
+    of_arcs args.n args.tails.now args.heads.now args.capacities.now
+
+abbrev turn : goal.After-loose → goal.At-loop-e
+turn c = c.before.before.before.before
+
+loose-tested : (c : goal.After-loose) →
+    c.loose.result ≡ loose (net (turn c)).nodes (tail (net (turn c)) (turn c).loop-e.e) (head (net (turn c)) (turn c).loop-e.e)
+loose-tested c = loose-of _ c.loose.ensures c.before.before.at.ensures c.before.at-in-loop-e.ensures
+
+capacity-tested : (c : goal.After-outside) →
+    c.outside.result ≡ outside 1 most_capacity (capacity (net (turn c.before.before.before)) (turn c.before.before.before).loop-e.e)
+capacity-tested c = c.outside.ensures ∙ ap (outside 1 most_capacity) c.before.at-in-loop-e-2.ensures
+
+pub loop-e-init : goal.loop-e-init
+loop-e-init c = search-all _ _
+
+pub loop-e-preserved : goal.loop-e-preserved
+unfolding arc_conditions
+loop-e-preserved c =
+    search-goes-on _ _ _ (omega arith)
+    (passes _ _ (loose-tested c.before.before.before.before) c.before.before.before.if-loose.false
+    (passes _ _ (capacity-tested c.before) c.if-outside.false none_left)) ∙
+    c.before.before.before.before.before.before.before.before.loop-e.invariant
+
+pub returns-then-e-tails : goal.returns-then-e-tails
+returns-then-e-tails c = search-ends _ _ _ c.if-e-tails.true ∙ c.before.loop-e.invariant
+
+pub returns-then-loose : goal.returns-then-loose
+unfolding arc_conditions
+returns-then-loose c = search-stops _ _ _ (omega arith) (decides _ (loose-tested c.before) c.if-loose.true) ∙ c.before.before.before.before.before.loop-e.invariant
+
+pub returns-then-outside : goal.returns-then-outside
+unfolding arc_conditions
+returns-then-outside c =
+    search-stops _ _ _ (omega arith)
+    (passes _ _ (loose-tested c.before.before.before.before) c.before.before.before.if-loose.false
+    (decides _ (capacity-tested c.before) c.if-outside.true)) ∙
+    c.before.before.before.before.before.before.before.before.loop-e.invariant

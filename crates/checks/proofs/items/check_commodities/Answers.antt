@@ -1,0 +1,43 @@
+-- `checks::items::check_commodities` meets its contract: the search from the present commodity on finds what the whole search finds.
+-- Assumes nothing.
+use mathlib.Core.Path.{◌≡◌, ◌∙◌}
+use Prim.Native.Nat.{◌-◌}
+use native.Mathlib.Omega.{arith}
+use lib.ListN.{length}
+use borrow.Author.Rules.{rules}
+use Rattle.arith.specs.Lists.{up_to, flat}
+use Rattle.network.specs.Network.{Network, source, sink}
+use Rattle.network.specs.Parts.{of_commodities}
+use Rattle.network.specs.Verdict.{verdict, loose, commodity_conditions}
+use Rattle.network.proofs.Bounds.{loose-of}
+use Rattle.network.proofs.First.{decides, passes, none_left}
+use Rattle.network.proofs.Search.{found, search-all, search-ends, search-stops, search-goes-on}
+use Rattle.checks.proofs.items.check_commodities.Goals as goal
+
+-- the network, and the present commodity's test as the definition has it
+abbrev net : goal.At-loop-i → Network
+net c =
+    let args = c.before.before.before.args in
+    of_commodities args.n args.sources.now args.sinks.now
+
+abbrev turn : goal.After-loose → goal.At-loop-i
+turn c = c.before.before.before.before
+
+loose-tested : (c : goal.After-loose) →
+    c.loose.result ≡ loose (net (turn c)).nodes (source (net (turn c)) (turn c).loop-i.i) (sink (net (turn c)) (turn c).loop-i.i)
+loose-tested c = loose-of _ c.loose.ensures c.before.before.at.ensures c.before.at-in-loop-i.ensures
+
+pub loop-i-init : goal.loop-i-init
+loop-i-init c = search-all _ _
+
+pub loop-i-preserved : goal.loop-i-preserved
+unfolding commodity_conditions
+loop-i-preserved c =
+    search-goes-on _ _ _ (omega arith) (passes _ _ (loose-tested c.before) c.if-loose.false none_left) ∙ (turn c.before).loop-i.invariant
+
+pub returns-then-i-sources : goal.returns-then-i-sources
+returns-then-i-sources c = search-ends _ _ _ c.if-i-sources.true ∙ c.before.loop-i.invariant
+
+pub returns-then-loose : goal.returns-then-loose
+unfolding commodity_conditions
+returns-then-loose c = search-stops _ _ _ (omega arith) (decides _ (loose-tested c.before) c.if-loose.true) ∙ (turn c.before).loop-i.invariant

@@ -1,0 +1,23 @@
+-- `checks::items::check_limits` meets its contract: the search from the present limit on finds what the whole search finds.
+-- Assumes nothing.
+use mathlib.Core.Path.{◌≡◌, refl, ◌∙◌}
+use mathlib.Core.Bool.{Bool}
+use Prim.Native.Nat.{ℕ, ◌-◌}
+use native.Mathlib.Omega.{arith}
+use lib.Dec.{ltb}
+use lib.ListN.{length, get_or}
+use borrow.Author.Rules.{rules}
+use borrow.Author.Tests.{lt-ltb, le-ltb}
+use Rattle.arith.specs.Lists.{up_to, flat}
+use Rattle.bounds.specs.Bounds.{most_capacity}
+use Rattle.network.specs.Parts.{of_limits}
+use Rattle.network.specs.Verdict.{verdict, limit_conditions}
+use Rattle.network.proofs.First.{decides, passes, none_left}
+use Rattle.network.proofs.Search.{found, search-all, search-ends, search-stops, search-goes-on}
+use Rattle.checks.proofs.items.check_limits.Given as goal
+
+abbrev pub invariant-loop-v : goal.invariant-loop-v
+invariant-loop-v l = found (limit_conditions (of_limits l.limits)) l.v (length l.limits) ≡ verdict (flat (limit_conditions (of_limits l.limits)) (up_to (length l.limits)))
+
+abbrev pub decreases-loop-v : goal.decreases-loop-v
+decreases-loop-v l = length l.limits - l.v

@@ -1,0 +1,26 @@
+-- `checks::items::loose` meets its contract: its "or" of three tests is the definition's.
+-- Assumes nothing.
+use mathlib.Core.Path.{◌≡◌, sym, ◌∙◌}
+use mathlib.Core.Bool.{◌||◌}
+use mathlib.Core.Logic.{⊎_elim}
+use borrow.Author.Rules.{rules}
+use Rattle.network.specs.Verdict.{outside, loose}
+use Rattle.network.proofs.Or.{or-stop, or-on}
+use Rattle.checks.proofs.items.loose.Goals as goal
+
+-- the first two tests, where their ways meet
+ends : (c : goal.Joined-outside) →
+    c.if-outside.value ≡ outside 1 c.before.before.args.n c.before.before.args.a || outside 1 c.before.before.args.n c.before.before.args.b
+ends c =
+    ⊎_elim
+    (λ w. or-stop _ c.before.outside.ensures w.0.taken w.1)
+    (λ w. or-on c.before.outside.ensures w.0.left (w.2 ∙ w.1.ensures))
+    c.if-outside.branch
+
+pub returns-then-outside-2 : goal.returns-then-outside-2
+unfolding loose
+returns-then-outside-2 c = simp (sym (ends c.before), c.if-outside-2.true)
+
+pub returns-else-outside-2 : goal.returns-else-outside-2
+unfolding loose
+returns-else-outside-2 c = simp (sym (ends c.before), c.if-outside-2.false)

@@ -1,0 +1,109 @@
+-- `choice::lazy::look` meets its contract: what the search and the raising leave, one after the other. Assumes nothing.
+use borrow.Author.Rules.{rules}
+use mathlib.Core.Path.{◌≡◌, ◌∙◌}
+use Prim.Native.Nat.{ℕ, ◌≤◌}
+use native.Mathlib.Omega.{arith}
+use lib.ListN.{length}
+use Rattle.bounds.specs.Bounds.{most_nodes}
+use Rattle.network.specs.Ends.{Node}
+use Rattle.network.specs.Network.{Network, source, sink}
+use Rattle.packed.specs.Packed.{net_in}
+use Rattle.packed.proofs.Columns.{commodities-is, part_length, put-length}
+use Rattle.paths.specs.Order.{page_numbers}
+use Rattle.paths.proofs.NodeLengths.{through-is, node-small}
+use Rattle.memory.specs.Memory.{page_from, page_in}
+use Rattle.choice.proofs.Looks.{looked}
+use Rattle.choice.proofs.lazy.look.Goals as goal
+
+-- the function's entry, seen from the calls; and the network
+abbrev entry : goal.After-slice_known-1 → goal.Start
+entry c = c.before.before.before.before
+
+abbrev first : goal.After-distances → goal.Start
+first c = entry c.before.before
+
+abbrev searched : goal.After-raise → goal.After-distances
+searched c = c.before.before.before.before
+
+abbrev net : goal.Start → Network
+net s = net_in s.args.s s.args.net.now
+
+-- the sink is a node, and has a page in the memory
+node : (s : goal.Start) → Node (net s) s.args.t
+node s = rw s.requires.to (s.requires.survey.fit.ends.sinks s.args.i s.requires.known.least.among)
+
+few : (s : goal.Start) → s.args.t ≤ most_nodes
+few s = omega (arith, node s, s.requires.survey.few)
+
+page : (s : goal.Start) → length (page_in s.args.t s.args.memory.now) ≡ page_numbers
+page s = part_length (page_from s.args.t) page_numbers s.args.memory.now (omega (arith, few s, s.requires.known.places))
+
+size : (c : goal.After-distances) → length c.distances.new.1.1.1.1.1.0 ≡ page_numbers
+size c = c.distances.auto.1.1.1.1.1.0 ∙ page (first c)
+
+pub distances-requires : goal.distances-requires
+distances-requires c =
+    let s = entry c.before in
+    let p = s.requires in
+    let f = p.survey.fit in
+    record {
+      fit = record { ends = f.ends; lengths = f.lengths; small = f.small; room = omega (arith, f.room, page s) };
+      sink = node s;
+      index = p.index;
+      room = omega (arith, page s);
+      ordered = (p.known.pages s.args.t (node s)).ordered;
+    }
+
+pub raise-requires : goal.raise-requires
+raise-requires c =
+    let d = c.before.before.before in
+    let s = first d in
+    let p = s.requires in
+    let ends = p.survey.fit.ends in
+    let k = commodities-is p.packed in (
+      record {
+        packed = p.packed;
+        node = few s;
+        sources = λ i b. omega (arith, ends.sources i (omega (arith, k)), p.survey.few);
+        sinks = λ i b. omega (arith, ends.sinks i (omega (arith, k)), p.survey.few);
+        small = λ i b.
+            let v = source (net s) i in
+            let at = (ends.sources i (omega (arith, k))).1 in
+            omega (
+              arith,
+              through-is (net s) s.args.lengths.now s.args.into.now p.index.places p.survey.fit.lengths v at,
+              node-small (net s) s.args.lengths.now p.survey.fit.small v at,
+            );
+        numbers = p.index.arcs.numbers;
+        places =
+            omega (
+              arith,
+              put-length (page_from s.args.t) page_numbers s.args.memory.now d.distances.new.1.1.1.1.1.0
+                  (omega (arith, few s, p.known.places))
+                  (size d),
+              p.known.places,
+            );
+      },
+      omega (arith, p.survey.some, k),
+    )
+
+pub returns : goal.returns
+returns c =
+    let r = c.before.before in
+    let d = searched r in
+    looked (first d).requires (size d) d.distances.ensures r.raise.ensures
+
+pub overflow_mul-at : goal.overflow_mul-at
+overflow_mul-at c = omega (arith, few (entry c))
+
+pub overflow_add-at : goal.overflow_add-at
+overflow_add-at c = omega (arith, few (entry c))
+
+pub overflow_add-at-2 : goal.overflow_add-at-2
+overflow_add-at-2 c = omega (arith, few (entry c))
+
+pub offset_bounds-memory-at : goal.offset_bounds-memory-at
+offset_bounds-memory-at c = omega (arith, few (entry c))
+
+pub slice_bounds-distances-end : goal.slice_bounds-distances-end
+slice_bounds-distances-end c = omega (arith, few (entry c), (entry c).requires.known.places)

@@ -1,0 +1,52 @@
+-- `decode::count_given` meets its contract. The loop's invariant: so many of the first i are not 0. The measure is what is left of c.
+-- Assumes nothing.
+use mathlib.Core.Path.{◌≡◌, refl, sym, ap, ◌∙◌}
+use mathlib.Core.Logic.{⊎_elim}
+use Prim.Native.Nat.{◌+◌, ◌*◌, ◌-◌, ◌≤◌}
+use native.Mathlib.Nat.{le_antisymm}
+use native.Mathlib.Omega.{arith}
+use borrow.Author.Rules.{rules}
+use lib.ListN.{get_or}
+use Rattle.network.specs.Given.{given}
+use Rattle.network.proofs.Given.{given-most, given-zero, given-one}
+use Rattle.numbers.specs.Numbers.{number_at, column}
+use Rattle.numbers.proofs.Columns.{get_or-column}
+use Rattle.decode.proofs.count_given.Goals as goal
+
+pub loop-i-init : goal.loop-i-init
+unfolding given
+loop-i-init c = (omega arith, refl)
+
+pub overflow_add-r : goal.overflow_add-r
+overflow_add-r c =
+    let turn = c.before.before.before in
+    omega (arith, turn.loop-i.invariant.1, given-most (column turn.before.before.args.limits.now 1 0 turn.before.before.args.c) turn.loop-i.i)
+
+-- the number read is the one to count
+present : (c : goal.Joined-read-ne0) →
+    let turn = c.before.before.before in
+    get_or (column turn.before.before.args.limits.now 1 0 turn.before.before.args.c) turn.loop-i.i 0 ≡ c.before.read.result
+present c =
+    let turn = c.before.before.before in
+    let e : 1 * turn.loop-i.i + 0 ≡ turn.loop-i.i = omega arith in
+    let bytes = turn.before.before.args.limits.now in
+    get_or-column bytes 1 0 turn.before.before.args.c turn.loop-i.i (omega arith) ∙ (ap (number_at bytes) e ∙ sym c.before.read.ensures)
+
+pub loop-i-preserved : goal.loop-i-preserved
+loop-i-preserved c =
+    let turn = c.before.before.before in
+    let xs = column turn.before.before.args.limits.now 1 0 turn.before.before.args.c in
+    let i = turn.loop-i.i in
+    let e = present c in (
+      omega arith,
+      ⊎_elim
+          (λ w. w.1 ∙ (ap (λ r. r + 1) turn.loop-i.invariant.1 ∙ sym (given-one xs i (λ z. w.0.taken (sym e ∙ z)))))
+          (λ w. w.1 ∙ (turn.loop-i.invariant.1 ∙ sym (given-zero xs i (e ∙ w.0.left))))
+          c.if-read-ne0.branch,
+    )
+
+pub returns : goal.returns
+returns c =
+    let turn = c.before in
+    turn.loop-i.invariant.1 ∙
+    ap (given (column turn.before.before.args.limits.now 1 0 turn.before.before.args.c)) (le_antisymm turn.loop-i.invariant.0 c.loop-i-test.false)

@@ -1,0 +1,20 @@
+-- `decode::count_given` meets its contract. The loop's invariant: so many of the first i are not 0. The measure is what is left of c.
+-- Assumes nothing.
+use mathlib.Core.Path.{◌≡◌, refl, sym, ap, ◌∙◌}
+use mathlib.Core.Logic.{⊎_elim}
+use Prim.Native.Nat.{◌+◌, ◌*◌, ◌-◌, ◌≤◌}
+use native.Mathlib.Nat.{le_antisymm}
+use native.Mathlib.Omega.{arith}
+use borrow.Author.Rules.{rules}
+use lib.ListN.{get_or}
+use Rattle.network.specs.Given.{given}
+use Rattle.network.proofs.Given.{given-most, given-zero, given-one}
+use Rattle.numbers.specs.Numbers.{number_at, column}
+use Rattle.numbers.proofs.Columns.{get_or-column}
+use Rattle.decode.proofs.count_given.Given as goal
+
+abbrev pub invariant-loop-i : goal.invariant-loop-i
+invariant-loop-i l = (l.i ≤ l.c) × (l.r ≡ given (column l.limits 1 0 l.c) l.i)
+
+abbrev pub decreases-loop-i : goal.decreases-loop-i
+decreases-loop-i l = l.c - l.i

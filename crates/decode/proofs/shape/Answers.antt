@@ -1,0 +1,47 @@
+-- `decode::shape` meets its contract: as many limits are read as there are nodes, or fewer where fewer are given. Assumes nothing.
+use mathlib.Core.Path.{◌≡◌, refl, ap, ◌∙◌}
+use mathlib.Core.Logic.{⊎_elim}
+use Prim.Native.Nat.{◌+◌, min}
+use native.Mathlib.Omega.{arith}
+use borrow.Author.Rules.{rules}
+use Rattle.network.proofs.Given.{given-most}
+use Rattle.numbers.specs.Numbers.{count, items, column}
+use Rattle.decode.proofs.Shapes.{counts}
+use Rattle.decode.proofs.shape.Goals as goal
+
+abbrev entry : goal.Joined-n-all → goal.Start
+entry c = c.before.before.before.before.before.before.before
+
+read : (c : goal.Joined-n-all) → c.if-n-all.c ≡ min (entry c).args.n (count (entry c).args.limits.now)
+read c =
+    let all = c.before.count-all.ensures in
+    ⊎_elim (λ w. omega (arith, all, w.0.taken, w.1)) (λ w. omega (arith, all, w.0.left, w.1)) c.if-n-all.branch
+
+pub count_given-requires : goal.count_given-requires
+count_given-requires c = omega (arith, read c)
+
+pub overflow_add-r : goal.overflow_add-r
+overflow_add-r c =
+    let args = (entry c.before).args in
+    omega (
+      arith,
+      c.before.before.before.before.items-m.ensures,
+      c.count_given.ensures,
+      read c.before,
+      given-most (column args.limits.now 1 0 c.before.if-n-all.c) c.before.if-n-all.c,
+    )
+
+pub returns : goal.returns
+returns c =
+    let args = (entry c.before).args in
+    let k = c.before.before.before in
+    record {
+      nodes = refl;
+      arcs = k.before.items-m.ensures;
+      commodities = k.items-k.ensures;
+      given = read c.before;
+      counted =
+          ap (λ m. m + c.count_given.result) k.before.items-m.ensures ∙
+          (ap (λ r. items 4 args.belts.now + r) c.count_given.ensures ∙
+          counts args.n args.belts.now args.pairs.now args.limits.now c.before.if-n-all.c (read c.before));
+    }

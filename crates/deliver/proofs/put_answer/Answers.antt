@@ -1,0 +1,8 @@
+-- `deliver::put_answer` meets its contract. Assumes nothing.
+use borrow.Author.Rules.{rules}
+use Rattle.method.specs.Answer.{numbers_of}
+use Rattle.deliver.proofs.put_answer.Goals as goal
+
+pub returns : goal.returns
+unfolding numbers_of
+returns c = c.before.before.write_all.ensures

@@ -1,0 +1,33 @@
+-- `deliver::write_tables` meets its contract: the work space is large enough for every accepted network. Assumes nothing.
+use borrow.Author.Rules.{rules}
+use mathlib.Core.Path.{sym, ap₂, ◌∙◌}
+use Prim.Native.Nat.{◌*◌, ◌≤◌}
+use native.Mathlib.Nat.{mul-le-mul}
+use lib.IntN.{pos}
+use lib.ListN.{replicate, length-replicate}
+use lib.Seq.{length-take-le}
+use Rattle.packed.proofs.Columns.{arcs-is, commodities-is}
+use Rattle.deliver.proofs.write_tables.Goals as goal
+
+-- 32 commodities on 256 arcs
+few : (s : goal.Start) → s.args.s.commodities * s.args.s.arcs ≤ 8192
+few s = mul-le-mul s.requires.lent.packed.few-commodities s.requires.lent.packed.few-arcs
+
+pub slice_bounds-flows-end : goal.slice_bounds-flows-end
+slice_bounds-flows-end c = few c.before.before.before.before
+
+pub slice_bounds-write_tables_in-end : goal.slice_bounds-write_tables_in-end
+slice_bounds-write_tables_in-end c =
+    sym (length-take-le _ (replicate 8192 (pos 0)) (rw (length-replicate 8192 (pos 0)) (few c.before.before.before.before.before)))
+
+pub write_tables_in-requires : goal.write_tables_in-requires
+write_tables_in-requires c =
+    let s = c.before.before.before.before.before.before.before.before in
+    let p = s.requires.lent.packed in (
+      record {
+        lent = s.requires.lent;
+        flows = length-take-le _ (replicate 8192 (pos 0)) (few s) ∙ sym (ap₂ ◌*◌ (commodities-is p) (arcs-is p));
+        places = search rules;
+      },
+      s.requires.room,
+    )

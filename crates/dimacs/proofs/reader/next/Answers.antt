@@ -1,0 +1,27 @@
+-- `dimacs::reader::next` meets its contract, for each stage.
+-- Assumes nothing.
+use borrow.Author.Rules.{rules}
+use Rattle.dimacs.specs.Reading.{next}
+use Rattle.dimacs.proofs.Stages.{held-as}
+use Rattle.dimacs.proofs.reader.next.Goals as goal
+
+pub go_on-requires : goal.go_on-requires
+go_on-requires c =
+    held-as c.before.before.before.before.in-Past.is c.before.before.before.before.before.before.before.before.before.requires
+
+pub returns-in-Before : goal.returns-in-Before
+unfolding next
+returns-in-Before c =
+    rw c.before.in-Before.is
+    (c.begin.ensures _ _ _ (held-as c.before.in-Before.is c.before.before.before.before.before.before.requires))
+
+pub returns-in-Past : goal.returns-in-Past
+unfolding next
+returns-in-Past c =
+    rw
+    c.before.before.before.before.before.before.before.before.before.before.before.in-Past.is
+    c.before.before.before.before.before.before.go_on.ensures
+
+pub returns-in-Down : goal.returns-in-Down
+unfolding next
+returns-in-Down c = record { reading = rw c.in-Down.is; held = c.before.before.before.before.before.requires }

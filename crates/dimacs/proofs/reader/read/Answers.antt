@@ -1,0 +1,61 @@
+-- `dimacs::reader::read` meets its contract: the lines so far, and those that are left, come to what the file comes to.
+-- Assumes nothing.
+use mathlib.Core.Path.{sym, ap, ◌∙◌}
+use Prim.Native.Nat.{◌-◌}
+use native.Mathlib.Omega.{arith}
+use lib.ListN.{length}
+use borrow.Author.Rules.{rules}
+use Rattle.arith.proofs.Until.{scan-within, scan-later, scan-between}
+use Rattle.dimacs.specs.Result.{result_of}
+use Rattle.dimacs.proofs.LineByLine.{ReadTo, none_read, line_read, all_read, long-file}
+use Rattle.dimacs.proofs.Whole.{read_whole}
+use Rattle.dimacs.proofs.reader.read.Goals as goal
+
+pub returns-then-text-gt-MOST_BYTES : goal.returns-then-text-gt-MOST_BYTES
+returns-then-text-gt-MOST_BYTES c = read_whole _ (c.refuse.ensures ∙ ap result_of (long-file _ (omega arith)))
+
+pub loop-at-init : goal.loop-at-init
+loop-at-init c = none_read _
+
+pub slice_bounds-meaning-count : goal.slice_bounds-meaning-count
+slice_bounds-meaning-count c = rw c.scan-end.ensures (scan-later _ _ _)
+
+pub slice_bounds-meaning-start : goal.slice_bounds-meaning-start
+slice_bounds-meaning-start c = rw c.scan-end.ensures (scan-later _ _ _)
+
+pub slice_bounds-meaning-end : goal.slice_bounds-meaning-end
+slice_bounds-meaning-end c = rw c.scan-end.ensures (scan-within _ _ _ (omega arith))
+
+pub slice_bounds-next-end : goal.slice_bounds-next-end
+slice_bounds-next-end c = sym c.before.before.before.before.before.loop-at.invariant.held.tails.size
+
+pub slice_bounds-next-end-in-loop-at : goal.slice_bounds-next-end-in-loop-at
+slice_bounds-next-end-in-loop-at c = sym c.before.before.before.before.before.before.loop-at.invariant.held.heads.size
+
+pub slice_bounds-next-end-in-loop-at-2 : goal.slice_bounds-next-end-in-loop-at-2
+slice_bounds-next-end-in-loop-at-2 c = sym c.before.before.before.before.before.before.before.loop-at.invariant.held.capacities.size
+
+pub next-stage-requires : goal.next-stage-requires
+next-stage-requires c = c.before.before.before.before.before.before.before.loop-at.invariant.held
+
+pub overflow_add-at : goal.overflow_add-at
+overflow_add-at c = omega (arith, scan-between _ _ _ (omega arith) c.before.before.before.before.before.before.before.before.before.scan-end.ensures)
+
+pub loop-at-smaller : goal.loop-at-smaller
+loop-at-smaller c =
+    omega (arith, scan-between _ _ _ (omega arith) c.before.before.before.before.before.before.before.before.before.scan-end.ensures)
+
+pub loop-at-preserved : goal.loop-at-preserved
+loop-at-preserved c =
+    line_read _
+    c.before.before.before.before.before.before.before.before.before.before.loop-at-test.true
+    c.before.before.before.before.before.before.before.before.before.scan-end.ensures
+    c.before.before.before.before.before.before.before.meaning-line.ensures
+    c.before.before.before.before.before.before.before.before.before.before.before.loop-at.invariant
+    c.before.before.before.next-stage.ensures
+
+pub finish-requires : goal.finish-requires
+finish-requires c = c.before.loop-at.invariant.held
+
+pub returns : goal.returns
+returns c = read_whole _ (c.finish.ensures ∙ ap result_of (all_read _ (omega arith) (omega arith) c.before.before.loop-at.invariant))

@@ -1,0 +1,42 @@
+-- `host::room::check_call` meets its contract: the sizes before 5, and 5 before 16 and 11. Assumes nothing.
+use borrow.Author.Rules.{rules}
+use mathlib.Core.Path.{sym, ◌∙◌}
+use Rattle.network.proofs.Decided.{accepted-quiet}
+use Rattle.network.proofs.First.{refused-first, accepted-first, decides, passes}
+use Rattle.network.proofs.Sizes.{sizes-kept}
+use Rattle.call.specs.Deliver.{slices}
+use Rattle.call.specs.Host.{Slices, host_conditions}
+use Rattle.call.proofs.Hosts.{room}
+use Rattle.host.proofs.room.check_call.Goals as goal
+
+-- from the sizes' verdict to the function's entry
+abbrev entry : goal.After-check_sizes-sizes → goal.Start
+entry c = c.before.before.before.before.before
+
+abbrev lent : goal.Start → Slices
+lent s = slices s.args.flow.now s.args.lengths.now s.args.answer.now s.args.counts.now
+
+pub returns-in-Refused : goal.returns-in-Refused
+returns-in-Refused c = refused-first _ _ c.before.before.check_sizes-sizes.ensures c.in-Refused.is
+
+pub short-requires : goal.short-requires
+short-requires c =
+    let k = sizes-kept _ _ _ _ _ (accepted-quiet _ (sym c.before.before.check_sizes-sizes.ensures ∙ c.in_default.is)) in
+    (k.of-commodities.most, k.of-arcs.most)
+
+pub returns-then-short : goal.returns-then-short
+unfolding host_conditions
+returns-then-short c =
+    let t = c.before.before in
+    accepted-first _ _ t.before.before.check_sizes-sizes.ensures t.in_default.is (decides _ c.before.short.ensures c.if-short.true)
+
+pub check_office-requires : goal.check_office-requires
+check_office-requires c =
+    (room _ _ _ _ (lent (entry c.before.before.before.before)) (sym c.before.short.ensures ∙ c.if-short.false)).2
+
+pub returns : goal.returns
+unfolding host_conditions
+returns c =
+    let e = c.before in
+    let t = e.before.before in
+    accepted-first _ _ t.before.before.check_sizes-sizes.ensures t.in_default.is (passes _ _ e.before.short.ensures e.if-short.false c.check_office.ensures)

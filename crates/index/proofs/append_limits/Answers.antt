@@ -1,0 +1,64 @@
+-- `index::append_limits` meets its contract: the limits of the nodes passed are written, and end is where the next comes.
+-- Assumes nothing.
+use borrow.Author.Rules.{rules}
+use mathlib.Core.Path.{◌≡◌, sym, ◌∙◌}
+use mathlib.Core.Logic.{⊎_elim}
+use Prim.Native.Nat.{◌+◌, ◌-◌, ◌<◌, ◌≤◌}
+use native.Mathlib.Omega.{arith}
+use lib.ListN.{length}
+use Rattle.network.specs.Network.{Network, limit}
+use Rattle.packed.specs.Packed.{net_in}
+use Rattle.packed.proofs.Columns.{arcs-is, capacities-length}
+use Rattle.index.proofs.Gathering.{Gathering, gathering-none, gathering-on, gathering-place, gathering-more, gathering-all}
+use Rattle.index.proofs.append_limits.Invariants.{net}
+use Rattle.index.proofs.append_limits.Goals as goal
+
+-- the function's entry, seen from a turn
+abbrev entry : goal.At-loop-v → goal.Start
+entry c = c.before.before.before.before
+
+-- the present node is one of the network's
+node : (c : goal.In-loop-v) → c.before.loop-v.v ≤ (net (entry c.before)).nodes
+unfolding net_in
+node c = c.loop-v-test.true
+
+read : (c : goal.After-limit-x) → c.limit-x.result ≡ limit (net (entry c.before.before)) c.before.before.loop-v.v
+unfolding net_in
+read c = c.limit-x.ensures
+
+-- and if it is limited there is a place for it
+place : (c : goal.Then-x-ne0) → let t = c.before.before in t.before.loop-v.end < length t.before.loop-v.table
+place c =
+    let t = c.before.before in
+    gathering-place t.before.loop-v.invariant (node t) (λ z. c.if-x-ne0.true (read c.before ∙ z))
+
+pub loop-v-init : goal.loop-v-init
+loop-v-init c =
+    let p = c.before.before.before.requires in
+    gathering-none (sym (arcs-is p.roomy.packed)) (capacities-length p.roomy.packed) p.capacities (p.roomy.whole ∙ p.roomy.counted)
+
+pub loop-v-preserved : goal.loop-v-preserved
+loop-v-preserved c =
+    let t = c.before.before in
+    let I = t.before.loop-v.invariant in
+    ⊎_elim
+    (λ w. rw (w.1, w.2) (gathering-more I (node t) (λ z. w.0.taken (read c.before ∙ z)) (read c.before)))
+    (λ w. rw (w.1, w.2) (gathering-on I (node t) (sym (read c.before) ∙ w.0.left)))
+    c.if-x-ne0.branch
+
+pub shape_of-table : goal.shape_of-table
+shape_of-table c =
+    let p = (entry c.before).requires in
+    c.before.loop-v.invariant.size ∙ sym (p.roomy.whole ∙ p.roomy.counted)
+
+pub returns : goal.returns
+unfolding net_in
+returns c =
+    let I = c.before.loop-v.invariant in
+    gathering-all I (omega (arith, I.within, c.loop-v-test.false))
+
+pub offset_bounds-table-end : goal.offset_bounds-table-end
+offset_bounds-table-end c = omega (arith, place c)
+
+pub overflow_add-end : goal.overflow_add-end
+overflow_add-end c = omega (arith, place c)

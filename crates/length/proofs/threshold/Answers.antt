@@ -1,0 +1,21 @@
+-- `length::threshold` meets its contract: the product fits, since the threshold is at most 1,472.
+-- Assumes nothing.
+use mathlib.Core.Path.{◌≡◌, ap}
+use Prim.Native.Nat.{ℕ, ◌*◌}
+use native.Mathlib.Omega.{arith}
+use borrow.Author.Rules.{rules}
+use Rattle.length.specs.Level.{threshold}
+use Rattle.length.proofs.Bounds.{threshold-most}
+use Rattle.length.proofs.threshold.Goals as goal
+
+product : (c : goal.After-level) → c.before.args.q * c.level.result ≡ threshold c.before.args.m c.before.args.q
+unfolding threshold
+product c = ap (λ (x : ℕ). c.before.args.q * x) c.level.ensures
+
+pub overflow_mul-result : goal.overflow_mul-result
+overflow_mul-result c =
+    let a = c.before.args in
+    omega (arith, product c, threshold-most a.m a.q (omega arith) (omega arith) (omega arith) (omega arith))
+
+pub returns : goal.returns
+returns c = product c

@@ -1,0 +1,53 @@
+-- `lengths::start` meets its contract: after e turns the first e lengths are at their start, with their part of D.
+-- Assumes nothing.
+use mathlib.Core.Path.{sym, ◌∙◌}
+use Prim.Native.Nat.{◌*◌, ◌-◌, ◌^◌, ◌≤◌}
+use native.Mathlib.Nat.{mul-le-mul}
+use native.Mathlib.Omega.{arith}
+use lib.ListN.{length, get_or, length-map}
+use Rattle.arith.proofs.Lists.{map_at}
+use Rattle.bounds.specs.Bounds.{most_capacity}
+use Rattle.length.specs.Length.{mark, start}
+use Rattle.length.proofs.Size.{start_fits}
+use Rattle.lengths.specs.Results.{first_lengths}
+use Rattle.lengths.proofs.Weighable.{first-weighable}
+use Rattle.lengths.proofs.Weighed.{Weighing, weigh-none, weigh-more, weigh-all, weighing-most}
+use Rattle.lengths.proofs.start.Goals as goal
+
+abbrev entry : goal.In-loop-e → goal.Start
+entry c = c.before.before.before.before
+
+pub start-first-requires : goal.start-first-requires
+start-first-requires c = let p = (entry c.before).requires.sizes in (p.least _ (omega arith), p.most _ (omega arith))
+
+-- behind the start of an arc: the loop's test
+abbrev turn : goal.After-start-first → goal.In-loop-e
+turn c = c.before.before
+
+-- the arc's part of D
+part : (c : goal.After-start-first) →
+    get_or (entry (turn c)).args.capacities.now (turn c).before.loop-e.e 0 * c.start-first.result.value ≤ most_capacity * 2 ^ 40
+unfolding mark
+part c =
+    let capacity = get_or (entry (turn c)).args.capacities.now (turn c).before.loop-e.e 0 in
+    let p = (entry (turn c)).requires.sizes in
+    mul-le-mul {m₂ = 2 ^ 40} (p.most _ (omega arith)) (omega (arith, c.start-first.ensures.0, start_fits capacity (p.least _ (omega arith))))
+
+pub overflow_mul-d : goal.overflow_mul-d
+overflow_mul-d c = omega (arith, part c)
+
+pub overflow_add-d : goal.overflow_add-d
+overflow_add-d c = omega (arith, part c, weighing-most (first-weighable (entry (turn c)).requires) (turn c).before.loop-e.invariant (omega arith))
+
+pub loop-e-preserved : goal.loop-e-preserved
+loop-e-preserved c =
+    let t = turn c in
+    weigh-more _ t.before.loop-e.invariant (omega (arith, (entry t).requires.same)) (c.start-first.ensures.0 ∙ sym (map_at start (entry t).args.capacities.now t.before.loop-e.e t.loop-e-test.true))
+
+pub returns : goal.returns
+returns c =
+    let s = c.before.before.before.before in
+    weigh-all c.before.loop-e.invariant (omega (arith, s.requires.same)) (length-map s.args.capacities.now start ∙ sym s.requires.same) s.requires.same
+
+pub loop-e-init : goal.loop-e-init
+loop-e-init c = weigh-none _ _ _

@@ -1,0 +1,62 @@
+-- `lines::kinds::arc` meets its contract: what each word was found to be.
+-- Assumes nothing.
+use mathlib.Core.Path.{◌≡◌, refl, sym, ◌∙◌}
+use mathlib.Core.Bool.{true}
+use mathlib.Core.List.{List}
+use mathlib.Core.Option.{some}
+use Prim.Native.Nat.{ℕ}
+use borrow.Author.Tests.{not-true, not-false}
+use borrow.Author.Rules.{rules}
+use Rattle.lines.specs.Meaning.{word, shaped, given}
+use Rattle.lines.specs.Number.{number_of}
+use Rattle.lines.specs.Pieces.{words_of}
+use Rattle.lines.proofs.Meant.{arc-by, number_is}
+use Rattle.lines.proofs.kinds.arc.Goals as goal
+
+-- the words of the line, and what was found of them on the way
+abbrev words : goal.Start → List (List ℕ)
+words c = words_of c.args.line.now
+
+fit : (c : goal.Else-not-shaped) → shaped 4 (words c.before.before.before) ≡ true
+fit c = sym c.before.shaped.ensures ∙ not-false _ c.if-not-shaped.false-raw
+
+tail-read : (c : goal.In-Given) → number_of (word (words c.before.before.before.before.before.before.before) 1) ≡ some c.before.in-Given.u
+tail-read c = number_is c.before.before.before.number_at.ensures c.before.in-Given.is
+
+head_read : (c : goal.In-Given-number_at) → number_of (word (words c.before.before.before.before.before.before.before.before.before.before.before) 2) ≡ some c.before.in-Given-number_at.v
+head_read c = number_is c.before.before.before.number_at-2.ensures c.before.in-Given-number_at.is
+
+pub returns-then-not-shaped : goal.returns-then-not-shaped
+unfolding given
+returns-then-not-shaped c = arc-by _ (sym c.before.shaped.ensures ∙ not-true _ c.if-not-shaped.true-raw) refl refl refl
+
+pub returns-in_default : goal.returns-in_default
+unfolding given
+returns-in_default c = arc-by _ (fit c.before.before.before) (number_is c.before.before.number_at.ensures c.in_default.is) refl refl
+
+pub returns-in_default-number_at : goal.returns-in_default-number_at
+unfolding given
+returns-in_default-number_at c =
+    arc-by _
+    (fit c.before.before.before.before.before.before.before)
+    (tail-read c.before.before.before)
+    (number_is c.before.before.number_at-2.ensures c.in_default-number_at.is)
+    refl
+
+pub returns-in_default-number_at-2 : goal.returns-in_default-number_at-2
+unfolding given
+returns-in_default-number_at-2 c =
+    arc-by _
+    (fit c.before.before.before.before.before.before.before.before.before.before.before)
+    (tail-read c.before.before.before.before.before.before.before)
+    (head_read c.before.before.before)
+    (number_is c.before.before.number_at-3.ensures c.in_default-number_at-2.is)
+
+pub returns : goal.returns
+unfolding given
+returns c =
+    arc-by _
+    (fit c.before.before.before.before.before.before.before.before.before.before.before.before)
+    (tail-read c.before.before.before.before.before.before.before.before)
+    (head_read c.before.before.before.before)
+    (number_is c.before.before.before.number_at-3.ensures c.before.in-Given-number_at-2.is)

@@ -1,0 +1,71 @@
+-- `lines::kinds::problem` meets its contract: what each word was found to be.
+-- Assumes nothing.
+use mathlib.Core.Path.{◌≡◌, refl, sym, ◌∙◌}
+use mathlib.Core.Bool.{Bool, true}
+use mathlib.Core.List.{List, [], ◌∷◌}
+use mathlib.Core.Option.{some}
+use Prim.Native.Nat.{ℕ}
+use borrow.Author.Tests.{not-true, not-false}
+use borrow.Author.Rules.{rules}
+use Rattle.arith.specs.Same.{same}
+use Rattle.lines.specs.Meaning.{word, shaped, given}
+use Rattle.lines.specs.Number.{number_of}
+use Rattle.lines.specs.Pieces.{words_of}
+use Rattle.lines.proofs.Meant.{problem-by, number_is}
+use Rattle.lines.proofs.kinds.problem.Goals as goal
+
+is-max : {w v : List ℕ} {r t : Bool} → w ≡ v → r ≡ same w (109 ∷ 97 ∷ 120 ∷ []) → r ≡ t → same v (109 ∷ 97 ∷ 120 ∷ []) ≡ t
+is-max e s h = rw e at (sym s) ∙ h
+
+-- the words of the line, and what was found of them on the way
+abbrev words : goal.Start → List (List ℕ)
+words c = words_of c.args.line.now
+
+fit : (c : goal.Else-not-shaped) → shaped 4 (words c.before.before.before) ≡ true
+fit c = sym c.before.shaped.ensures ∙ not-false _ c.if-not-shaped.false-raw
+
+max-read : (c : goal.Else-not-says_max) → same (word (words c.before.before.before.before.before.before) 1) (109 ∷ 97 ∷ 120 ∷ []) ≡ true
+max-read c = is-max c.before.before.word.ensures c.before.says_max.ensures (not-false _ c.if-not-says_max.false-raw)
+
+nodes-read : (c : goal.In-Given) → number_of (word (words c.before.before.before.before.before.before.before.before.before.before) 2) ≡ some c.before.in-Given.n
+nodes-read c = number_is c.before.before.before.number_at.ensures c.before.in-Given.is
+
+pub returns-then-not-shaped : goal.returns-then-not-shaped
+unfolding given
+returns-then-not-shaped c = problem-by _ (sym c.before.shaped.ensures ∙ not-true _ c.if-not-shaped.true-raw) refl refl refl
+
+pub returns-then-not-says_max : goal.returns-then-not-says_max
+unfolding given
+returns-then-not-says_max c =
+    problem-by _
+    (fit c.before.before.before)
+    (is-max c.before.before.word.ensures c.before.says_max.ensures (not-true _ c.if-not-says_max.true-raw))
+    refl
+    refl
+
+pub returns-in_default : goal.returns-in_default
+unfolding given
+returns-in_default c =
+    problem-by _
+    (fit c.before.before.before.before.before.before)
+    (max-read c.before.before.before)
+    (number_is c.before.before.number_at.ensures c.in_default.is)
+    refl
+
+pub returns-in_default-number_at : goal.returns-in_default-number_at
+unfolding given
+returns-in_default-number_at c =
+    problem-by _
+    (fit c.before.before.before.before.before.before.before.before.before.before)
+    (max-read c.before.before.before.before.before.before.before)
+    (nodes-read c.before.before.before)
+    (number_is c.before.before.number_at-2.ensures c.in_default-number_at.is)
+
+pub returns : goal.returns
+unfolding given
+returns c =
+    problem-by _
+    (fit c.before.before.before.before.before.before.before.before.before.before.before)
+    (max-read c.before.before.before.before.before.before.before.before)
+    (nodes-read c.before.before.before.before)
+    (number_is c.before.before.before.number_at-2.ensures c.before.in-Given-number_at.is)

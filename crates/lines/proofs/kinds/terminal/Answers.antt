@@ -1,0 +1,29 @@
+-- `lines::kinds::terminal` meets its contract: what each word was found to be.
+-- Assumes nothing.
+use borrow.Author.Tests.{not-true, not-false}
+use mathlib.Core.Path.{refl, sym, ap, ◌∙◌}
+use Rattle.lines.specs.Meaning.{given}
+use Rattle.lines.specs.Scan.{option_of}
+use Rattle.lines.proofs.Meant.{terminal-by}
+use borrow.Author.Rules.{rules}
+use Rattle.lines.proofs.kinds.terminal.Goals as goal
+
+pub returns-then-not-shaped : goal.returns-then-not-shaped
+unfolding given
+returns-then-not-shaped c = terminal-by _ (sym c.before.shaped.ensures ∙ not-true _ c.if-not-shaped.true-raw) refl
+
+pub returns-in_default : goal.returns-in_default
+unfolding given
+returns-in_default c =
+    terminal-by _
+    (sym c.before.before.before.before.shaped.ensures ∙ not-false _ c.before.before.before.if-not-shaped.false-raw)
+    (sym c.before.before.number_at.ensures ∙ ap option_of c.in_default.is)
+
+pub returns : goal.returns
+unfolding given
+returns c =
+    rw c.before.word.ensures at c.source_or_sink.ensures ∙
+    terminal-by _
+    (sym c.before.before.before.before.before.before.before.shaped.ensures ∙
+    not-false _ c.before.before.before.before.before.before.if-not-shaped.false-raw)
+    (sym c.before.before.before.before.before.number_at.ensures ∙ ap option_of c.before.before.before.in-Given.is)

@@ -1,0 +1,18 @@
+-- `memory::pages::clear_pages` meets its contract: the pages passed have zeros for the nodes. Assumes nothing.
+use mathlib.Core.Path.{◌≡◌, ◌∙◌}
+use Prim.Native.Nat.{◌+◌, ◌-◌, ◌≤◌}
+use native.Mathlib.Omega.{arith}
+use lib.ListN.{length}
+use Rattle.packed.proofs.Columns.{part_length}
+use Rattle.paths.specs.Order.{page_numbers}
+use Rattle.memory.specs.Forgotten.{cleared}
+use Rattle.memory.specs.Memory.{page_from, page_in}
+use Rattle.memory.proofs.Forgets.{Paged, paged-none, paged-more}
+use Rattle.memory.proofs.pages.clear_pages.Given as goal
+
+-- the first t pages are cleared
+abbrev pub invariant-loop-t : goal.invariant-loop-t
+invariant-loop-t l = Paged (λ was page. page ≡ cleared l.n was) l.initial.memory l.memory l.t
+
+abbrev pub decreases-loop-t : goal.decreases-loop-t
+decreases-loop-t l = l.n + 1 - l.t

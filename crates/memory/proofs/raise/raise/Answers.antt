@@ -1,0 +1,156 @@
+-- `memory::raise::raise` meets its contract: the bounds of the commodities passed are raised, and b has the least of them. Assumes nothing.
+use mathlib.Core.Path.{◌≡◌, refl, sym, ap, subst, ◌∙◌}
+use mathlib.Core.Logic.{◌⊎◌, inl, inr, ⊎_elim}
+use mathlib.Core.List.{List}
+use Prim.Native.Nat.{ℕ, ◌+◌, ◌-◌, ◌≤◌, ◌<◌}
+use native.Mathlib.Omega.{arith}
+use lib.ListN.{length, get_or}
+use Rattle.bounds.specs.Bounds.{most_commodities}
+use Rattle.packed.specs.declared.Shape.{Shape}
+use Rattle.packed.proofs.Columns.{part_at}
+use Rattle.memory.specs.Least.{Least}
+use Rattle.memory.specs.Memory.{memory_numbers, bounds_in}
+use Rattle.memory.specs.Raised.{Raising, RaisedAt, RaisedIn, AllRaised}
+use Rattle.memory.proofs.Leasts.{least_first, least-less, least_other, least-same}
+use Rattle.memory.proofs.Raises.{raised-in-none, raised-in-more, raised-in-bound, raised-in-other}
+use Rattle.memory.proofs.raise.raise.Invariants.{Passed}
+use Rattle.memory.proofs.raise.raise.Goals as goal
+
+module _ {s : Shape} {net ix l : List ℕ} {t : ℕ} {old : List ℕ} (few : s.commodities ≤ most_commodities) (places : memory_numbers ≤ length old) where
+  module _ {mid : List ℕ} {i b : ℕ} (P : Passed s net ix l t old mid i b) (among : i < s.commodities) where
+    leader : b < s.commodities
+    leader = ⊎_elim (λ (z : (i ≡ 0) × (b ≡ 0)). omega (arith, z)) (λ (L : Least (bounds_in s mid) i b). omega (arith, L.among)) P.leading
+
+    module _ {new : List ℕ} {r : ℕ} (A : RaisedAt s net ix l t i mid new r) where
+      own : get_or (bounds_in s new) i 0 ≡ r
+      own = raised-in-bound few places among P.raised A
+
+      kept : Least (bounds_in s mid) i b → Least (bounds_in s new) i b
+      kept L = least-same (λ j c. raised-in-other few places among P.raised A j (omega arith) (λ (q : j ≡ i). omega arith)) L
+
+      -- one more, whose bound is less
+      passed-less : r < get_or (bounds_in s new) b 0 → Passed s net ix l t old new (i + 1) i
+      passed-less c =
+          record {
+            raised = raised-in-more few places among P.raised A;
+            leading =
+                inr (⊎_elim
+                (λ (z : (i ≡ 0) × (b ≡ 0)). absurd (omega (arith, own, ap (λ j. get_or (bounds_in s new) j 0) (z.0 ∙ sym z.1))))
+                (λ (L : Least (bounds_in s mid) i b). least-less (kept L) (omega (arith, own)))
+                P.leading);
+            within = omega arith;
+          }
+
+      -- or is not
+      passed-other : get_or (bounds_in s new) b 0 ≤ r → Passed s net ix l t old new (i + 1) b
+      passed-other c =
+          record {
+            raised = raised-in-more few places among P.raised A;
+            leading =
+                inr (⊎_elim
+                (λ (z : (i ≡ 0) × (b ≡ 0)). rw (z.0, z.1) (least_first (bounds_in s new)))
+                (λ (L : Least (bounds_in s mid) i b). least_other (kept L) (omega (arith, own)))
+                P.leading);
+            within = omega arith;
+          }
+
+  -- all are passed
+  passed-all : {new : List ℕ} {i b : ℕ} → 1 ≤ s.commodities → Passed s net ix l t old new i b → s.commodities ≤ i → AllRaised s net ix l t old new b
+  passed-all {new} {i} {b} some P end =
+      let q : s.commodities ≡ i = omega (arith, P.within) in
+      record {
+        raised = subst (λ (n : ℕ). RaisedIn s net ix l t old new n) (sym q) P.raised;
+        least = ⊎_elim (λ (z : (i ≡ 0) × (b ≡ 0)). absurd (omega (arith, z))) (λ (L : Least (bounds_in s new) i b). subst (λ (n : ℕ). Least (bounds_in s new) n b) (sym q) L) P.leading;
+      }
+
+-- the function's entry, seen from a turn; and the turn, seen from behind the raising
+abbrev entry : goal.At-loop-i → goal.Start
+entry c = c.before.before.before.before.before
+
+abbrev turn : goal.After-raise_at-bound → goal.In-loop-i
+turn c = c.before.before
+
+abbrev raised_at : goal.After-slice_known-in-loop-i-1 → goal.After-raise_at-bound
+raised_at c = c.before.before
+
+few-of : (s : goal.Start) → s.args.s.commodities ≤ most_commodities
+few-of s = s.requires.raising.packed.few-commodities
+
+b-few : (c : goal.In-loop-i) → c.before.loop-i.b < most_commodities
+b-few c =
+    let s = entry c.before in
+    omega (arith, leader (few-of s) s.requires.raising.places c.before.loop-i.invariant c.loop-i-test.true, few-of s)
+
+pub loop-i-init : goal.loop-i-init
+loop-i-init c = record { raised = raised-in-none; leading = inl (refl, refl); within = omega arith }
+
+pub raise_at-bound-requires : goal.raise_at-bound-requires
+raise_at-bound-requires c =
+    let t = c.before in
+    let p = (entry t.before).requires.raising in (
+      record {
+        packed = p.packed;
+        node = p.node;
+        sources = p.sources;
+        sinks = p.sinks;
+        small = p.small;
+        numbers = p.numbers;
+        places = omega (arith, p.places, t.before.loop-i.invariant.raised.numbers);
+      },
+      t.loop-i-test.true,
+    )
+
+-- the memory behind the raising has as many numbers, and the leader's bound is read in it
+abbrev memory-at : goal.After-raise_at-bound → List ℕ
+memory-at c = c.raise_at-bound.new.1.1.1.1.1.1.0
+
+numbers : (c : goal.After-raise_at-bound) → length (memory-at c) ≡ length (entry (turn c).before).args.memory.now
+numbers c = c.raise_at-bound.auto.1.1.1.1.1.1.0 ∙ (turn c).before.loop-i.invariant.raised.numbers
+
+read : (c : goal.After-raise_at-bound) → let b = (turn c).before.loop-i.b in
+    get_or (memory-at c) (0 + b) 0 ≡ get_or (bounds_in (entry (turn c).before).args.s (memory-at c)) b 0
+read c =
+    let s = entry (turn c).before in
+    sym (part_at 0 s.args.s.commodities (memory-at c) (turn c).before.loop-i.b
+    (leader (few-of s) s.requires.raising.places (turn c).before.loop-i.invariant (turn c).loop-i-test.true))
+
+pub overflow_add-b : goal.overflow_add-b
+overflow_add-b c = omega (arith, b-few (turn (raised_at c)))
+
+pub offset_bounds-memory-b : goal.offset_bounds-memory-b
+offset_bounds-memory-b c = omega (arith, b-few (turn (raised_at c)))
+
+pub bounds-memory-b : goal.bounds-memory-b
+bounds-memory-b c =
+    let a = raised_at c.before in
+    let t = turn a in
+    omega (arith, b-few t, numbers a, (entry t.before).requires.raising.places)
+
+pub overflow_add-i : goal.overflow_add-i
+overflow_add-i c =
+    let t = turn (raised_at c.before.before) in
+    omega (arith, t.loop-i-test.true, few-of (entry t.before))
+
+pub loop-i-smaller : goal.loop-i-smaller
+loop-i-smaller c = omega (arith, (turn (raised_at c.before.before)).loop-i-test.true)
+
+pub loop-i-preserved : goal.loop-i-preserved
+loop-i-preserved c =
+    let a = raised_at c.before.before in
+    let t = turn a in
+    let s = entry t.before in
+    let A = a.raise_at-bound.ensures in
+    let P = t.before.loop-i.invariant in
+    let on = t.loop-i-test.true in
+    ⊎_elim
+    (λ w. rw w.1 (passed-less (few-of s) s.requires.raising.places P on A (rw (← read a) w.0.taken)))
+    (λ w. rw w.1 (passed-other (few-of s) s.requires.raising.places P on A (rw (← read a) w.0.left)))
+    c.if-bound-memory.branch
+
+pub shape_of-memory : goal.shape_of-memory
+shape_of-memory c = c.before.loop-i.invariant.raised.numbers
+
+pub returns : goal.returns
+returns c =
+    let t = c.before in
+    passed-all (few-of (entry t)) (entry t).requires.raising.places (entry t).requires.some t.loop-i.invariant c.loop-i-test.false

@@ -1,0 +1,22 @@
+-- `numbers::write_signed` meets its contract. The loop's invariant: the first i amounts of `xs` are written, and `s` has its length.
+-- The measure is what is left of n. Assumes nothing.
+use mathlib.Core.Path.{◌≡◌, refl, ap, ◌∙◌}
+use mathlib.Core.List.{map}
+use Prim.Native.Nat.{◌-◌, ◌≤◌}
+use native.Mathlib.Nat.{le_antisymm}
+use native.Mathlib.Omega.{arith}
+use borrow.Author.Rules.{rules}
+use lib.IntN.{pos}
+use lib.ListN.{length, take, get_or}
+use mir.Syntax.{w64}
+use mir.ValLaws.{to_z-of_z}
+use Rattle.signed.specs.Signed.{twos}
+use Rattle.numbers.specs.Numbers.{encode, written}
+use Rattle.numbers.proofs.Signed.{signed-more}
+use Rattle.numbers.proofs.write_signed.Given as goal
+
+abbrev pub invariant-loop-i : goal.invariant-loop-i
+invariant-loop-i l = (l.i ≤ l.n) × (l.s ≡ written l.initial.s (map twos (take l.i l.xs))) × (length l.s ≡ length l.initial.s)
+
+abbrev pub decreases-loop-i : goal.decreases-loop-i
+decreases-loop-i l = l.n - l.i

@@ -1,0 +1,36 @@
+-- `records::sizes::count_given` meets its contract. The loop's invariant: so many of the first i are not 0. The measure is what is left of c.
+-- Assumes nothing.
+use mathlib.Core.Path.{◌≡◌, refl, sym, ap, ◌∙◌}
+use mathlib.Core.Logic.{⊎_elim}
+use Prim.Native.Nat.{◌+◌, ◌-◌, ◌≤◌}
+use native.Mathlib.Nat.{le_antisymm}
+use native.Mathlib.Omega.{arith}
+use Rattle.network.specs.Given.{given}
+use Rattle.network.proofs.Given.{given-most, given-zero, given-one}
+use Rattle.records.proofs.sizes.count_given.Goals as goal
+
+pub loop-i-init : goal.loop-i-init
+unfolding given
+loop-i-init c = (omega arith, refl)
+
+pub overflow_add-r : goal.overflow_add-r
+overflow_add-r c =
+    let turn = c.before.before.before in
+    omega (arith, turn.loop-i.invariant.1, given-most turn.before.args.limits.now turn.loop-i.i)
+
+pub loop-i-preserved : goal.loop-i-preserved
+loop-i-preserved c =
+    let turn = c.before.before.before in
+    let xs = turn.before.args.limits.now in
+    let i = turn.loop-i.i in (
+      omega arith,
+      ⊎_elim
+          (λ w. w.1 ∙ (ap (λ r. r + 1) turn.loop-i.invariant.1 ∙ sym (given-one xs i w.0.taken)))
+          (λ w. w.1 ∙ (turn.loop-i.invariant.1 ∙ sym (given-zero xs i w.0.left)))
+          c.if-limits-i-ne0.branch,
+    )
+
+pub returns : goal.returns
+returns c =
+    let turn = c.before in
+    turn.loop-i.invariant.1 ∙ ap (given turn.before.args.limits.now) (le_antisymm turn.loop-i.invariant.0 c.loop-i-test.false)

@@ -1,0 +1,24 @@
+-- `records::sizes::shape` meets its contract: as many limits are read as there are nodes, or fewer where fewer are given. Assumes nothing.
+use mathlib.Core.Path.{◌≡◌, refl}
+use mathlib.Core.Logic.{⊎_elim}
+use native.Mathlib.Omega.{arith}
+use Rattle.network.proofs.Given.{given-most}
+use Rattle.records.specs.Parts.{limits_read}
+use Rattle.records.proofs.sizes.shape.Goals as goal
+
+abbrev entry : goal.Joined-n-all → goal.Start
+entry c = c.before.before
+
+read : (c : goal.Joined-n-all) → c.if-n-all.c ≡ limits_read (entry c).args.n (entry c).args.limits.now
+read c = ⊎_elim (λ w. omega (arith, w.0.taken, w.1)) (λ w. omega (arith, w.0.left, w.1)) c.if-n-all.branch
+
+pub count_given-requires : goal.count_given-requires
+count_given-requires c = omega (arith, read c)
+
+pub overflow_add-r : goal.overflow_add-r
+overflow_add-r c =
+    let s = entry c.before in
+    omega (arith, s.requires, c.count_given.ensures, read c.before, given-most s.args.limits.now c.before.if-n-all.c)
+
+pub returns : goal.returns
+returns c = rw (c.count_given.ensures, read c.before) refl

@@ -1,0 +1,23 @@
+-- `report::solved::show` meets its contract: the work space is large enough for every accepted network. Assumes nothing.
+use mathlib.Core.Path.{sym}
+use Prim.Native.Nat.{ℕ, ◌≤◌}
+use native.Mathlib.Omega.{arith}
+use lib.IntN.{pos}
+use lib.ListN.{length, replicate, length-replicate}
+use lib.Seq.{length-take-le}
+use borrow.Author.Rules.{rules}
+use Rattle.bounds.specs.Bounds.{most_arcs}
+use Rattle.packed.specs.Packed.{table_numbers}
+use Rattle.report.proofs.solved.show.Goals as goal
+
+-- 256 amounts are enough for the arcs
+room : (s : goal.Start) → s.args.s.arcs ≤ length (replicate most_arcs (pos 0))
+room s = omega (arith, s.requires.lent.packed.few-arcs, length-replicate most_arcs (pos 0))
+
+pub slice_bounds-show_in-end : goal.slice_bounds-show_in-end
+slice_bounds-show_in-end c = sym (length-take-le _ _ (room c.before.before.before))
+
+pub show_in-requires : goal.show_in-requires
+show_in-requires c =
+    let s = c.before.before.before.before.before in
+    record { ready = s.requires; flows = length-take-le _ _ (room s); places = omega (arith, length-replicate {A = ℕ} table_numbers 0) }

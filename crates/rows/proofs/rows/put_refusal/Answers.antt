@@ -1,0 +1,8 @@
+-- `rows::rows::put_refusal` meets its contract. Assumes nothing.
+use Rattle.rows.specs.Rows.{refusal_row}
+use borrow.Author.Rules.{rules}
+use Rattle.rows.proofs.rows.put_refusal.Goals as goal
+
+pub returns : goal.returns
+unfolding refusal_row
+returns c = rw c.before.before.before.before.before.refusal_code-c.ensures at c.before.before.put_row.ensures

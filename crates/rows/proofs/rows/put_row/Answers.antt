@@ -1,0 +1,9 @@
+-- `rows::rows::put_row` meets its contract. Assumes nothing.
+use Rattle.rows.specs.Row.{delimited, row}
+use Rattle.rows.proofs.Puts.{put_next}
+use borrow.Author.Rules.{rules}
+use Rattle.rows.proofs.rows.put_row.Goals as goal
+
+pub returns : goal.returns
+unfolding row delimited
+returns c = put_next c.before.before.before.before.before.before.before.before.before.before.before.put-next.ensures (put_next c.before.before.before.before.before.before.put-next-2.ensures c.before.before.put_fraction.ensures)

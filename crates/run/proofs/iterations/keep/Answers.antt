@@ -1,0 +1,19 @@
+-- `run::iterations::keep` meets its contract: the two ways of the branch are its two cases. Assumes nothing.
+use borrow.Author.Rules.{rules}
+use mathlib.Core.Path.{refl, sym, ◌∙◌}
+use mathlib.Core.Bool.{true≢false}
+use Rattle.run.proofs.iterations.keep.Goals as goal
+
+pub forget-requires : goal.forget-requires
+forget-requires c = c.before.before.before.requires
+
+pub returns-then-halved : goal.returns-then-halved
+returns-then-halved c =
+    let f = c.before.before in
+    record {
+      same = λ q. absurd (true≢false (sym f.before.before.if-halved.true ∙ q));
+      forgotten = λ q. f.forget.ensures;
+    }
+
+pub returns-else-halved : goal.returns-else-halved
+returns-else-halved c = record { same = λ q. refl; forgotten = λ q. absurd (true≢false (sym q ∙ c.if-halved.false)) }

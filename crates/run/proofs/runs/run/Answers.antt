@@ -1,0 +1,130 @@
+-- `run::runs::run` meets its contract: the loop is the definition's, and what is left of m * T falls with each iteration.
+-- Assumes nothing.
+use borrow.Author.Rules.{rules}
+use mathlib.Core.Path.{refl, ap, ◌∙◌}
+use native.Mathlib.Omega.{arith}
+use Rattle.length.specs.Level.{threshold}
+use Rattle.network.specs.Network.{Network}
+use Rattle.network.proofs.Sounds.{resources-within}
+use Rattle.packed.specs.Packed.{net_in}
+use Rattle.packed.proofs.Columns.{arcs-is}
+use Rattle.method.specs.Iteration.{State}
+use Rattle.memory.specs.Memory.{Memory}
+use Rattle.step.specs.Progress.{state_in}
+use Rattle.run.specs.Noted.{Noted, Iterated}
+use Rattle.run.proofs.Begun.{begin-noted, begin-running}
+use Rattle.run.proofs.Onward.{onward-less, onward-last, onward-running, onward-noted}
+use Rattle.run.proofs.Running.{left, Running}
+use Rattle.run.proofs.Same.{Same}
+use Rattle.run.proofs.runs.run.Invariants.{net}
+use Rattle.run.proofs.runs.run.Goals as goal
+
+-- The table of L has a row for this many resources. It has one for this many arcs too, so that a
+-- mark by the arcs fails not here but where it has to be the method's mark.
+pub threshold-threshold-requires : goal.threshold-threshold-requires
+threshold-threshold-requires c =
+    let a = c.before.before.before.before.before.requires.room.lent in
+    let k = resources-within _ _ a.sound in
+    let e = a.sound.counts.of-arcs in
+    let m = arcs-is a.packed in
+    let p = a.sound.counts.precision in
+    (omega (arith, k.least, a.counted, e.least, m), omega (arith, k.most, a.counted, e.most, m), p.least, p.most)
+
+pub loop-p-init : goal.loop-p-init
+loop-p-init c =
+    let s = c.before.before.before.before.before.before.before in
+    let a = s.requires.room.lent in (
+      begin-running c.begin-p.ensures a.sound s.requires.starting.start s.requires.starting.chooses,
+      (
+        begin-noted c.begin-p.ensures s.requires.starting.weight (c.before.threshold-threshold.ensures ∙ ap (λ m. threshold m s.args.q) a.counted),
+        (s.requires.starting.memory-of, record { flows = refl; tabled = refl; memorised = refl; paths = refl }),
+      ),
+    )
+
+-- from the loop's beginning to the function's entry
+abbrev entry : goal.At-loop-p → goal.Start
+entry c = c.before.before.before.before.before.before.before.before
+
+pub iterate-p-requires : goal.iterate-p-requires
+iterate-p-requires c =
+    let t = c.before.before.before.before in
+    let p = (entry t).requires in
+    let i = t.loop-p.invariant in
+    let same = i.1.1.1 in (
+      record {
+        lent = p.0.lent;
+        indexed = p.0.indexed;
+        tables = omega (arith, same.tabled, p.0.tables);
+        path = omega (arith, same.paths, p.0.path);
+      },
+      record { memory-of = i.1.1.0; chooses = p.1.chooses; underway = i.0.underway; noted = i.1.0 },
+    )
+
+-- behind an iteration: the loop's beginning, and the states before and after it
+abbrev turn : goal.After-iterate-p → goal.At-loop-p
+turn c = c.before.before.before.before.before
+
+abbrev old : goal.After-iterate-p → State
+old c = let l = (turn c).loop-p in state_in (entry (turn c)).args.s l.flow-1 l.tables-1 l.p
+
+abbrev new : goal.After-iterate-p → State
+new c =
+    let l = c.iterate-p.new.1.1.1.1.1 in
+    state_in (entry (turn c)).args.s l.0 l.1.0 c.iterate-p.result
+
+iterated : (c : goal.After-iterate-p) → let s = entry (turn c) in Iterated (net s) s.args.q (old c) (new c) c.iterate-p.result
+iterated c = c.iterate-p.ensures.iterated
+
+sizes : (c : goal.After-iterate-p) →
+    let z = (entry (turn c)).args in
+    let l = c.iterate-p.new.1.1.1.1.1 in
+    Same z.flow-1.now z.tables-1.now z.memory-1.now z.path-1.now l.0 l.1.0 l.1.1.0 l.1.1.1.0
+sizes c =
+    let k = c.iterate-p.auto.1.1.1.1.1 in
+    let i = (turn c).loop-p.invariant.1.1.1 in
+    record {
+      flows = k.0 ∙ i.flows;
+      tabled = k.1.0 ∙ i.tabled;
+      memorised = k.1.1.0 ∙ i.memorised;
+      paths = k.1.1.1.0 ∙ i.paths;
+    }
+
+-- the iteration, seen from where the run goes on and from where it ends
+abbrev going-at : goal.Else-p → goal.After-iterate-p
+going-at c = c.before.before.before.before.before.before.before.before
+
+abbrev ended_at : goal.Then-p → goal.After-iterate-p
+ended_at c = c.before.before.before.before.before.before.before.before
+
+pub loop-p-smaller : goal.loop-p-smaller
+loop-p-smaller c =
+    let f = going-at c in
+    let s = entry (turn f) in
+    onward-less (net s) s.args.q s.requires.room.lent.sound s.requires.starting.chooses (turn f).loop-p.invariant.0 (iterated f)
+
+pub loop-p-preserved : goal.loop-p-preserved
+loop-p-preserved c =
+    let f = going-at c in
+    let s = entry (turn f) in
+    let i = (turn f).loop-p.invariant in (
+      onward-running (net s) s.args.q s.requires.room.lent.sound s.requires.starting.chooses i.0 (iterated f) c.if-p.false,
+      (onward-noted i.1.0 (iterated f), (f.iterate-p.ensures.memory-of, sizes f)),
+    )
+
+pub returns : goal.returns
+returns c =
+    let f = ended_at c in
+    let s = entry (turn f) in
+    onward-last (net s) s.args.q s.requires.room.lent.sound s.requires.starting.chooses (turn f).loop-p.invariant.0 (iterated f) c.if-p.true
+
+pub shape_of-flow : goal.shape_of-flow
+shape_of-flow c = (sizes (ended_at c)).flows
+
+pub shape_of-tables : goal.shape_of-tables
+shape_of-tables c = (sizes (ended_at c)).tabled
+
+pub shape_of-memory : goal.shape_of-memory
+shape_of-memory c = (sizes (ended_at c)).memorised
+
+pub shape_of-path : goal.shape_of-path
+shape_of-path c = (sizes (ended_at c)).paths

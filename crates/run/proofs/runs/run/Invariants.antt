@@ -1,0 +1,32 @@
+-- `run::runs::run` meets its contract: the loop is the definition's, and what is left of m * T falls with each iteration.
+-- Assumes nothing.
+use borrow.Author.Rules.{rules}
+use mathlib.Core.Path.{refl, ap, ◌∙◌}
+use native.Mathlib.Omega.{arith}
+use Rattle.length.specs.Level.{threshold}
+use Rattle.network.specs.Network.{Network}
+use Rattle.network.proofs.Sounds.{resources-within}
+use Rattle.packed.specs.Packed.{net_in}
+use Rattle.packed.proofs.Columns.{arcs-is}
+use Rattle.method.specs.Iteration.{State}
+use Rattle.memory.specs.Memory.{Memory}
+use Rattle.step.specs.Progress.{state_in}
+use Rattle.run.specs.Noted.{Noted, Iterated}
+use Rattle.run.proofs.Begun.{begin-noted, begin-running}
+use Rattle.run.proofs.Onward.{onward-less, onward-last, onward-running, onward-noted}
+use Rattle.run.proofs.Running.{left, Running}
+use Rattle.run.proofs.Same.{Same}
+use Rattle.run.proofs.runs.run.Given as goal
+
+abbrev pub invariant-loop-p : goal.invariant-loop-p
+invariant-loop-p l =
+    Running (net_in l.s l.net) l.q (state_in l.s l.flow l.tables l.p) ×
+    (Noted (net_in l.s l.net) l.q l.threshold (state_in l.s l.flow l.tables l.p).lengths l.p ×
+    (Memory l.s (net_in l.s l.net) (state_in l.s l.flow l.tables l.p).lengths l.memory × Same l.initial.flow l.initial.tables l.initial.memory l.initial.path l.flow l.tables l.memory l.path))
+
+abbrev pub decreases-loop-p : goal.decreases-loop-p
+decreases-loop-p l = left (net_in l.s l.net) l.q (state_in l.s l.flow l.tables l.p)
+
+-- the network at entry
+abbrev pub net : goal.Start invariant-loop decreases-loop → Network
+net s = net_in s.args.s s.args.net.now

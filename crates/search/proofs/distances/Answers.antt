@@ -1,0 +1,12 @@
+-- `search::distances` meets its contract: its list is empty, and has room for each node.
+-- Assumes nothing.
+use native.Mathlib.Omega.{arith}
+use borrow.Author.Rules.{rules}
+use Rattle.paths.proofs.Worklists.{worklist-zeros}
+use Rattle.search.proofs.distances.Goals as goal
+
+pub distances_in-requires : goal.distances_in-requires
+distances_in-requires c =
+    let s = c.before.before.before.before.before.before in
+    let n = s.requires.index.arcs.nodes in
+    (s.requires, worklist-zeros _ 65 (omega (arith, n)))

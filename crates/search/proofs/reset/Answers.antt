@@ -1,0 +1,9 @@
+-- `search::reset` meets its contract: every entry is far, then the sink's is 0.
+-- Assumes nothing.
+use mathlib.Core.Path.{ap}
+use lib.ListN.{set}
+use borrow.Author.Rules.{rules}
+use Rattle.search.proofs.reset.Goals as goal
+
+pub returns : goal.returns
+returns c = ap (λ d. set d c.before.before.before.before.before.args.sink 0) c.before.before.fill.ensures

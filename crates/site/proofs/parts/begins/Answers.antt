@@ -1,0 +1,54 @@
+-- `site::parts::begins` meets its contract. The loop's invariant: the part of floor f begins at `from`. The measure is what is left of i.
+-- Assumes nothing.
+use borrow.Author.Rules.{rules}
+use mathlib.Core.Path.{◌≡◌, refl, ap, ◌∙◌}
+use Prim.Native.Nat.{◌+◌, ◌*◌, ◌-◌, ◌≤◌, ◌<◌}
+use native.Mathlib.Nat.{le_antisymm}
+use native.Mathlib.Omega.{arith}
+use Rattle.bounds.specs.Sites.{floor_numbers}
+use Rattle.numbers.specs.Numbers.{count}
+use Rattle.numbers.proofs.Columns.{member_below}
+use Rattle.site.specs.Parts.{begins}
+use Rattle.site.proofs.Begins.{begins-most, begins-more}
+use Rattle.site.proofs.parts.begins.Goals as goal
+
+pub loop-f-init : goal.loop-f-init
+unfolding begins
+loop-f-init c = (omega arith, refl)
+
+-- floor f's size is in the list
+module _ (c : goal.In-loop-f) where
+  abbrev first : goal.Start
+  first = c.before.before.before
+
+  place : floor_numbers * c.before.loop-f.f + first.args.j < count first.args.floors.now
+  place = member_below first.args.floors.now floor_numbers first.args.j c.before.loop-f.f first.requires.0 (omega (arith, c.loop-f-test.true, first.requires.1))
+
+  within : c.before.loop-f.from ≤ first.args.room
+  within = omega (arith, c.before.loop-f.invariant.1, begins-most first.args.floors.now first.args.j first.args.room c.before.loop-f.f)
+
+pub loop-f-preserved : goal.loop-f-preserved
+loop-f-preserved c =
+    let r = c.before in
+    let l = r.before.before in
+    (omega (arith, r.before.loop-f-test.true), begins-more _ _ _ _ l.loop-f.invariant.1 r.read.ensures c.fit-from.ensures)
+
+pub returns : goal.returns
+returns c =
+    let s = c.before.before.before in
+    c.before.loop-f.invariant.1 ∙ ap (begins s.args.floors.now s.args.j s.args.room) (le_antisymm c.before.loop-f.invariant.0 c.loop-f-test.false)
+
+pub overflow_mul-f : goal.overflow_mul-f
+overflow_mul-f c = omega (arith, place c)
+
+pub overflow_add-f : goal.overflow_add-f
+overflow_add-f c = omega (arith, place c)
+
+pub read-requires : goal.read-requires
+read-requires c = place c
+
+pub overflow_sub-room : goal.overflow_sub-room
+overflow_sub-room c = within c.before
+
+pub overflow_add-from : goal.overflow_add-from
+overflow_add-from c = omega (arith, within c.before.before, c.fit-from.ensures)

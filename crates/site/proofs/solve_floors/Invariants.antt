@@ -1,0 +1,30 @@
+-- `site::solve_floors` meets its contract. The loop's invariant: the floors before i are sent, and each table has its length. The measure is what is
+-- left of k. Assumes nothing.
+use borrow.Author.Rules.{rules}
+use mathlib.Core.Path.{◌≡◌, refl, ◌∙◌}
+use Prim.Native.Nat.{◌-◌, ◌≤◌}
+use native.Mathlib.Omega.{arith}
+use lib.ListN.{length}
+use Rattle.bounds.specs.Sites.{floor_numbers}
+use Rattle.numbers.specs.Numbers.{items}
+use Rattle.call.specs.Deliver.{slices}
+use Rattle.call.specs.Host.{Slices}
+use Rattle.site.specs.Turns.{site, FloorsServed}
+use Rattle.site.proofs.Floors.{none_yet, one_more}
+use Rattle.site.proofs.solve_floors.Given as goal
+
+-- as long as they were, table by table
+pub record AsLong (old new : Slices) : Type 0 where
+  pub flow : length new.flow-1 ≡ length old.flow-1
+  pub lengths : length new.lengths-1 ≡ length old.lengths-1
+  pub answers : length new.answer ≡ length old.answer
+  pub counts : length new.counts-1 ≡ length old.counts-1
+
+abbrev pub invariant-loop-i : goal.invariant-loop-i
+invariant-loop-i l =
+    let old = slices l.initial.flow l.initial.lengths l.initial.answers l.initial.counts in
+    let new = slices l.flow l.lengths l.answers l.counts in
+    (l.i ≤ l.k) × FloorsServed (site l.office l.floors l.belts l.pairs l.limits) l.i old new × AsLong old new
+
+abbrev pub decreases-loop-i : goal.decreases-loop-i
+decreases-loop-i l = l.k - l.i

@@ -1,0 +1,44 @@
+-- `tables::draws::draw` meets its contract: g, lowered by the arcs that are left, is the draw.
+-- Assumes nothing.
+use mathlib.Core.Logic.{⊎_elim}
+use Prim.Native.Nat.{◌-◌, ◌<◌}
+use native.Mathlib.Omega.{arith}
+use lib.ListN.{length, get_or}
+use Rattle.tables.proofs.Lowered.{Lowered, lower-first, lower-more, lower-all}
+use Rattle.tables.proofs.draws.draw.Invariants.{first}
+use Rattle.tables.proofs.draws.draw.Goals as goal
+
+abbrev entry : goal.In-loop-j → goal.Start
+entry c = c.before.before.before.before
+
+place : (c : goal.In-loop-j) → get_or (entry c).args.path.now c.before.loop-j.j 0 < length (entry c).args.capacities.now
+place c = (entry c).requires.1 c.before.loop-j.j (omega arith)
+
+pub offset_bounds-capacities-first : goal.offset_bounds-capacities-first
+offset_bounds-capacities-first c = omega (arith, first c.before)
+
+pub bounds-capacities-first : goal.bounds-capacities-first
+bounds-capacities-first c = omega (arith, first c.before.before)
+
+pub loop-j-init : goal.loop-j-init
+loop-j-init c = lower-first _ _ (omega arith)
+
+pub offset_bounds-capacities-e : goal.offset_bounds-capacities-e
+offset_bounds-capacities-e c = omega (arith, place c.before)
+
+pub bounds-capacities-e : goal.bounds-capacities-e
+bounds-capacities-e c = omega (arith, place c.before.before)
+
+pub offset_bounds-capacities-e-then-capacities-e : goal.offset_bounds-capacities-e-then-capacities-e
+offset_bounds-capacities-e-then-capacities-e c = omega (arith, place c.before.before.before)
+
+pub bounds-capacities-e-then-capacities-e : goal.bounds-capacities-e-then-capacities-e
+bounds-capacities-e-then-capacities-e c = omega (arith, place c.before.before.before.before)
+
+pub loop-j-preserved : goal.loop-j-preserved
+loop-j-preserved c =
+    let turn = c.before.before.before.before.loop-j in
+    ⊎_elim (λ w. lower-more _ turn.invariant (omega arith) (omega arith)) (λ w. lower-more _ turn.invariant (omega arith) (omega arith)) c.if-capacities-e.branch
+
+pub returns : goal.returns
+returns c = lower-all c.before.loop-j.invariant (omega arith)

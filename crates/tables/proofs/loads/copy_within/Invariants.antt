@@ -1,0 +1,11 @@
+-- `tables::loads::copy_within` meets its contract: after e turns the first e numbers are copied. Assumes nothing.
+use Prim.Native.Nat.{◌-◌}
+use native.Mathlib.Omega.{arith}
+use Rattle.tables.proofs.Copied.{Copying, copying-none, copying-more, copying-all}
+use Rattle.tables.proofs.loads.copy_within.Given as goal
+
+abbrev pub invariant-loop-e : goal.invariant-loop-e
+invariant-loop-e l = Copying l.initial.table l.from l.to l.n l.e l.table
+
+abbrev pub decreases-loop-e : goal.decreases-loop-e
+decreases-loop-e l = l.n - l.e

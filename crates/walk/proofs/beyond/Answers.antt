@@ -1,0 +1,37 @@
+-- `walk::beyond` meets its contract: its test is the definition's.
+-- Assumes nothing.
+use borrow.Author.Rules.{rules}
+use borrow.Author.Tests.{eq-eqb, ne_eqb}
+use mathlib.Core.Path.{◌≡◌, sym, ◌∙◌}
+use mathlib.Core.Bool.{true, false}
+use Prim.Native.Nat.{◌+◌}
+use lib.ListN.{get_or}
+use Rattle.network.specs.Network.{Network, tail, head}
+use Rattle.network.specs.Path.{forward}
+use Rattle.packed.specs.Packed.{net_in, tails_from, heads_from}
+use Rattle.packed.proofs.Columns.{part_at}
+use Rattle.walk.proofs.beyond.Goals as goal
+
+abbrev net : goal.Start → Network
+net s = net_in s.args.s s.args.net.now
+
+-- the two ends, as they are read
+from : (s : goal.Start) → get_or s.args.net.now (tails_from + s.args.e) 0 ≡ tail (net s) s.args.e
+unfolding net_in
+from s = sym (part_at tails_from s.args.s.arcs s.args.net.now s.args.e s.requires.arc)
+
+to : (s : goal.Start) → get_or s.args.net.now (heads_from + s.args.e) 0 ≡ head (net s) s.args.e
+unfolding net_in
+to s = sym (part_at heads_from s.args.s.arcs s.args.net.now s.args.e s.requires.arc)
+
+pub returns-then-tail-v : goal.returns-then-tail-v
+returns-then-tail-v c =
+    let s = c.before.before.before in
+    let ahead : forward (net s) s.args.v s.args.e ≡ true = eq-eqb _ _ (sym (from s) ∙ c.before.if-tail-v.true) in
+    rw ahead (to s)
+
+pub returns : goal.returns
+returns c =
+    let s = c.before.before in
+    let back : forward (net s) s.args.v s.args.e ≡ false = ne_eqb _ _ (λ q. c.if-tail-v.false (from s ∙ q)) in
+    rw back (from s)

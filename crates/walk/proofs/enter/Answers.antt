@@ -1,0 +1,16 @@
+-- `walk::enter` meets its contract: the index has a resource's number for a limited node, and one past them all for any other.
+-- Assumes nothing.
+use borrow.Author.Rules.{rules}
+use native.Mathlib.Omega.{arith}
+use Rattle.paths.proofs.Collecting.{entered-limited, entered-none}
+use Rattle.walk.proofs.enter.Goals as goal
+
+pub returns-then-r-s : goal.returns-then-r-s
+returns-then-r-s c =
+    let p = c.before.before.requires in
+    entered-limited _ _ (p.index.places _ p.node) p.place (omega (arith, p.counted, c.if-r-s.true))
+
+pub returns : goal.returns
+returns c =
+    let p = c.before.before.requires in
+    entered-none _ _ (p.index.places _ p.node) p.node (omega (arith, p.counted, c.if-r-s.false))

@@ -1,0 +1,16 @@
+-- `walk::walk` meets its contract: the arcs written are the walk so far, and each arc leads to a nearer node.
+-- Assumes nothing.
+use mathlib.Core.Path.{refl}
+use Prim.Native.Nat.{◌+◌, ◌<◌}
+use native.Mathlib.Omega.{arith}
+use lib.ListN.{length, get_or}
+use Rattle.packed.specs.Packed.{net_in}
+use Rattle.paths.specs.Tight.{Tight}
+use Rattle.paths.proofs.Walking.{Walking, walking_start, walking-few, walking-end, walking_on, walking-stuck, walking-step, next-nearer}
+use Rattle.walk.proofs.walk.Given as goal
+
+abbrev pub invariant-loop-v : goal.invariant-loop-v
+invariant-loop-v l = Walking (net_in l.s l.net) l.lengths l.dist l.source l.sink (length l.initial.path) l.path l.v l.k
+
+abbrev pub decreases-loop-v : goal.decreases-loop-v
+decreases-loop-v l = get_or l.dist l.v 0

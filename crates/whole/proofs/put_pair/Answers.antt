@@ -1,0 +1,16 @@
+-- `whole::put_pair` meets its contract. Assumes nothing.
+use borrow.Author.Rules.{rules}
+use mathlib.Core.Path.{ap, ◌∙◌}
+use Prim.Native.Nat.{◌+◌, ◌*◌, ◌%◌}
+use native.Mathlib.Omega.{arith}
+use Rattle.numbers.specs.Numbers.{put_at}
+use Rattle.whole.proofs.put_pair.Goals as goal
+
+pub write-requires-2 : goal.write-requires-2
+write-requires-2 c = omega arith
+
+pub returns : goal.returns
+returns c =
+    let w = c.before.before in
+    let s = w.before.before.before.before.before.before.before in
+    w.write-2.ensures ∙ ap (λ t. put_at t (2 * s.args.i + 1) (s.args.scaled % s.args.load)) w.before.before.before.before.write.ensures
