@@ -1,19 +1,20 @@
 -- `decode::read_belts` meets its contract: each column is read to its place, and later ones leave it there. Assumes nothing.
 use borrow.Author.Rules.{rules}
 use Rattle.decode.proofs.Decoded.{fills, belts-read}
+use Rattle.decode.proofs.read_belts.Tie as tie
 use Rattle.decode.proofs.read_belts.Goals as goal
 
 -- from each column back to the one before it, and from the first to the function's entry
-abbrev entry : goal.After-read_column → goal.Start
+abbrev entry : tie.After-read_column → tie.Start
 entry c = c.before.before.before.before
 
-abbrev tails-at : goal.After-read_column-2 → goal.After-read_column
+abbrev tails-at : tie.After-read_column2 → tie.After-read_column
 tails-at c = c.before.before.before.before
 
-abbrev heads-at : goal.After-read_column-3 → goal.After-read_column-2
+abbrev heads-at : tie.After-read_column3 → tie.After-read_column2
 heads-at c = c.before.before.before.before
 
-abbrev capacities-at : goal.After-read_column-4 → goal.After-read_column-3
+abbrev capacities-at : tie.After-read_column4 → tie.After-read_column3
 capacities-at c = c.before.before.before.before
 
 pub returns : goal.returns

@@ -1,9 +1,10 @@
 -- `decode::read_limits` meets its contract: the column is read to its place. Assumes nothing.
 use borrow.Author.Rules.{rules}
 use Rattle.decode.proofs.Decoded.{fills, limits-read}
+use Rattle.decode.proofs.read_limits.Tie as tie
 use Rattle.decode.proofs.read_limits.Goals as goal
 
-abbrev entry : goal.After-read_column → goal.Start
+abbrev entry : tie.After-read_column → tie.Start
 entry c = c.before.before.before.before
 
 pub returns : goal.returns

@@ -1,13 +1,14 @@
 -- `decode::read_pairs` meets its contract: each column is read to its place, and the second leaves the first there. Assumes nothing.
 use borrow.Author.Rules.{rules}
 use Rattle.decode.proofs.Decoded.{fills, pairs-read}
+use Rattle.decode.proofs.read_pairs.Tie as tie
 use Rattle.decode.proofs.read_pairs.Goals as goal
 
 -- from each column back to the one before it, and from the first to the function's entry
-abbrev entry : goal.After-read_column → goal.Start
+abbrev entry : tie.After-read_column → tie.Start
 entry c = c.before.before.before.before
 
-abbrev sources-at : goal.After-read_column-2 → goal.After-read_column
+abbrev sources-at : tie.After-read_column2 → tie.After-read_column
 sources-at c = c.before.before.before.before
 
 pub returns : goal.returns

@@ -7,9 +7,10 @@ use borrow.Author.Rules.{rules}
 use Rattle.network.proofs.Given.{given-most}
 use Rattle.numbers.specs.Numbers.{count, items, column}
 use Rattle.decode.proofs.Shapes.{counts}
+use Rattle.decode.proofs.shape.Tie as tie
 use Rattle.decode.proofs.shape.Goals as goal
 
-abbrev entry : goal.Joined-n-all → goal.Start
+abbrev entry : goal.Joined-n-all → tie.Start
 entry c = c.before.before.before.before.before.before.before
 
 read : (c : goal.Joined-n-all) → c.if-n-all.c ≡ min (entry c).args.n (count (entry c).args.limits.now)

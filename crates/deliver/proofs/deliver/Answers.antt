@@ -7,16 +7,17 @@ use Rattle.method.specs.Answer.{numbers_of}
 use Rattle.call.specs.Host.{raised}
 use Rattle.call.proofs.Counting.{count_small}
 use Rattle.call.proofs.Equal.{same-slices}
+use Rattle.deliver.proofs.deliver.Tie as tie
 use Rattle.deliver.proofs.deliver.Goals as goal
 
 -- from each call back to the one before it, and from the first to the function's entry
-abbrev entry : goal.After-write_tables-a → goal.Start
+abbrev entry : tie.After-write_tables → tie.Start
 entry c = c.before.before.before.before.before.before.before.before
 
-abbrev tables-at : goal.After-put_answer → goal.After-write_tables-a
+abbrev tables-at : tie.After-put_answer → tie.After-write_tables
 tables-at c = c.before.before.before.before.before.before
 
-abbrev answer_at : goal.After-raise_count → goal.After-put_answer
+abbrev answer_at : tie.After-raise_count → tie.After-put_answer
 answer_at c = c.before.before.before.before
 
 pub raise_count-requires : goal.raise_count-requires

@@ -13,29 +13,30 @@ use Rattle.signed.specs.Signed.{twos}
 use Rattle.numbers.specs.Numbers.{written}
 use Rattle.packed.specs.Packed.{kept_from, kept_in}
 use Rattle.packed.proofs.Columns.{arcs-is, commodities-is, part_length}
+use Rattle.deliver.proofs.write_tables_in.Tie as tie
 use Rattle.deliver.proofs.write_tables_in.Goals as goal
 
 -- from each call back to the one before it, and from the first to the function's entry
-abbrev entry : goal.After-solve-a → goal.Start
+abbrev entry : tie.After-solve → tie.Start
 entry c = c.before.before.before.before.before.before.before
 
-abbrev solve-at : goal.After-write_signed → goal.After-solve-a
+abbrev solve-at : tie.After-write_signed → tie.After-solve
 solve-at c = c.before.before.before.before.before.before
 
-abbrev flow-at : goal.After-write_all → goal.After-write_signed
+abbrev flow-at : tie.After-write_all → tie.After-write_signed
 flow-at c = c.before.before.before.before.before.before
 
 -- the outcome's tables are of the shape's size
-flow-size : (c : goal.After-solve-a) → length c.solve-a.new.1.1.1.0 ≡ (entry c).args.s.commodities * (entry c).args.s.arcs
+flow-size : (c : tie.After-solve) → length c.solve-a.new.1.1.1.0 ≡ (entry c).args.s.commodities * (entry c).args.s.arcs
 flow-size c =
     let p = (entry c).requires.solving in
     c.solve-a.auto.1.1.1.0 ∙ (p.flows-1 ∙ ap₂ ◌*◌ (commodities-is p.lent.packed) (arcs-is p.lent.packed))
 
 -- and no more resources than arcs may be
-few : (s : goal.Start) → s.args.s.resources ≤ most_arcs
+few : (s : tie.Start) → s.args.s.resources ≤ most_arcs
 few s = let p = s.requires.solving.lent in omega (arith, p.counted, p.sound.counts.of-resources)
 
-kept-size : (c : goal.After-solve-a) → length (kept_in (entry c).args.s c.solve-a.new.1.1.1.1.0) ≡ (entry c).args.s.resources
+kept-size : (c : tie.After-solve) → length (kept_in (entry c).args.s c.solve-a.new.1.1.1.1.0) ≡ (entry c).args.s.resources
 kept-size c =
     let p = (entry c).requires.solving in
     part_length kept_from (entry c).args.s.resources c.solve-a.new.1.1.1.1.0 (omega (arith, c.solve-a.auto.1.1.1.1.0, p.places, few (entry c)))

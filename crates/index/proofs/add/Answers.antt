@@ -7,16 +7,17 @@ use borrow.Author.Rules.{rules}
 use Rattle.index.specs.Indexing.{Side, side, Joining, Building}
 use Rattle.index.proofs.Adding.{building-room, building-put}
 use Rattle.index.proofs.Building.{building-on}
+use Rattle.index.proofs.add.Tie as tie
 use Rattle.index.proofs.add.Goals as goal
 
 -- from the arc's other end back to the function's entry, and the columns there
-abbrev entry : goal.After-other-w → goal.Start
+abbrev entry : tie.After-other → tie.Start
 entry c = c.before.before.before.before.before
 
-abbrev columns : goal.Start → Side
+abbrev columns : tie.Start → Side
 columns s = side s.args.here.now s.args.there.now s.args.marks.now
 
-joins : (c : goal.Else-w-eq0) → let s = entry c.before in Joining (columns s) s.args.v s.args.e c.before.other-w.result
+joins : (c : tie.Else1) → let s = entry c.before in Joining (columns s) s.args.v s.args.e c.before.other-w.result
 joins c = c.before.other-w.ensures.at c.if-w-eq0.false
 
 pub other-w-requires : goal.other-w-requires

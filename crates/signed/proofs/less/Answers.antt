@@ -10,7 +10,7 @@ difference : (c : goal.Start) → Result ◌-ℤ◌ (of_z w64 c.args.x) c.args.g
 difference c = less-result c.args.x c.ranges.x c.args.g c.requires
 
 pub overflow_sub-result : goal.overflow_sub-result
-overflow_sub-result c = (difference c).ranges
+overflow_sub-result c = (difference c).fits
 
 pub returns : goal.returns
 returns c = (difference c).is

@@ -10,7 +10,7 @@ sum : (c : goal.Start) → Result ◌+ℤ◌ (of_z w64 c.args.x) c.args.g (c.arg
 sum c = more-result c.args.x c.ranges.x c.args.g c.requires
 
 pub overflow_add-result : goal.overflow_add-result
-overflow_add-result c = (sum c).ranges
+overflow_add-result c = (sum c).fits
 
 pub returns : goal.returns
 returns c = (sum c).is

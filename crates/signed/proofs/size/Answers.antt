@@ -12,7 +12,7 @@ y : (c : goal.Then-x-lt0) → Result ◌-ℤ◌ 0 (of_z w64 c.before.args.x) (po
 y c = size-result c.before.args.x c.before.ranges.x c.if-x-lt0.true c.before.requires
 
 pub overflow_sub-y : goal.overflow_sub-y
-overflow_sub-y c = (y c).ranges
+overflow_sub-y c = (y c).fits
 
 pub overflow_cast-result : goal.overflow_cast-result
 overflow_cast-result c = cast_fits (y c).is (omega arith)

@@ -19,7 +19,7 @@ pub returns-then-x-lt0 : goal.returns-then-x-lt0
 returns-then-x-lt0 c = ap (λ (z : ℤ). 2 ^ 64 - 1 - nat_abs z) (y c).is ∙ twos-is c.before.args.x c.before.ranges.x c.if-x-lt0.true
 
 pub overflow_sub-y : goal.overflow_sub-y
-overflow_sub-y c = (y c).ranges
+overflow_sub-y c = (y c).fits
 
 pub overflow_sub-result : goal.overflow_sub-result
 overflow_sub-result c = omega (arith, (overflow_cast-result c).1.fits)

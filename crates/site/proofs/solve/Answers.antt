@@ -10,26 +10,27 @@ use Rattle.site.specs.Site.{Site, list_conditions}
 use Rattle.site.specs.Turns.{site}
 use Rattle.site.proofs.Listed.{listed, list-fits}
 use Rattle.site.proofs.Sites.{site-refused, site-accepted}
+use Rattle.site.proofs.solve.Tie as tie
 use Rattle.site.proofs.solve.Goals as goal
 
 -- what is read, and the slices at entry
-abbrev what : goal.Start → Site
+abbrev what : tie.Start → Site
 what s = site s.args.office s.args.floors.now s.args.belts.now s.args.pairs.now s.args.limits.now
 
-abbrev lent : goal.Start → Slices
+abbrev lent : tie.Start → Slices
 lent s = slices s.args.flow.now s.args.lengths.now s.args.answers.now s.args.counts.now
 
 -- from each call back to the one before it, and from the first to the function's entry
-abbrev entry : goal.After-check_list-v → goal.Start
+abbrev entry : tie.After-check_list → tie.Start
 entry c = c.before.before.before.before.before.before.before.before.before.before
 
-abbrev told_at : goal.After-solve_floors → goal.In_default
+abbrev told_at : tie.After-solve_floors → tie.After-enum_told2
 told_at c = c.before.before.before.before.before
 
-abbrev floors-at : goal.After-slice_known-8-1 → goal.After-solve_floors
+abbrev floors-at : goal.After-slice_known-8-1 → tie.After-solve_floors
 floors-at c = c.before.before.before.before.before.before.before.before
 
-passed : (c : goal.In_default) → let s = entry c.before.before in verdict (list_conditions s.args.floors.now s.args.answers.now) ≡ Accepted
+passed : (c : tie.After-enum_told2) → let s = entry c.before.before in verdict (list_conditions s.args.floors.now s.args.answers.now) ≡ Accepted
 passed c = sym c.before.before.check_list-v.ensures ∙ c.in_default.is
 
 pub host_number-requires : goal.host_number-requires

@@ -16,30 +16,31 @@ use Rattle.site.specs.Site.{Site}
 use Rattle.site.specs.Turns.{site}
 use Rattle.site.proofs.Fitting.{Fitting, fitting}
 use Rattle.site.proofs.Floor.{floor-served}
+use Rattle.site.proofs.solve_floor.Tie as tie
 use Rattle.site.proofs.solve_floor.Goals as goal
 
 -- what is read, and the slices at entry
-abbrev what : goal.Start → Site
+abbrev what : tie.Start → Site
 what s = site s.args.office s.args.floors.now s.args.belts.now s.args.pairs.now s.args.limits.now
 
-abbrev lent : goal.Start → Slices
+abbrev lent : tie.Start → Slices
 lent s = slices s.args.flow.now s.args.lengths.now s.args.answers.now s.args.counts.now
 
 -- from each call back to the one before it, and from the first to the function's entry
-abbrev entry : goal.After-of_floor-p → goal.Start
+abbrev entry : tie.After-of_floor → tie.Start
 entry c = c.before.before.before.before.before.before.before.before.before.before.before
 
-abbrev parts_at : goal.After-read-q → goal.After-of_floor-p
+abbrev parts_at : goal.After-read-q → tie.After-of_floor
 parts_at c = c.before.before.before.before.before.before.before
 
-abbrev told_at : goal.After-solve-returned → goal.After-read-q
+abbrev told_at : tie.After-solve → goal.After-read-q
 told_at c = c.before.before.before.before.before.before.before.before
 
-abbrev solved-at : goal.After-write-arg-1 → goal.After-solve-returned
+abbrev solved-at : goal.After-write-arg-1 → tie.After-solve
 solved-at c = c.before.before.before.before.before.before.before.before.before
 
-module _ (c : goal.After-of_floor-p) where
-  abbrev first : goal.Start
+module _ (c : tie.After-of_floor) where
+  abbrev first : tie.Start
   first = entry c
 
   -- the parts end within their slices
@@ -57,13 +58,13 @@ module _ (c : goal.After-of_floor-p) where
   eight-fit = omega (arith, first.requires.0, first.requires.1.room)
 
 -- the seven have come back
-seven : (c : goal.After-solve-returned) → length c.solve-returned.new.1.1.1.1.1.1.1.1.0 ≡ 56
+seven : (c : tie.After-solve) → length c.solve-returned.new.1.1.1.1.1.1.1.1.0 ≡ 56
 seven c =
     let p = parts_at (told_at c) in
     c.solve-returned.auto.1.1.1.1.1.1.1.1.0 ∙ part_length (64 * (entry p).args.i + 8) 56 (entry p).args.answers.now (omega (arith, eight-fit p))
 
 answers-length :
-    (c : goal.After-solve-returned) →
+    (c : tie.After-solve) →
     let s = entry (parts_at (told_at c)) in
     length (put (64 * s.args.i + 8) 56 s.args.answers.now c.solve-returned.new.1.1.1.1.1.1.1.1.0) ≡ length s.args.answers.now
 answers-length c =

@@ -11,16 +11,17 @@ use Rattle.call.specs.Deliver.{slices}
 use Rattle.call.specs.Host.{Slices}
 use Rattle.site.specs.Turns.{site, FloorsServed}
 use Rattle.site.proofs.Floors.{none_yet, one_more}
+use Rattle.site.proofs.solve_floors.Tie as tie
 use Rattle.site.proofs.solve_floors.Goals as goal
 
 -- from each call back to the one before it, and from the first to the function's entry
-abbrev entry : goal.At-loop-i → goal.Start
+abbrev entry : tie.At-loop goal.the-invariant-loop-i goal.the-decreases-loop-i → tie.Start goal.the-invariant-loop-i goal.the-decreases-loop-i
 entry c = c.before.before.before.before.before.before.before.before.before.before
 
-abbrev loop-at : goal.After-solve_floor → goal.In-loop-i
+abbrev loop-at : tie.After-solve_floor goal.the-invariant-loop-i goal.the-decreases-loop-i → tie.In-loop goal.the-invariant-loop-i goal.the-decreases-loop-i
 loop-at c = c.before.before.before.before.before
 
-abbrev floor-at : goal.After-slice_known-in-loop-i-4-1 → goal.After-solve_floor
+abbrev floor-at : goal.After-slice_known-in-loop-i-4-1 → tie.After-solve_floor goal.the-invariant-loop-i goal.the-decreases-loop-i
 floor-at c = c.before.before.before.before.before.before.before.before
 
 pub loop-i-init : goal.loop-i-init

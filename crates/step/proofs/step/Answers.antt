@@ -20,67 +20,68 @@ use Rattle.step.specs.Steps.{chosen_in, Stepped}
 use Rattle.step.proofs.Parts.{pushing, loading, lengthening}
 use Rattle.step.proofs.Stepped.{put-together}
 use Rattle.step.proofs.Tabled.{Tabled, tabled, with-lengths, with-loads, with-keeping, in-slice}
+use Rattle.step.proofs.step.Tie as tie
 use Rattle.step.proofs.step.Goals as goal
 
 -- from each call back to the one before it, and from the first to the function's entry
-abbrev entry : goal.After-draw-g → goal.Start
+abbrev entry : goal.After-draw-g → tie.Start
 entry c = c.before.before.before.before.before
 
-abbrev compare-at : goal.After-keep → goal.After-less_product-better
+abbrev compare-at : tie.After-keep → tie.After-less_product
 compare-at c = c.before.before
 
-abbrev draw-at : goal.After-keep → goal.After-draw-g
+abbrev draw-at : tie.After-keep → goal.After-draw-g
 draw-at c = (compare-at c).before
 
-abbrev keep_at : goal.After-push → goal.After-keep
+abbrev keep_at : tie.After-push → tie.After-keep
 keep_at c = c.before.before.before.before.before
 
-abbrev push_at : goal.After-load-ended → goal.After-push
+abbrev push_at : tie.After-load → tie.After-push
 push_at c = c.before.before.before
 
-abbrev load_at : goal.After-lengthen-grown → goal.After-load-ended
+abbrev load_at : tie.After-lengthen → tie.After-load
 load_at c = c.before.before.before.before
 
-abbrev lengthen-at : goal.After-count → goal.After-lengthen-grown
+abbrev lengthen-at : goal.After-count → tie.After-lengthen
 lengthen-at c = c.before.before.before
 
 -- the network, what the path uses, and the choice
-abbrev net-of : goal.Start → Network
+abbrev net-of : tie.Start → Network
 net-of s = net_in s.args.s s.args.net.now
 
-abbrev chosen : goal.Start → Choice
+abbrev chosen : tie.Start → Choice
 chosen s = chosen_in s.args.c s.args.path.now
 
 -- the tables of the resources at entry, and after each call that changes them
-abbrev m : goal.Start → ℕ
+abbrev m : tie.Start → ℕ
 m s = s.args.s.resources
 
-abbrev L : goal.Start → List ℕ
+abbrev L : tie.Start → List ℕ
 L s = part lengths_from (m s) s.args.tables.now
 
-abbrev Y : goal.Start → List ℕ
+abbrev Y : tie.Start → List ℕ
 Y s = part loads_from (m s) s.args.tables.now
 
-abbrev K : goal.After-keep → List ℕ
+abbrev K : tie.After-keep → List ℕ
 K c = let s = entry (draw-at c) in cond (compare-at c).less_product-better.result (L s) (part kept_from (m s) s.args.tables.now)
 
-kept : (c : goal.After-keep) → let s = entry (draw-at c) in Tabled (m s) c.keep.new.1.1.0 (L s) (Y s) (K c)
+kept : (c : tie.After-keep) → let s = entry (draw-at c) in Tabled (m s) c.keep.new.1.1.0 (L s) (Y s) (K c)
 kept c =
     let s = entry (draw-at c) in
     with-keeping (tabled (m s) s.args.tables.now s.requires.few s.requires.places) (compare-at c).less_product-better.result c.keep.ensures
 
-abbrev start_of : goal.After-load-ended → goal.Start
+abbrev start_of : tie.After-load → tie.Start
 start_of c = entry (draw-at (keep_at (push_at c)))
 
 -- The slices of the capacities and of the path hold what the definitions say, so that the draw is the method's.
 drawn : (f : goal.After-draw-g) → f.draw-g.result ≡ draw (resource_capacities (net-of (entry f))) (used_by (net-of (entry f)) (chosen (entry f)))
 drawn f = let s = entry f in f.draw-g.ensures ∙ ap₂ draw s.requires.caps-are s.requires.path-is
 
-loaded : (c : goal.After-load-ended) → let k = keep_at (push_at c) in let s = start_of c in
+loaded : (c : tie.After-load) → let k = keep_at (push_at c) in let s = start_of c in
     Tabled (m s) (put loads_from (m s) k.keep.last.1.1.0 c.load-ended.new.0) (L s) c.load-ended.new.0 (K k)
 loaded c = with-loads (kept (keep_at (push_at c))) c.load-ended.new.0 c.load-ended.auto.0
 
-lengthened : (c : goal.After-lengthen-grown) → let k = keep_at (push_at (load_at c)) in let s = start_of (load_at c) in
+lengthened : (c : tie.After-lengthen) → let k = keep_at (push_at (load_at c)) in let s = start_of (load_at c) in
     Tabled (m s) (put lengths_from (m s) (put loads_from (m s) k.keep.last.1.1.0 (load_at c).load-ended.new.0) c.lengthen-grown.new.0) c.lengthen-grown.new.0 (load_at c).load-ended.new.0 (K k)
 lengthened c = with-lengths (loaded (load_at c)) c.lengthen-grown.new.0 c.lengthen-grown.auto.0
 

@@ -10,19 +10,20 @@ use Rattle.network.proofs.First.{refused-first, accepted-first}
 use Rattle.network.proofs.Limits.{limits-given}
 use Rattle.packed.specs.Packed.{net_in}
 use Rattle.packed.proofs.Columns.{limits-length}
+use Rattle.checks.proofs.items.check_items.Tie as tie
 use Rattle.checks.proofs.items.check_items.Goals as goal
 
-abbrev arcs-at : goal.After-check_limits-limits → goal.After-check_arcs-arcs
+abbrev arcs-at : tie.After-check_limits → tie.After-check_arcs
 arcs-at c = c.before.before.before.before
 
-abbrev entry : goal.After-check_limits-limits → goal.Start
+abbrev entry : tie.After-check_limits → tie.Start
 entry c = (arcs-at c).before.before.before.before.before
 
-abbrev net : goal.After-check_limits-limits → Network
+abbrev net : tie.After-check_limits → Network
 net c = net_in (entry c).args.s (entry c).args.net.now
 
 -- the limits that are given say what those of all nodes do
-limits-checked : (c : goal.After-check_limits-limits) → c.check_limits-limits.result ≡ verdict (flat (limit_conditions (net c)) (up_to (net c).nodes))
+limits-checked : (c : tie.After-check_limits) → c.check_limits-limits.result ≡ verdict (flat (limit_conditions (net c)) (up_to (net c).nodes))
 unfolding net_in limit_conditions
 limits-checked c =
     let p = (entry c).requires in

@@ -13,32 +13,33 @@ use Rattle.paths.specs.Order.{page_numbers}
 use Rattle.paths.proofs.NodeLengths.{through-is, node-small}
 use Rattle.memory.specs.Memory.{page_from, page_in}
 use Rattle.choice.proofs.Looks.{looked}
+use Rattle.choice.proofs.lazy.look.Tie as tie
 use Rattle.choice.proofs.lazy.look.Goals as goal
 
 -- the function's entry, seen from the calls; and the network
-abbrev entry : goal.After-slice_known-1 → goal.Start
+abbrev entry : goal.After-slice_known-1 → tie.Start
 entry c = c.before.before.before.before
 
-abbrev first : goal.After-distances → goal.Start
+abbrev first : tie.After-distances → tie.Start
 first c = entry c.before.before
 
-abbrev searched : goal.After-raise → goal.After-distances
+abbrev searched : tie.After-raise → tie.After-distances
 searched c = c.before.before.before.before
 
-abbrev net : goal.Start → Network
+abbrev net : tie.Start → Network
 net s = net_in s.args.s s.args.net.now
 
 -- the sink is a node, and has a page in the memory
-node : (s : goal.Start) → Node (net s) s.args.t
+node : (s : tie.Start) → Node (net s) s.args.t
 node s = rw s.requires.to (s.requires.survey.fit.ends.sinks s.args.i s.requires.known.least.among)
 
-few : (s : goal.Start) → s.args.t ≤ most_nodes
+few : (s : tie.Start) → s.args.t ≤ most_nodes
 few s = omega (arith, node s, s.requires.survey.few)
 
-page : (s : goal.Start) → length (page_in s.args.t s.args.memory.now) ≡ page_numbers
+page : (s : tie.Start) → length (page_in s.args.t s.args.memory.now) ≡ page_numbers
 page s = part_length (page_from s.args.t) page_numbers s.args.memory.now (omega (arith, few s, s.requires.known.places))
 
-size : (c : goal.After-distances) → length c.distances.new.1.1.1.1.1.0 ≡ page_numbers
+size : (c : tie.After-distances) → length c.distances.new.1.1.1.1.1.0 ≡ page_numbers
 size c = c.distances.auto.1.1.1.1.1.0 ∙ page (first c)
 
 pub distances-requires : goal.distances-requires

@@ -8,10 +8,11 @@ use Rattle.network.specs.declared.Refusal.TheVariants.{Nodes, Arcs}
 use Rattle.dimacs.specs.Progress.{begun}
 use Rattle.dimacs.specs.Reading.{opening}
 use Rattle.dimacs.proofs.Stages.{turned_down, nodes-outside, arcs-outside, opened}
+use Rattle.dimacs.proofs.reader.begin.Tie as tie
 use Rattle.dimacs.proofs.reader.begin.Goals as goal
 
 -- the p line, and its two tests as the definition has them
-abbrev nodes-at : goal.After-outside-in-Problem → goal.After-outside
+abbrev nodes-at : tie.After-outside2 → tie.After-outside
 nodes-at c = c.before.before
 
 pub returns-then-outside : goal.returns-then-outside

@@ -7,13 +7,14 @@ use Rattle.network.proofs.Sizes.{sizes-kept}
 use Rattle.call.specs.Deliver.{slices}
 use Rattle.call.specs.Host.{Slices, host_conditions}
 use Rattle.call.proofs.Hosts.{room}
+use Rattle.host.proofs.room.check_call.Tie as tie
 use Rattle.host.proofs.room.check_call.Goals as goal
 
 -- from the sizes' verdict to the function's entry
-abbrev entry : goal.After-check_sizes-sizes → goal.Start
+abbrev entry : tie.After-check_sizes → tie.Start
 entry c = c.before.before.before.before.before
 
-abbrev lent : goal.Start → Slices
+abbrev lent : tie.Start → Slices
 lent s = slices s.args.flow.now s.args.lengths.now s.args.answer.now s.args.counts.now
 
 pub returns-in-Refused : goal.returns-in-Refused

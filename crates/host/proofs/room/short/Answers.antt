@@ -9,10 +9,11 @@ use native.Mathlib.Omega.{arith}
 use Rattle.bounds.specs.Bounds.{answer_numbers}
 use Rattle.numbers.specs.Numbers.{count}
 use Rattle.call.specs.Host.{short}
+use Rattle.host.proofs.room.short.Tie as tie
 use Rattle.host.proofs.room.short.Goals as goal
 
 -- from the first table's count to the function's entry
-abbrev entry : goal.After-count → goal.Start
+abbrev entry : goal.After-count → tie.Start
 entry c = c.before.before.before.before.before.before
 
 pub overflow_mul-k : goal.overflow_mul-k

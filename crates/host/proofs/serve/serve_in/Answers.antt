@@ -11,36 +11,37 @@ use Rattle.packed.specs.Packed.{net_in, Packed}
 use Rattle.call.specs.Deliver.{slices}
 use Rattle.call.specs.Host.{Slices}
 use Rattle.call.proofs.Judged.{fits, lends, judged-of, served-refused, served-accepted}
+use Rattle.host.proofs.serve.serve_in.Tie as tie
 use Rattle.host.proofs.serve.serve_in.Goals as goal
 
 -- from each call back to the one before it, and from the first to the function's entry
-abbrev entry : goal.After-decode → goal.Start
+abbrev entry : tie.After-decode → tie.Start
 entry c = c.before.before.before.before.before.before.before.before.before.before
 
-abbrev decode-at : goal.After-check_items-v → goal.After-decode
+abbrev decode-at : tie.After-check_items → tie.After-decode
 decode-at c = c.before.before.before.before
 
-abbrev told_at : goal.After-deliver → goal.In_default
+abbrev told_at : tie.After-deliver → tie.After-enum_told2
 told_at c = c.before.before.before.before.before.before
 
-abbrev deliver-at : goal.After-slice_known-10-1 → goal.After-deliver
+abbrev deliver-at : goal.After-slice_known-10-1 → tie.After-deliver
 deliver-at c = c.before.before.before.before.before.before.before.before
 
 -- the slices at entry
-abbrev lent : goal.Start → Slices
+abbrev lent : tie.Start → Slices
 lent s = slices s.args.flow.now s.args.lengths.now s.args.answer.now s.args.running.now
 
 -- the network as it was read
-abbrev net : goal.After-decode → Network
+abbrev net : tie.After-decode → Network
 net c = net_in (entry c).args.s c.decode.new.1.1.1.1.0
 
-packs : (c : goal.After-decode) → Packed (entry c).args.s c.decode.new.1.1.1.1.0
+packs : (c : tie.After-decode) → Packed (entry c).args.s c.decode.new.1.1.1.1.0
 packs c =
     let p = (entry c).requires.places in
     record { few-nodes = p.few-nodes; few-limits = p.few-limits; few-arcs = p.few-arcs; few-commodities = p.few-commodities; places = omega (arith, p.places, c.decode.auto.1.1.1.1.0) }
 
 -- its resources are those that the shape counts
-counted : (c : goal.After-decode) → (entry c).args.s.resources ≡ resources (net c)
+counted : (c : tie.After-decode) → (entry c).args.s.resources ≡ resources (net c)
 counted c = (entry c).requires.sizes.shaped.counted ∙ ap resources (sym c.decode.ensures)
 
 pub check_items-v-requires : goal.check_items-v-requires
@@ -62,7 +63,7 @@ returns-in-Refused c =
     (served-refused (net d) s.args.q (verdict (item_conditions (net d))) (lent s) c.host_number.result _ _ (sym e ∙ c.before.in-Refused.is) (c.host_number.ensures ∙ ap host_number e))
 
 -- nothing is refused
-accepted : (c : goal.In_default) → verdict (item_conditions (net (decode-at c.before.before))) ≡ Accepted
+accepted : (c : tie.After-enum_told2) → verdict (item_conditions (net (decode-at c.before.before))) ≡ Accepted
 accepted c = sym c.before.before.check_items-v.ensures ∙ c.in_default.is
 
 pub deliver-requires : goal.deliver-requires

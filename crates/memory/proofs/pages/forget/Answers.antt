@@ -1,10 +1,11 @@
 -- `memory::pages::forget` meets its contract. Assumes nothing.
 use borrow.Author.Rules.{rules}
 use Rattle.memory.proofs.Forgets.{forgotten-all}
+use Rattle.memory.proofs.pages.forget.Tie as tie
 use Rattle.memory.proofs.pages.forget.Goals as goal
 
 -- from the second call back to the first
-abbrev fill-at : goal.After-clear_pages → goal.After-fill
+abbrev fill-at : tie.After-clear_pages → tie.After-fill
 fill-at c = c.before.before.before.before
 
 pub returns : goal.returns

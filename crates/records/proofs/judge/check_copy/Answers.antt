@@ -5,12 +5,13 @@ use borrow.Author.Rules.{rules}
 use Rattle.network.specs.Network.{Network}
 use Rattle.network.specs.Verdict.{verdict, item_conditions}
 use Rattle.records.proofs.Shaped.{packs, completing, copied_is}
+use Rattle.records.proofs.judge.check_copy.Tie as tie
 use Rattle.records.proofs.judge.check_copy.Goals as goal
 
-abbrev entry : goal.After-shape-s → goal.Start
+abbrev entry : tie.After-shape → tie.Start
 entry c = c.before.before.before
 
-abbrev shape_at : goal.After-complete → goal.After-shape-s
+abbrev shape_at : tie.After-complete → tie.After-shape
 shape_at c = c.before.before
 
 pub shape-s-requires : goal.shape-s-requires

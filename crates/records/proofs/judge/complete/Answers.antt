@@ -3,12 +3,13 @@ use mathlib.Core.Path.{◌∙◌}
 use native.Mathlib.Omega.{arith}
 use borrow.Author.Rules.{rules}
 use Rattle.records.proofs.Completed.{completed}
+use Rattle.records.proofs.judge.complete.Tie as tie
 use Rattle.records.proofs.judge.complete.Goals as goal
 
-abbrev entry : goal.After-put_limits → goal.Start
+abbrev entry : tie.After-put_limits → tie.Start
 entry c = c.before.before.before.before.before
 
-abbrev limits-at : goal.After-put_pairs → goal.After-put_limits
+abbrev limits-at : tie.After-put_pairs → tie.After-put_limits
 limits-at c = c.before.before.before.before
 
 pub put_limits-requires : goal.put_limits-requires

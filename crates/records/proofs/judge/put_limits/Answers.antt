@@ -4,9 +4,10 @@ use borrow.Author.Rules.{rules}
 use Rattle.packed.specs.Packed.{limits_from}
 use Rattle.packed.proofs.Columns.{part_length}
 use Rattle.records.proofs.Completed.{limits-room, limits-many, put-limits-length, limited}
+use Rattle.records.proofs.judge.put_limits.Tie as tie
 use Rattle.records.proofs.judge.put_limits.Goals as goal
 
-abbrev entry : goal.After-copy-arg-1 → goal.Start
+abbrev entry : goal.After-copy-arg-1 → tie.Start
 entry c = c.before.before.before
 
 pub slice_bounds-copy-end : goal.slice_bounds-copy-end

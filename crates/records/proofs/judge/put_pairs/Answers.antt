@@ -4,9 +4,10 @@ use native.Mathlib.Omega.{arith}
 use borrow.Author.Rules.{rules}
 use Rattle.packed.proofs.Columns.{part_length}
 use Rattle.records.proofs.Paired.{sinks-column, paired-length, paired}
+use Rattle.records.proofs.judge.put_pairs.Tie as tie
 use Rattle.records.proofs.judge.put_pairs.Goals as goal
 
-abbrev entry : goal.After-halve → goal.Start
+abbrev entry : tie.After-halve → tie.Start
 entry c = c.before.before.before.before
 
 pub halve-requires : goal.halve-requires

@@ -6,16 +6,17 @@ use Rattle.report.specs.Listing.{verdict_held}
 use Rattle.report.proofs.Judged.{judged, sound, counted}
 use Rattle.report.proofs.Written.{shown-refused, shown-accepted}
 use borrow.Author.Rules.{rules}
+use Rattle.report.proofs.file.judge.Tie as tie
 use Rattle.report.proofs.file.judge.Goals as goal
 
 -- the network at entry
-abbrev net : (s : goal.Start) → Network
+abbrev net : (s : tie.Start) → Network
 net s = net_in s.args.s s.args.net.now
 
-abbrev entry : goal.After-check_items-items → goal.Start
+abbrev entry : tie.After-check_items → tie.Start
 entry c = c.before.before.before
 
-of-items : (c : goal.After-check_items-items) → verdict_held (net (entry c)) ≡ c.check_items-items.result
+of-items : (c : tie.After-check_items) → verdict_held (net (entry c)) ≡ c.check_items-items.result
 of-items c = judged (net (entry c)) (entry c).requires.held ∙ sym c.check_items-items.ensures
 
 pub returns-in-Refused : goal.returns-in-Refused

@@ -6,16 +6,17 @@ use Rattle.rows.proofs.Lengths.{answer-length}
 use Rattle.rows.proofs.Puts.{put-within}
 use Rattle.report.proofs.Showing.{one-row, total-small, belted, shown}
 use borrow.Author.Rules.{rules}
+use Rattle.report.proofs.solved.show_in.Tie as tie
 use Rattle.report.proofs.solved.show_in.Goals as goal
 
 -- from each call back to the one before it, and from the first to the function's entry
-abbrev entry : goal.After-solve-a → goal.Start
+abbrev entry : tie.After-solve → tie.Start
 entry c = c.before.before.before.before.before.before
 
-abbrev solve-at : goal.After-put_answer-next → goal.After-solve-a
+abbrev solve-at : tie.After-put_answer → tie.After-solve
 solve-at c = c.before.before.before.before.before
 
-abbrev answer_at : goal.After-put_belts → goal.After-put_answer-next
+abbrev answer_at : tie.After-put_belts → tie.After-put_answer
 answer_at c = c.before.before.before.before.before.before.before
 
 pub solve-a-requires : goal.solve-a-requires

@@ -7,29 +7,30 @@ use Rattle.rows.specs.Row.{delimited, row}
 use Rattle.rows.proofs.Digits.{decimal-short}
 use Rattle.rows.proofs.Puts.{put_next}
 use borrow.Author.Rules.{rules}
+use Rattle.rows.proofs.rows.put_belt.Tie as tie
 use Rattle.rows.proofs.rows.put_belt.Goals as goal
 
 -- from each call back to the one before it, and from the first to the function's entry
-abbrev entry : goal.After-put-next → goal.Start
+abbrev entry : tie.After-put → tie.Start
 entry c = c.before.before.before.before
 
-abbrev kind_at : goal.After-put_number-next → goal.After-put-next
+abbrev kind_at : tie.After-put_number → tie.After-put
 kind_at c = c.before.before.before.before
 
-abbrev tail_at : goal.After-put-next-2 → goal.After-put_number-next
+abbrev tail_at : tie.After-put2 → tie.After-put_number
 tail_at c = c.before.before.before.before.before
 
-abbrev comma-at : goal.After-put_number-next-2 → goal.After-put-next-2
+abbrev comma-at : tie.After-put_number2 → tie.After-put2
 comma-at c = c.before.before.before.before
 
-abbrev head_at : goal.After-put-next-3 → goal.After-put_number-next-2
+abbrev head_at : tie.After-put3 → tie.After-put_number2
 head_at c = c.before.before.before.before.before
 
-abbrev last-at : goal.After-put_fraction → goal.After-put-next-3
+abbrev last-at : tie.After-put_fraction → tie.After-put3
 last-at c = c.before.before.before.before
 
 -- the two nodes take few digits
-short : (s : goal.Start) → length (decimal s.args.tail) + length (decimal s.args.head) ≤ 40
+short : (s : tie.Start) → length (decimal s.args.tail) + length (decimal s.args.head) ≤ 40
 short s = omega (arith, decimal-short s.args.tail, decimal-short s.args.head)
 
 pub put_number-next-requires : goal.put_number-next-requires

@@ -9,9 +9,10 @@ use Rattle.numbers.proofs.Columns.{member_below}
 use Rattle.site.specs.Parts.{begins, numbers_in}
 use Rattle.site.specs.declared.parts.Span.{Span}
 use Rattle.site.proofs.Begins.{begins-most}
+use Rattle.site.proofs.parts.part_of.Tie as tie
 use Rattle.site.proofs.parts.part_of.Goals as goal
 
-abbrev entry : goal.After-count-room → goal.Start
+abbrev entry : goal.After-count-room → tie.Start
 entry c = c.before.before.before
 
 -- the part's size is in the list

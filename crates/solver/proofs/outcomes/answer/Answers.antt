@@ -2,9 +2,10 @@
 use borrow.Author.Rules.{rules}
 use mathlib.Core.Path.{refl}
 use native.Mathlib.Omega.{arith}
+use Rattle.solver.proofs.outcomes.answer.Tie as tie
 use Rattle.solver.proofs.outcomes.answer.Goals as goal
 
-abbrev entry : goal.After-fullest-b → goal.Start
+abbrev entry : goal.After-fullest-b → tie.Start
 entry c = c.before.before.before.before
 
 pub fullest-b-requires : goal.fullest-b-requires

@@ -21,13 +21,14 @@ use Rattle.run.proofs.Chosen.{choosing}
 use Rattle.tables.specs.Calls.{Ranking}
 use Rattle.solver.specs.Solved.{answer_of}
 use Rattle.solver.proofs.Solving.{solved-none, solved-some, ranking}
+use Rattle.solver.proofs.outcomes.outcome.Tie as tie
 use Rattle.solver.proofs.outcomes.outcome.Goals as goal
 
 -- the network at entry; the lengths are those of the definition's start
-abbrev net : goal.Start → Network
+abbrev net : tie.Start → Network
 net s = net_in s.args.s s.args.net.now
 
-first : (s : goal.Start) → lengths_in s.args.s s.args.tables.now ≡ (initial (net s)).lengths
+first : (s : tie.Start) → lengths_in s.args.s s.args.tables.now ≡ (initial (net s)).lengths
 first s = ap (λ t. t.lengths) s.requires.cleared.state
 
 pub choose-first-requires : goal.choose-first-requires
@@ -36,10 +37,10 @@ choose-first-requires c =
     choosing s.requires.room (initial (net s)) (reached-start (net s) s.args.q s.requires.room.lent.sound) (first s) s.requires.cleared.memory-of
 
 -- the function's entry, seen from behind the search; what the search says of the network's choice by these lengths
-abbrev entry : goal.After-choose-first → goal.Start
+abbrev entry : tie.After-choose → tie.Start
 entry c = c.before.before.before.before.before.before.before.before.before.before
 
-chose : (c : goal.After-choose-first) → Chose (net (entry c)) (initial (net (entry c))).lengths c.choose-first.result c.choose-first.new.1.1.1.1.1.0
+chose : (c : tie.After-choose) → Chose (net (entry c)) (initial (net (entry c))).lengths c.choose-first.result c.choose-first.new.1.1.1.1.1.0
 chose c = rw (← (first (entry c))) c.choose-first.ensures.chose
 
 pub returns-then-first-ge-FAR_LENGTH : goal.returns-then-first-ge-FAR_LENGTH
@@ -55,13 +56,13 @@ returns-then-first-ge-FAR_LENGTH c =
     (ap (λ t. t.best_lengths) start))
 
 -- something is chosen by the first lengths, so by any
-abbrev search-at : goal.Else-first-ge-FAR_LENGTH → goal.After-choose-first
+abbrev search-at : tie.Else1 → tie.After-choose
 search-at c = c.before.before.before.before.before.before
 
-picked : (c : goal.Else-first-ge-FAR_LENGTH) → let f = search-at c in Picked (net (entry f)) (initial (net (entry f))).lengths f.choose-first.result f.choose-first.last.1.1.1.1.1.0
+picked : (c : tie.Else1) → let f = search-at c in Picked (net (entry f)) (initial (net (entry f))).lengths f.choose-first.result f.choose-first.last.1.1.1.1.1.0
 picked c = (chose (search-at c)).something c.if-first-ge-FAR_LENGTH.false
 
-chooses : (c : goal.Else-first-ge-FAR_LENGTH) → Chooses (net (entry (search-at c)))
+chooses : (c : tie.Else1) → Chooses (net (entry (search-at c)))
 chooses c = let s = entry (search-at c) in always (net s) (initial (net s)).lengths _ (picked c).chosen
 
 pub run-p-requires : goal.run-p-requires
@@ -74,27 +75,27 @@ run-p-requires c =
     )
 
 -- behind the run: the entry, and the tables of the arcs
-abbrev choice-at : goal.After-run-p → goal.Else-first-ge-FAR_LENGTH
+abbrev choice-at : tie.After-run → tie.Else1
 choice-at c = c.before.before.before.before.before
 
-abbrev start_of : goal.After-run-p → goal.Start
+abbrev start_of : tie.After-run → tie.Start
 start_of c = entry (search-at (choice-at c))
 
-abbrev tables : goal.After-run-p → List ℕ
+abbrev tables : tie.After-run → List ℕ
 tables c = c.run-p.new.1.1.1.1.1.0
 
-room : (c : goal.After-run-p) → table_numbers ≤ length (tables c)
+room : (c : tie.After-run) → table_numbers ≤ length (tables c)
 room c = omega (arith, c.run-p.auto.1.1.1.1.1.0, (start_of c).requires.room.tables)
 
-few : (c : goal.After-run-p) → (start_of c).args.s.resources ≤ most_arcs
+few : (c : tie.After-run) → (start_of c).args.s.resources ≤ most_arcs
 few c = let a = (start_of c).requires.room.lent in omega (arith, a.counted, a.sound.counts.of-resources)
 
-loaded : (c : goal.After-run-p) → length (loads_in (start_of c).args.s (tables c)) ≡ resources (net (start_of c))
+loaded : (c : tie.After-run) → length (loads_in (start_of c).args.s (tables c)) ≡ resources (net (start_of c))
 loaded c =
     part_length loads_from (start_of c).args.s.resources (tables c) (omega (arith, few c, room c)) ∙ (start_of c).requires.room.lent.counted
 
 -- The part of the slice of indexes that is lent has the capacities of the resources.
-caps-are : (c : goal.After-run-p) → let s = start_of c in part resource_capacities_from s.args.s.resources s.args.indexes.now ≡ resource_capacities (net s)
+caps-are : (c : tie.After-run) → let s = start_of c in part resource_capacities_from s.args.s.resources s.args.indexes.now ≡ resource_capacities (net s)
 caps-are c = let s = start_of c in ap (λ n. part resource_capacities_from n s.args.indexes.now) s.requires.room.lent.counted ∙ s.requires.room.indexed.capacities
 
 -- The end of that part is within the slice.
@@ -116,7 +117,7 @@ answer-requires c =
           (ranking (net s) s.args.q s.requires.room.lent.sound (chooses (choice-at f)) (loads_in s.args.s (tables f)) (ap (λ t. t.loads) f.run-p.ensures) (loaded f));
     }
 
-abbrev run_at : goal.After-answer → goal.After-run-p
+abbrev run_at : goal.After-answer → tie.After-run
 run_at c = c.before.before.before.before.before.before.before.before.before.before
 
 pub returns : goal.returns

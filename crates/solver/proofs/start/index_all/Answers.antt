@@ -5,13 +5,14 @@ use Rattle.packed.proofs.Columns.{part_length}
 use Rattle.index.specs.Index.{index_numbers}
 use Rattle.choice.specs.Calls.{resource_capacities_from}
 use Rattle.solver.proofs.Indexes.{space, indexed}
+use Rattle.solver.proofs.start.index_all.Tie as tie
 use Rattle.solver.proofs.start.index_all.Goals as goal
 
 -- from each call back to the one before it, and from the first to the function's entry
-abbrev entry : goal.After-index_into → goal.Start
+abbrev entry : tie.After-index_into → tie.Start
 entry c = c.before.before.before.before
 
-abbrev into-at : goal.After-index_out → goal.After-index_into
+abbrev into-at : tie.After-index_out → tie.After-index_into
 into-at c = c.before.before.before.before
 
 pub resource_capacities-requires : goal.resource_capacities-requires

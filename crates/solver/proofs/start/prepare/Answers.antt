@@ -15,31 +15,32 @@ use Rattle.lengths.specs.Calls.{Startable}
 use Rattle.step.specs.Progress.{state_of, begun}
 use Rattle.step.proofs.Tabled.{Tabled, tabled, part-size, with-lengths, with-loads, with-kept, in-slice}
 use Rattle.solver.proofs.Solving.{initial-is, weight_is}
+use Rattle.solver.proofs.start.prepare.Tie as tie
 use Rattle.solver.proofs.start.prepare.Goals as goal
 
 -- from each call back to the one before it, and from the first to the function's entry
-abbrev entry : goal.After-start-weight → goal.Start
+abbrev entry : tie.After-start → tie.Start
 entry c = c.before.before.before.before.before.before
 
-abbrev start-at : goal.After-clear → goal.After-start-weight
+abbrev start-at : tie.After-clear → tie.After-start
 start-at c = c.before.before.before.before
 
-abbrev loads-at : goal.After-clear-2 → goal.After-clear
+abbrev loads-at : tie.After-clear2 → tie.After-clear
 loads-at c = c.before.before.before.before
 
-abbrev kept_at : goal.After-clear_flow → goal.After-clear-2
+abbrev kept_at : tie.After-clear_flow → tie.After-clear2
 kept_at c = c.before.before.before.before
 
-abbrev flow-at : goal.After-begin → goal.After-clear_flow
+abbrev flow-at : tie.After-begin → tie.After-clear_flow
 flow-at c = c.before.before.before
 
-abbrev begin-at : goal.After-forget → goal.After-begin
+abbrev begin-at : tie.After-forget → tie.After-begin
 begin-at c = c.before.before.before.before
 
-abbrev m : goal.Start → ℕ
+abbrev m : tie.Start → ℕ
 m s = s.args.s.resources
 
-few : (s : goal.Start) → m s ≤ most_arcs
+few : (s : tie.Start) → m s ≤ most_arcs
 few s = let a = s.requires.lent in omega (arith, a.counted, a.sound.counts.of-resources)
 
 pub start-weight-requires : goal.start-weight-requires
@@ -59,17 +60,17 @@ start-weight-requires c =
     })
 
 -- the tables of the resources after each call that changes them
-started : (c : goal.After-start-weight) → let s = entry c in let T = s.args.tables.now in
+started : (c : tie.After-start) → let s = entry c in let T = s.args.tables.now in
     Tabled (m s) (put lengths_from (m s) T c.start-weight.new.1.0) c.start-weight.new.1.0 (part loads_from (m s) T) (part kept_from (m s) T)
 started c =
     let s = entry c in
     with-lengths (tabled (m s) s.args.tables.now (few s) s.requires.tabled) c.start-weight.new.1.0 c.start-weight.auto.1.0
 
-unloaded : (c : goal.After-clear) → let f = start-at c in let s = entry f in let T = s.args.tables.now in
+unloaded : (c : tie.After-clear) → let f = start-at c in let s = entry f in let T = s.args.tables.now in
     Tabled (m s) (put loads_from (m s) (put lengths_from (m s) T f.start-weight.last.1.0) c.clear.new.0) f.start-weight.last.1.0 c.clear.new.0 (part kept_from (m s) T)
 unloaded c = with-loads (started (start-at c)) c.clear.new.0 c.clear.auto.0
 
-cleared : (c : goal.After-clear-2) → let g = loads-at c in let f = start-at g in let s = entry f in let T = s.args.tables.now in
+cleared : (c : tie.After-clear2) → let g = loads-at c in let f = start-at g in let s = entry f in let T = s.args.tables.now in
     Tabled (m s) (put kept_from (m s) (put loads_from (m s) (put lengths_from (m s) T f.start-weight.last.1.0) g.clear.last.0) c.clear-2.new.0) f.start-weight.last.1.0
     g.clear.last.0 c.clear-2.new.0
 cleared c = with-kept (unloaded (loads-at c)) c.clear-2.new.0 c.clear-2.auto.0

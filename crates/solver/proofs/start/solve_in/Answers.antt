@@ -5,19 +5,20 @@ use native.Mathlib.Omega.{arith}
 use Rattle.network.proofs.Sounds.{sound-ends}
 use Rattle.packed.specs.Packed.{part, net_in}
 use Rattle.choice.specs.Calls.{resource_capacities_from}
+use Rattle.solver.proofs.start.solve_in.Tie as tie
 use Rattle.solver.proofs.start.solve_in.Goals as goal
 
 -- from each call back to the one before it, from the first to the function's entry, and from the end of the function to the last
-abbrev entry : goal.After-index_all → goal.Start
+abbrev entry : tie.After-index_all → tie.Start
 entry c = c.before.before.before.before.before.before.before
 
-abbrev index_at : goal.After-prepare-weight → goal.After-index_all
+abbrev index_at : tie.After-prepare → tie.After-index_all
 index_at c = c.before.before.before.before.before.before.before.before
 
-abbrev prepare-at : goal.After-outcome → goal.After-prepare-weight
+abbrev prepare-at : tie.After-outcome → tie.After-prepare
 prepare-at c = c.before.before.before.before.before.before.before.before.before.before.before
 
-abbrev outcome-at : goal.After-slice_known-10-1 → goal.After-outcome
+abbrev outcome-at : goal.After-slice_known-10-1 → tie.After-outcome
 outcome-at c = c.before.before.before.before.before.before.before
 
 pub index_all-requires : goal.index_all-requires

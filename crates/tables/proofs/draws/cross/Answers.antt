@@ -7,13 +7,14 @@ use lib.ListN.{get_or}
 use mir.Syntax.{w64}
 use mir.ValLaws.{to_z-of_z}
 use Rattle.tables.proofs.Crossings.{from_tail, from-head}
+use Rattle.tables.proofs.draws.cross.Tie as tie
 use Rattle.tables.proofs.draws.cross.Goals as goal
 
-abbrev entry : goal.After-shared_slice_known-2-1 → goal.Start
+abbrev entry : tie.After-shared_slice_known2 → tie.Start
 entry c = c.before.before.before
 
 -- the amount that is read
-abbrev amount : goal.Start → ℤ
+abbrev amount : tie.Start → ℤ
 amount s = get_or s.args.flow.now (s.args.base + s.args.e) (pos 0)
 
 -- A signed local holds bits, which stand for the amount.

@@ -14,5 +14,5 @@ abbrev pub decreases-loop-j : goal.decreases-loop-j
 decreases-loop-j l = length l.path - l.j
 
 -- the arc at the first place and that at the present one are among the arcs
-pub first : (c : goal.Start invariant-loop decreases-loop) → get_or c.args.path.now 0 0 < length c.args.capacities.now
+pub first : (c : tie.Start%%TIE invariant-loop decreases-loop) → get_or c.args.path.now 0 0 < length c.args.capacities.now
 first c = c.requires.1 0 c.requires.0

@@ -9,10 +9,11 @@ use Rattle.arith.specs.Sum.{sum}
 use Rattle.numbers.specs.Numbers.{count, items}
 use Rattle.numbers.proofs.Columns.{member_below}
 use Rattle.whole.proofs.Leaves.{over, leaves-sum, one_more, sum-next}
+use Rattle.whole.proofs.sent.leaves.Tie as tie
 use Rattle.whole.proofs.sent.leaves.Goals as goal
 
 -- from the loop to the function's entry
-abbrev entry : goal.At-loop-e → goal.Start
+abbrev entry : tie.At-loop goal.the-invariant-loop-e goal.the-decreases-loop-e → tie.Start goal.the-invariant-loop-e goal.the-decreases-loop-e
 entry c = c.before.before.before.before
 
 pub loop-e-init : goal.loop-e-init

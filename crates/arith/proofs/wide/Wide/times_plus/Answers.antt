@@ -6,33 +6,33 @@ use native.Mathlib.Omega.{arith}
 use lib.ListN.{get_or}
 use Rattle.arith.specs.Limbs.{width}
 use Rattle.arith.proofs.Carries.{Carried, turn, turn-fits, carried-start, carried_step, carried-end}
+use Rattle.arith.proofs.wide.Wide.times_plus.Tie as tie
 use Rattle.arith.proofs.wide.Wide.times_plus.Goals as goal
 
 pub loop-i-init : goal.loop-i-init
 loop-i-init c = (omega arith, carried-start _ _ _)
 
 -- The turn's number fits, and so do its parts.
-fits : (c : goal.In-loop-i) → turn (get_or c.before.before.before.before.args.self.limbs c.before.loop-i.i 0) c.before.before.before.before.args.k (get_or c.before.before.before.before.args.other.limbs c.before.loop-i.i 0) c.before.loop-i.carry < 2 ^ 64
+fits : (c : tie.At-loop goal.the-invariant-loop-i goal.the-decreases-loop-i) → turn (get_or c.args.self.limbs c.loop-i.i 0) c.args.k (get_or c.args.other.limbs c.loop-i.i 0) c.loop-i.carry < 2 ^ 64
 fits c =
-    let p = c.before.before.before.before.requires in
-    let i = c.before.loop-i.i in
-    turn-fits _ _ _ _ (p.0.below i) p.2 (p.1.below i) c.before.loop-i.invariant.1.small
+    let p = c.requires in
+    turn-fits _ _ _ _ (p.0.below c.loop-i.i) p.2 (p.1.below c.loop-i.i) c.loop-i.invariant.1.small
 
 pub overflow_mul-t : goal.overflow_mul-t
-overflow_mul-t c = omega (arith, fits c)
+overflow_mul-t c = omega (arith, fits c.before)
 
 pub overflow_add-t : goal.overflow_add-t
-overflow_add-t c = omega (arith, fits c)
+overflow_add-t c = omega (arith, fits c.before)
 
 pub overflow_add-t-in-loop-i : goal.overflow_add-t-in-loop-i
-overflow_add-t-in-loop-i c = omega (arith, fits c)
+overflow_add-t-in-loop-i c = omega (arith, fits c.before)
 
 pub loop-i-preserved : goal.loop-i-preserved
 loop-i-preserved c =
-    let p = c.before.before.before.before.requires in
+    let p = c.requires in
     (omega arith, rw add-one (carried_step p.0 p.1 p.2 (omega arith) c.before.loop-i.invariant.1))
 
 pub returns : goal.returns
 returns c =
-    let p = c.before.before.before.before.requires in
+    let p = c.requires in
     carried-end c.before.loop-i.invariant.1 p.0 p.1 (omega arith) p.3
