@@ -1,20 +1,21 @@
 -- `decode::read_belts` meets its contract: each column is read to its place, and later ones leave it there. Assumes nothing.
 use borrow.Author.Rules.{rules}
 use Rattle.decode.proofs.Decoded.{fills, belts-read}
-use Rattle.decode.proofs.read_belts.Tie as tie
+use Rattle.decode.proofs.read_belts.Lts as lts
+use Rattle.decode.proofs.read_belts.Reads as reads
 use Rattle.decode.proofs.read_belts.Goals as goal
 
 -- from each column back to the one before it, and from the first to the function's entry
-abbrev entry : tie.After-read_column → tie.Start
+abbrev entry : lts.After-read_column reads.Pre reads.Post → lts.Start reads.Pre reads.Post
 entry c = c.before.before.before.before
 
-abbrev tails-at : tie.After-read_column2 → tie.After-read_column
+abbrev tails-at : lts.After-read_column2 reads.Pre reads.Post → lts.After-read_column reads.Pre reads.Post
 tails-at c = c.before.before.before.before
 
-abbrev heads-at : tie.After-read_column3 → tie.After-read_column2
+abbrev heads-at : lts.After-read_column3 reads.Pre reads.Post → lts.After-read_column2 reads.Pre reads.Post
 heads-at c = c.before.before.before.before
 
-abbrev capacities-at : tie.After-read_column4 → tie.After-read_column3
+abbrev capacities-at : lts.After-read_column4 reads.Pre reads.Post → lts.After-read_column3 reads.Pre reads.Post
 capacities-at c = c.before.before.before.before
 
 pub returns : goal.returns

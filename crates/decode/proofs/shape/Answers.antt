@@ -7,10 +7,11 @@ use borrow.Author.Rules.{rules}
 use Rattle.network.proofs.Given.{given-most}
 use Rattle.numbers.specs.Numbers.{count, items, column}
 use Rattle.decode.proofs.Shapes.{counts}
-use Rattle.decode.proofs.shape.Tie as tie
+use Rattle.decode.proofs.shape.Lts as lts
+use Rattle.decode.proofs.shape.Reads as reads
 use Rattle.decode.proofs.shape.Goals as goal
 
-abbrev entry : goal.Joined-n-all → tie.Start
+abbrev entry : goal.Joined-n-all → lts.Start reads.Pre reads.Post
 entry c = c.before.before.before.before.before.before.before
 
 read : (c : goal.Joined-n-all) → c.if-n-all.c ≡ min (entry c).args.n (count (entry c).args.limits.now)

@@ -7,17 +7,18 @@ use Rattle.method.specs.Answer.{numbers_of}
 use Rattle.call.specs.Host.{raised}
 use Rattle.call.proofs.Counting.{count_small}
 use Rattle.call.proofs.Equal.{same-slices}
-use Rattle.deliver.proofs.deliver.Tie as tie
+use Rattle.deliver.proofs.deliver.Lts as lts
+use Rattle.deliver.proofs.deliver.Reads as reads
 use Rattle.deliver.proofs.deliver.Goals as goal
 
 -- from each call back to the one before it, and from the first to the function's entry
-abbrev entry : tie.After-write_tables → tie.Start
+abbrev entry : lts.After-write_tables reads.Pre reads.Post → lts.Start reads.Pre reads.Post
 entry c = c.before.before.before.before.before.before.before.before
 
-abbrev tables-at : tie.After-put_answer → tie.After-write_tables
+abbrev tables-at : lts.After-put_answer reads.Pre reads.Post → lts.After-write_tables reads.Pre reads.Post
 tables-at c = c.before.before.before.before.before.before
 
-abbrev answer_at : tie.After-raise_count → tie.After-put_answer
+abbrev answer_at : lts.After-raise_count reads.Pre reads.Post → lts.After-put_answer reads.Pre reads.Post
 answer_at c = c.before.before.before.before
 
 pub raise_count-requires : goal.raise_count-requires

@@ -13,30 +13,31 @@ use Rattle.signed.specs.Signed.{twos}
 use Rattle.numbers.specs.Numbers.{written}
 use Rattle.packed.specs.Packed.{kept_from, kept_in}
 use Rattle.packed.proofs.Columns.{arcs-is, commodities-is, part_length}
-use Rattle.deliver.proofs.write_tables_in.Tie as tie
+use Rattle.deliver.proofs.write_tables_in.Lts as lts
+use Rattle.deliver.proofs.write_tables_in.Reads as reads
 use Rattle.deliver.proofs.write_tables_in.Goals as goal
 
 -- from each call back to the one before it, and from the first to the function's entry
-abbrev entry : tie.After-solve → tie.Start
+abbrev entry : lts.After-solve reads.Pre reads.Post → lts.Start reads.Pre reads.Post
 entry c = c.before.before.before.before.before.before.before
 
-abbrev solve-at : tie.After-write_signed → tie.After-solve
+abbrev solve-at : lts.After-write_signed reads.Pre reads.Post → lts.After-solve reads.Pre reads.Post
 solve-at c = c.before.before.before.before.before.before
 
-abbrev flow-at : tie.After-write_all → tie.After-write_signed
+abbrev flow-at : lts.After-write_all reads.Pre reads.Post → lts.After-write_signed reads.Pre reads.Post
 flow-at c = c.before.before.before.before.before.before
 
 -- the outcome's tables are of the shape's size
-flow-size : (c : tie.After-solve) → length c.solve-a.new.1.1.1.0 ≡ (entry c).args.s.commodities * (entry c).args.s.arcs
+flow-size : (c : lts.After-solve reads.Pre reads.Post) → length c.solve-a.new.1.1.1.0 ≡ (entry c).args.s.commodities * (entry c).args.s.arcs
 flow-size c =
     let p = (entry c).requires.solving in
     c.solve-a.auto.1.1.1.0 ∙ (p.flows-1 ∙ ap₂ ◌*◌ (commodities-is p.lent.packed) (arcs-is p.lent.packed))
 
 -- and no more resources than arcs may be
-few : (s : tie.Start) → s.args.s.resources ≤ most_arcs
+few : (s : lts.Start reads.Pre reads.Post) → s.args.s.resources ≤ most_arcs
 few s = let p = s.requires.solving.lent in omega (arith, p.counted, p.sound.counts.of-resources)
 
-kept-size : (c : tie.After-solve) → length (kept_in (entry c).args.s c.solve-a.new.1.1.1.1.0) ≡ (entry c).args.s.resources
+kept-size : (c : lts.After-solve reads.Pre reads.Post) → length (kept_in (entry c).args.s c.solve-a.new.1.1.1.1.0) ≡ (entry c).args.s.resources
 kept-size c =
     let p = (entry c).requires.solving in
     part_length kept_from (entry c).args.s.resources c.solve-a.new.1.1.1.1.0 (omega (arith, c.solve-a.auto.1.1.1.1.0, p.places, few (entry c)))

@@ -16,27 +16,28 @@ use Rattle.call.specs.Host.{Slices, host_conditions, verdict_in}
 use Rattle.call.specs.Serve.{call_conditions}
 use Rattle.call.proofs.Hosts.{an-office, has-counts, has-count, open-for, call_fits, call-counts, call-open, refused-in, accepted-in}
 use Rattle.call.proofs.Judged.{judged-of, served-refused, served-own}
-use Rattle.host.proofs.solve.Tie as tie
+use Rattle.host.proofs.solve.Lts as lts
+use Rattle.host.proofs.solve.Reads as reads
 use Rattle.host.proofs.solve.Goals as goal
 
 -- the network and the slices at entry
-abbrev net : tie.Start → Network
+abbrev net : lts.Start reads.Pre reads.Post → Network
 net s = network_in s.args.n s.args.belts.now s.args.pairs.now s.args.limits.now
 
-abbrev lent : tie.Start → Slices
+abbrev lent : lts.Start reads.Pre reads.Post → Slices
 lent s = slices s.args.flow.now s.args.lengths.now s.args.answer.now s.args.counts.now
 
 -- from each call back to the one before it, and from the first to the function's entry
-abbrev shape_at : tie.After-check_call → goal.After-shape-s
+abbrev shape_at : lts.After-check_call reads.Pre reads.Post → goal.After-shape-s
 shape_at c = c.before.before.before.before.before
 
-abbrev entry : goal.After-shape-s → tie.Start
+abbrev entry : goal.After-shape-s → lts.Start reads.Pre reads.Post
 entry c = c.before.before.before.before.before.before.before.before
 
-abbrev told_at : tie.After-serve → goal.In_default
+abbrev told_at : lts.After-serve reads.Pre reads.Post → goal.In_default
 told_at c = c.before.before.before.before.before
 
-abbrev serve-at : goal.After-slice_known-8-1 → tie.After-serve
+abbrev serve-at : goal.After-slice_known-8-1 → lts.After-serve reads.Pre reads.Post
 serve-at c = c.before.before.before.before.before.before.before.before
 
 -- what is looked at before an item is read

@@ -7,17 +7,18 @@ use borrow.Author.Rules.{rules}
 use Rattle.index.specs.Indexing.{Side, side, Joining, Building}
 use Rattle.index.proofs.Adding.{building-room, building-put}
 use Rattle.index.proofs.Building.{building-on}
-use Rattle.index.proofs.add.Tie as tie
+use Rattle.index.proofs.add.Lts as lts
+use Rattle.index.proofs.add.Reads as reads
 use Rattle.index.proofs.add.Goals as goal
 
 -- from the arc's other end back to the function's entry, and the columns there
-abbrev entry : tie.After-other → tie.Start
+abbrev entry : lts.After-other reads.Pre reads.Post → lts.Start reads.Pre reads.Post
 entry c = c.before.before.before.before.before
 
-abbrev columns : tie.Start → Side
+abbrev columns : lts.Start reads.Pre reads.Post → Side
 columns s = side s.args.here.now s.args.there.now s.args.marks.now
 
-joins : (c : tie.Else1) → let s = entry c.before in Joining (columns s) s.args.v s.args.e c.before.other-w.result
+joins : (c : lts.Else1 reads.Pre reads.Post) → let s = entry c.before in Joining (columns s) s.args.v s.args.e c.before.other-w.result
 joins c = c.before.other-w.ensures.at c.if-w-eq0.false
 
 pub other-w-requires : goal.other-w-requires

@@ -10,12 +10,13 @@ use Rattle.network.specs.Network.{Network, limit}
 use Rattle.packed.specs.Packed.{net_in}
 use Rattle.packed.proofs.Columns.{arcs-is, capacities-length}
 use Rattle.index.proofs.Gathering.{Gathering, gathering-none, gathering-on, gathering-place, gathering-more, gathering-all}
-use Rattle.index.proofs.append_limits.Tie as tie
+use Rattle.index.proofs.append_limits.Lts as lts
+use Rattle.index.proofs.append_limits.Reads as reads
 use Rattle.index.proofs.append_limits.Invariants.{net}
 use Rattle.index.proofs.append_limits.Goals as goal
 
 -- the function's entry, seen from a turn
-abbrev entry : tie.At-loop goal.the-invariant-loop-v goal.the-decreases-loop-v → tie.Start goal.the-invariant-loop-v goal.the-decreases-loop-v
+abbrev entry : lts.At-loop reads.Pre reads.Post goal.the-invariant-loop-v goal.the-decreases-loop-v → lts.Start reads.Pre reads.Post goal.the-invariant-loop-v goal.the-decreases-loop-v
 entry c = c.before.before.before.before
 
 -- the present node is one of the network's
@@ -23,7 +24,7 @@ node : (c : goal.In-loop-v) → c.before.loop-v.v ≤ (net (entry c.before)).nod
 unfolding net_in
 node c = c.loop-v-test.true
 
-read : (c : tie.After-limit goal.the-invariant-loop-v goal.the-decreases-loop-v) → c.limit-x.result ≡ limit (net (entry c.before.before)) c.before.before.loop-v.v
+read : (c : lts.After-limit reads.Pre reads.Post goal.the-invariant-loop-v goal.the-decreases-loop-v) → c.limit-x.result ≡ limit (net (entry c.before.before)) c.before.before.loop-v.v
 unfolding net_in
 read c = c.limit-x.ensures
 

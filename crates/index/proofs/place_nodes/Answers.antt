@@ -12,12 +12,13 @@ use Rattle.packed.proofs.Columns.{arcs-is}
 use Rattle.index.specs.Index.{places_from}
 use Rattle.index.proofs.Limits.{place-most}
 use Rattle.index.proofs.Locating.{Locating, locating-none, locating-none-limited, locating-limited, locating-all}
-use Rattle.index.proofs.place_nodes.Tie as tie
+use Rattle.index.proofs.place_nodes.Lts as lts
+use Rattle.index.proofs.place_nodes.Reads as reads
 use Rattle.index.proofs.place_nodes.Invariants.{net}
 use Rattle.index.proofs.place_nodes.Goals as goal
 
 -- the function's entry, seen from a turn
-abbrev entry : tie.At-loop goal.the-invariant-loop-v goal.the-decreases-loop-v → tie.Start goal.the-invariant-loop-v goal.the-decreases-loop-v
+abbrev entry : lts.At-loop reads.Pre reads.Post goal.the-invariant-loop-v goal.the-decreases-loop-v → lts.Start reads.Pre reads.Post goal.the-invariant-loop-v goal.the-decreases-loop-v
 entry c = c.before.before.before.before
 
 -- the present node is one of the network's, and has a place
@@ -28,7 +29,7 @@ node c = c.loop-v-test.true
 place : (c : goal.In-loop-v) → places_from + c.before.loop-v.v < length (entry c.before).args.ix.now
 place c = let p = (entry c.before).requires in omega (arith, node c, p.nodes, p.numbers)
 
-read : (c : tie.After-limit goal.the-invariant-loop-v goal.the-decreases-loop-v) → c.limit.result ≡ limit (net (entry c.before.before)) c.before.before.loop-v.v
+read : (c : lts.After-limit reads.Pre reads.Post goal.the-invariant-loop-v goal.the-decreases-loop-v) → c.limit.result ≡ limit (net (entry c.before.before)) c.before.before.loop-v.v
 unfolding net_in
 read c = c.limit.ensures
 

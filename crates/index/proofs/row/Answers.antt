@@ -8,11 +8,12 @@ use lib.ListN.{length, length-set}
 use borrow.Author.Rules.{rules}
 use Rattle.index.specs.Indexing.{Side, side, Building}
 use Rattle.index.proofs.Opening.{building-next}
-use Rattle.index.proofs.row.Tie as tie
+use Rattle.index.proofs.row.Lts as lts
+use Rattle.index.proofs.row.Reads as reads
 use Rattle.index.proofs.row.Goals as goal
 
 -- the function's entry, seen from a turn
-abbrev entry : tie.At-loop goal.the-invariant-loop-e goal.the-decreases-loop-e → tie.Start goal.the-invariant-loop-e goal.the-decreases-loop-e
+abbrev entry : lts.At-loop reads.Pre reads.Post goal.the-invariant-loop-e goal.the-decreases-loop-e → lts.Start reads.Pre reads.Post goal.the-invariant-loop-e goal.the-decreases-loop-e
 entry c = c.before.before.before.before.before.before
 
 pub loop-e-init : goal.loop-e-init

@@ -10,10 +10,11 @@ use native.Mathlib.Omega.{arith}
 use lib.ListN.{length, get_or}
 use Rattle.lengths.specs.Calls.{Growing}
 use Rattle.lengths.proofs.Lengthened.{Lengthened, lengthen-none, lengthen-more, lengthen-all, next_place, next-short, next-longer, next-rise}
-use Rattle.lengths.proofs.grow.Tie as tie
+use Rattle.lengths.proofs.grow.Lts as lts
+use Rattle.lengths.proofs.grow.Reads as reads
 use Rattle.lengths.proofs.grow.Goals as goal
 
-abbrev entry : goal.In-loop-j → tie.Start goal.the-invariant-loop-j goal.the-decreases-loop-j
+abbrev entry : goal.In-loop-j → lts.Start reads.Pre reads.Post goal.the-invariant-loop-j goal.the-decreases-loop-j
 entry c = c.before.before.before.before.before
 
 -- the arc at the present place, which is among the arcs, and its length

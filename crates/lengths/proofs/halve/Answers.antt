@@ -13,10 +13,11 @@ use Rattle.arith.proofs.Lists.{map_at}
 use Rattle.tables.proofs.Filled.{fill-next}
 use Rattle.lengths.proofs.Weighable.{halved-weighable}
 use Rattle.lengths.proofs.Weighed.{Weighing, weigh-none, weigh-more, weigh-all, weighing-most}
-use Rattle.lengths.proofs.halve.Tie as tie
+use Rattle.lengths.proofs.halve.Lts as lts
+use Rattle.lengths.proofs.halve.Reads as reads
 use Rattle.lengths.proofs.halve.Goals as goal
 
-abbrev entry : goal.In-loop-e → tie.Start goal.the-invariant-loop-e goal.the-decreases-loop-e
+abbrev entry : goal.In-loop-e → lts.Start reads.Pre reads.Post goal.the-invariant-loop-e goal.the-decreases-loop-e
 entry c = c.before.before.before.before
 
 -- the next arc: its length is as it was, grown no further than 2^41

@@ -12,10 +12,11 @@ use Rattle.length.proofs.Size.{start_fits}
 use Rattle.lengths.specs.Results.{first_lengths}
 use Rattle.lengths.proofs.Weighable.{first-weighable}
 use Rattle.lengths.proofs.Weighed.{Weighing, weigh-none, weigh-more, weigh-all, weighing-most}
-use Rattle.lengths.proofs.start.Tie as tie
+use Rattle.lengths.proofs.start.Lts as lts
+use Rattle.lengths.proofs.start.Reads as reads
 use Rattle.lengths.proofs.start.Goals as goal
 
-abbrev entry : goal.In-loop-e → tie.Start goal.the-invariant-loop-e goal.the-decreases-loop-e
+abbrev entry : goal.In-loop-e → lts.Start reads.Pre reads.Post goal.the-invariant-loop-e goal.the-decreases-loop-e
 entry c = c.before.before.before.before
 
 pub start-first-requires : goal.start-first-requires

@@ -11,17 +11,18 @@ use Rattle.call.specs.Deliver.{slices}
 use Rattle.call.specs.Host.{Slices}
 use Rattle.site.specs.Turns.{site, FloorsServed}
 use Rattle.site.proofs.Floors.{none_yet, one_more}
-use Rattle.site.proofs.solve_floors.Tie as tie
+use Rattle.site.proofs.solve_floors.Lts as lts
+use Rattle.site.proofs.solve_floors.Reads as reads
 use Rattle.site.proofs.solve_floors.Goals as goal
 
 -- from each call back to the one before it, and from the first to the function's entry
-abbrev entry : tie.At-loop goal.the-invariant-loop-i goal.the-decreases-loop-i → tie.Start goal.the-invariant-loop-i goal.the-decreases-loop-i
+abbrev entry : lts.At-loop reads.Pre reads.Post goal.the-invariant-loop-i goal.the-decreases-loop-i → lts.Start reads.Pre reads.Post goal.the-invariant-loop-i goal.the-decreases-loop-i
 entry c = c.before.before.before.before.before.before.before.before.before.before
 
-abbrev loop-at : tie.After-solve_floor goal.the-invariant-loop-i goal.the-decreases-loop-i → tie.In-loop goal.the-invariant-loop-i goal.the-decreases-loop-i
+abbrev loop-at : lts.After-solve_floor reads.Pre reads.Post goal.the-invariant-loop-i goal.the-decreases-loop-i → lts.In-loop reads.Pre reads.Post goal.the-invariant-loop-i goal.the-decreases-loop-i
 loop-at c = c.before.before.before.before.before
 
-abbrev floor-at : goal.After-slice_known-in-loop-i-4-1 → tie.After-solve_floor goal.the-invariant-loop-i goal.the-decreases-loop-i
+abbrev floor-at : goal.After-slice_known-in-loop-i-4-1 → lts.After-solve_floor reads.Pre reads.Post goal.the-invariant-loop-i goal.the-decreases-loop-i
 floor-at c = c.before.before.before.before.before.before.before.before
 
 pub loop-i-init : goal.loop-i-init

@@ -5,15 +5,16 @@ use Prim.Native.Nat.{◌+◌, ◌-◌, ◌≤◌}
 use native.Mathlib.Omega.{arith}
 use Rattle.index.specs.Index.{begins, most_places}
 use Rattle.paths.proofs.Passing.{Passing, passing-first, passing-none, passing-offered, passing-more, passing-found}
-use Rattle.walk.proofs.tight.Tie as tie
+use Rattle.walk.proofs.tight.Lts as lts
+use Rattle.walk.proofs.tight.Reads as reads
 use Rattle.walk.proofs.tight.Goals as goal
 
 -- the function's entry, seen from a turn
-abbrev entry : tie.At-loop goal.the-invariant-loop-p goal.the-decreases-loop-p → tie.Start goal.the-invariant-loop-p goal.the-decreases-loop-p
+abbrev entry : lts.At-loop reads.Pre reads.Post goal.the-invariant-loop-p goal.the-decreases-loop-p → lts.Start reads.Pre reads.Post goal.the-invariant-loop-p goal.the-decreases-loop-p
 entry c = c.before.before.before.before.before.before.before.before
 
 -- the places of v end within the index
-ends : (c : tie.At-loop goal.the-invariant-loop-p goal.the-decreases-loop-p) → begins (entry c).args.out.now ((entry c).args.v + 1) ≤ most_places
+ends : (c : lts.At-loop reads.Pre reads.Post goal.the-invariant-loop-p goal.the-decreases-loop-p) → begins (entry c).args.out.now ((entry c).args.v + 1) ≤ most_places
 ends c = (entry c).requires.index.arcs.within (entry c).args.v (entry c).requires.node
 
 pub offset_bounds-dist-v : goal.offset_bounds-dist-v

@@ -7,14 +7,15 @@ use lib.ListN.{length, get_or}
 use Rattle.packed.specs.Packed.{net_in}
 use Rattle.paths.specs.Tight.{Tight}
 use Rattle.paths.proofs.Walking.{Walking, walking_start, walking-few, walking-end, walking_on, walking-stuck, walking-step, next-nearer}
-use Rattle.walk.proofs.walk.Tie as tie
+use Rattle.walk.proofs.walk.Lts as lts
+use Rattle.walk.proofs.walk.Reads as reads
 use Rattle.walk.proofs.walk.Goals as goal
 
 -- the function's entry, seen from a turn; the turn, seen from behind the search for its arc; and that, where there is an arc
-abbrev entry : tie.At-loop goal.the-invariant-loop-v goal.the-decreases-loop-v → tie.Start goal.the-invariant-loop-v goal.the-decreases-loop-v
+abbrev entry : lts.At-loop reads.Pre reads.Post goal.the-invariant-loop-v goal.the-decreases-loop-v → lts.Start reads.Pre reads.Post goal.the-invariant-loop-v goal.the-decreases-loop-v
 entry c = c.before.before.before.before.before.before
 
-abbrev turn : goal.After-tight-p → tie.At-loop goal.the-invariant-loop-v goal.the-decreases-loop-v
+abbrev turn : goal.After-tight-p → lts.At-loop reads.Pre reads.Post goal.the-invariant-loop-v goal.the-decreases-loop-v
 turn c = c.before.before
 
 abbrev sought : goal.Else-p-out → goal.After-tight-p

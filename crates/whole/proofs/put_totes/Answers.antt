@@ -12,14 +12,15 @@ use Rattle.numbers.proofs.Columns.{member_below}
 use Rattle.whole.specs.Read.{leaves_in, sent_in}
 use Rattle.whole.specs.Whole.{parted}
 use Rattle.whole.proofs.Parted.{parted-more}
-use Rattle.whole.proofs.put_totes.Tie as tie
+use Rattle.whole.proofs.put_totes.Lts as lts
+use Rattle.whole.proofs.put_totes.Reads as reads
 use Rattle.whole.proofs.put_totes.Goals as goal
 
 -- from the loop to the function's entry
-abbrev sizes-at : tie.At-loop goal.the-invariant-loop-i goal.the-decreases-loop-i → goal.After-items-k
+abbrev sizes-at : lts.At-loop reads.Pre reads.Post goal.the-invariant-loop-i goal.the-decreases-loop-i → goal.After-items-k
 sizes-at c = c.before.before.before
 
-abbrev entry : goal.After-items-k → tie.Start goal.the-invariant-loop-i goal.the-decreases-loop-i
+abbrev entry : goal.After-items-k → lts.Start reads.Pre reads.Post goal.the-invariant-loop-i goal.the-decreases-loop-i
 entry c = c.before.before.before.before.before.before.before
 
 pub loop-i-init : goal.loop-i-init
@@ -28,7 +29,7 @@ loop-i-init c = (search rules, refl, refl)
 
 -- pair i, and where its numbers are
 module _ (c : goal.In-loop-i) where
-  abbrev first : tie.Start goal.the-invariant-loop-i goal.the-decreases-loop-i
+  abbrev first : lts.Start reads.Pre reads.Post goal.the-invariant-loop-i goal.the-decreases-loop-i
   first = entry (sizes-at c.before)
 
   inside : c.before.loop-i.i < items 2 first.args.pairs.now

@@ -10,20 +10,21 @@ use Rattle.network.proofs.First.{refused-first, accepted-first}
 use Rattle.network.proofs.Limits.{limits-given}
 use Rattle.packed.specs.Packed.{net_in}
 use Rattle.packed.proofs.Columns.{limits-length}
-use Rattle.checks.proofs.items.check_items.Tie as tie
+use Rattle.checks.proofs.items.check_items.Lts as lts
+use Rattle.checks.proofs.items.check_items.Reads as reads
 use Rattle.checks.proofs.items.check_items.Goals as goal
 
-abbrev arcs-at : tie.After-check_limits → tie.After-check_arcs
+abbrev arcs-at : lts.After-check_limits reads.Pre reads.Post → lts.After-check_arcs reads.Pre reads.Post
 arcs-at c = c.before.before.before.before
 
-abbrev entry : tie.After-check_limits → tie.Start
+abbrev entry : lts.After-check_limits reads.Pre reads.Post → lts.Start reads.Pre reads.Post
 entry c = (arcs-at c).before.before.before.before.before
 
-abbrev net : tie.After-check_limits → Network
+abbrev net : lts.After-check_limits reads.Pre reads.Post → Network
 net c = net_in (entry c).args.s (entry c).args.net.now
 
 -- the limits that are given say what those of all nodes do
-limits-checked : (c : tie.After-check_limits) → c.check_limits-limits.result ≡ verdict (flat (limit_conditions (net c)) (up_to (net c).nodes))
+limits-checked : (c : lts.After-check_limits reads.Pre reads.Post) → c.check_limits-limits.result ≡ verdict (flat (limit_conditions (net c)) (up_to (net c).nodes))
 unfolding net_in limit_conditions
 limits-checked c =
     let p = (entry c).requires in

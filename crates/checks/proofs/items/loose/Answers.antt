@@ -6,11 +6,12 @@ use mathlib.Core.Logic.{⊎_elim}
 use borrow.Author.Rules.{rules}
 use Rattle.network.specs.Verdict.{outside, loose}
 use Rattle.network.proofs.Or.{or-stop, or-on}
-use Rattle.checks.proofs.items.loose.Tie as tie
+use Rattle.checks.proofs.items.loose.Lts as lts
+use Rattle.checks.proofs.items.loose.Reads as reads
 use Rattle.checks.proofs.items.loose.Goals as goal
 
 -- the first two tests, where their ways meet
-ends : (c : tie.Joined1) →
+ends : (c : lts.Joined1 reads.Pre reads.Post) →
     c.if-outside.value ≡ outside 1 c.before.before.args.n c.before.before.args.a || outside 1 c.before.before.args.n c.before.before.args.b
 ends c =
     ⊎_elim

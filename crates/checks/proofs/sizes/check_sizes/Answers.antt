@@ -10,14 +10,15 @@ use Rattle.bounds.specs.Bounds.{most_arcs}
 use Rattle.network.specs.Verdict.{Condition, verdict, size_conditions}
 use Rattle.network.specs.declared.Verdict.{Verdict}
 use Rattle.network.proofs.First.{decides, passes, none_left}
-use Rattle.checks.proofs.sizes.check_sizes.Tie as tie
+use Rattle.checks.proofs.sizes.check_sizes.Lts as lts
+use Rattle.checks.proofs.sizes.check_sizes.Reads as reads
 use Rattle.checks.proofs.sizes.check_sizes.Goals as goal
 
 -- the function's entry, seen from behind each of the first four
 abbrev entry-1 : goal.Else-outside → goal.Start
 entry-1 c = c.before.before
 
-abbrev entry-2 : tie.Else2 → goal.Start
+abbrev entry-2 : lts.Else2 reads.Pre reads.Post → goal.Start
 entry-2 c = entry-1 c.before.before
 
 abbrev entry-3 : goal.Else-r-gt-MOST_ARCS → goal.Start
@@ -35,7 +36,7 @@ past-1 : (c : goal.Else-outside) {v : Verdict} → v ≡ verdict (from 1 (entry-
 unfolding size_conditions
 past-1 c w = passes _ _ c.before.outside.ensures c.if-outside.false w
 
-past-2 : (c : tie.Else2) {v : Verdict} → v ≡ verdict (from 2 (entry-2 c)) → v ≡ verdict (from 0 (entry-2 c))
+past-2 : (c : lts.Else2 reads.Pre reads.Post) {v : Verdict} → v ≡ verdict (from 2 (entry-2 c)) → v ≡ verdict (from 0 (entry-2 c))
 unfolding size_conditions
 past-2 c w = past-1 c.before.before (passes _ _ c.before.outside-2.ensures c.if-outside-2.false w)
 

@@ -10,10 +10,11 @@ use Rattle.network.proofs.Bounds.{within}
 use Rattle.network.proofs.First.{decides, passes, none_left}
 use Rattle.call.specs.Host.{count_of, office_conditions}
 use Rattle.call.proofs.Hosts.{no-office}
-use Rattle.host.proofs.room.check_office.Tie as tie
+use Rattle.host.proofs.room.check_office.Lts as lts
+use Rattle.host.proofs.room.check_office.Reads as reads
 use Rattle.host.proofs.room.check_office.Goals as goal
 
-abbrev entry : goal.Else-outside → tie.Start
+abbrev entry : goal.Else-outside → lts.Start reads.Pre reads.Post
 entry c = c.before.before.before
 
 an-office : (c : goal.Else-outside) → Within 1 offices (entry c).args.office

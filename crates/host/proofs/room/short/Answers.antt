@@ -9,11 +9,12 @@ use native.Mathlib.Omega.{arith}
 use Rattle.bounds.specs.Bounds.{answer_numbers}
 use Rattle.numbers.specs.Numbers.{count}
 use Rattle.call.specs.Host.{short}
-use Rattle.host.proofs.room.short.Tie as tie
+use Rattle.host.proofs.room.short.Lts as lts
+use Rattle.host.proofs.room.short.Reads as reads
 use Rattle.host.proofs.room.short.Goals as goal
 
 -- from the first table's count to the function's entry
-abbrev entry : goal.After-count → tie.Start
+abbrev entry : goal.After-count → lts.Start reads.Pre reads.Post
 entry c = c.before.before.before.before.before.before
 
 pub overflow_mul-k : goal.overflow_mul-k

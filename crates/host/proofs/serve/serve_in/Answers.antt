@@ -11,37 +11,38 @@ use Rattle.packed.specs.Packed.{net_in, Packed}
 use Rattle.call.specs.Deliver.{slices}
 use Rattle.call.specs.Host.{Slices}
 use Rattle.call.proofs.Judged.{fits, lends, judged-of, served-refused, served-accepted}
-use Rattle.host.proofs.serve.serve_in.Tie as tie
+use Rattle.host.proofs.serve.serve_in.Lts as lts
+use Rattle.host.proofs.serve.serve_in.Reads as reads
 use Rattle.host.proofs.serve.serve_in.Goals as goal
 
 -- from each call back to the one before it, and from the first to the function's entry
-abbrev entry : tie.After-decode → tie.Start
+abbrev entry : lts.After-decode reads.Pre reads.Post → lts.Start reads.Pre reads.Post
 entry c = c.before.before.before.before.before.before.before.before.before.before
 
-abbrev decode-at : tie.After-check_items → tie.After-decode
+abbrev decode-at : lts.After-check_items reads.Pre reads.Post → lts.After-decode reads.Pre reads.Post
 decode-at c = c.before.before.before.before
 
-abbrev told_at : tie.After-deliver → tie.After-enum_told2
+abbrev told_at : lts.After-deliver reads.Pre reads.Post → lts.After-enum_told2 reads.Pre reads.Post
 told_at c = c.before.before.before.before.before.before
 
-abbrev deliver-at : goal.After-slice_known-10-1 → tie.After-deliver
+abbrev deliver-at : goal.After-slice_known-10-1 → lts.After-deliver reads.Pre reads.Post
 deliver-at c = c.before.before.before.before.before.before.before.before
 
 -- the slices at entry
-abbrev lent : tie.Start → Slices
+abbrev lent : lts.Start reads.Pre reads.Post → Slices
 lent s = slices s.args.flow.now s.args.lengths.now s.args.answer.now s.args.running.now
 
 -- the network as it was read
-abbrev net : tie.After-decode → Network
+abbrev net : lts.After-decode reads.Pre reads.Post → Network
 net c = net_in (entry c).args.s c.decode.new.1.1.1.1.0
 
-packs : (c : tie.After-decode) → Packed (entry c).args.s c.decode.new.1.1.1.1.0
+packs : (c : lts.After-decode reads.Pre reads.Post) → Packed (entry c).args.s c.decode.new.1.1.1.1.0
 packs c =
     let p = (entry c).requires.places in
     record { few-nodes = p.few-nodes; few-limits = p.few-limits; few-arcs = p.few-arcs; few-commodities = p.few-commodities; places = omega (arith, p.places, c.decode.auto.1.1.1.1.0) }
 
 -- its resources are those that the shape counts
-counted : (c : tie.After-decode) → (entry c).args.s.resources ≡ resources (net c)
+counted : (c : lts.After-decode reads.Pre reads.Post) → (entry c).args.s.resources ≡ resources (net c)
 counted c = (entry c).requires.sizes.shaped.counted ∙ ap resources (sym c.decode.ensures)
 
 pub check_items-v-requires : goal.check_items-v-requires
@@ -63,7 +64,7 @@ returns-in-Refused c =
     (served-refused (net d) s.args.q (verdict (item_conditions (net d))) (lent s) c.host_number.result _ _ (sym e ∙ c.before.in-Refused.is) (c.host_number.ensures ∙ ap host_number e))
 
 -- nothing is refused
-accepted : (c : tie.After-enum_told2) → verdict (item_conditions (net (decode-at c.before.before))) ≡ Accepted
+accepted : (c : lts.After-enum_told2 reads.Pre reads.Post) → verdict (item_conditions (net (decode-at c.before.before))) ≡ Accepted
 accepted c = sym c.before.before.check_items-v.ensures ∙ c.in_default.is
 
 pub deliver-requires : goal.deliver-requires

@@ -11,11 +11,12 @@ use Rattle.lines.specs.Meaning.{word, shaped, given}
 use Rattle.lines.specs.Number.{number_of}
 use Rattle.lines.specs.Pieces.{words_of}
 use Rattle.lines.proofs.Meant.{arc-by, number_is}
-use Rattle.lines.proofs.kinds.arc.Tie as tie
+use Rattle.lines.proofs.kinds.arc.Lts as lts
+use Rattle.lines.proofs.kinds.arc.Reads as reads
 use Rattle.lines.proofs.kinds.arc.Goals as goal
 
 -- the words of the line, and what was found of them on the way
-abbrev words : tie.Start → List (List ℕ)
+abbrev words : lts.Start reads.Pre reads.Post → List (List ℕ)
 words c = words_of c.args.line.now
 
 fit : (c : goal.Else-not-shaped) → shaped 4 (words c.before.before.before) ≡ true

@@ -12,14 +12,15 @@ use Rattle.lines.specs.Meaning.{word, shaped, given}
 use Rattle.lines.specs.Number.{number_of}
 use Rattle.lines.specs.Pieces.{words_of}
 use Rattle.lines.proofs.Meant.{problem-by, number_is}
-use Rattle.lines.proofs.kinds.problem.Tie as tie
+use Rattle.lines.proofs.kinds.problem.Lts as lts
+use Rattle.lines.proofs.kinds.problem.Reads as reads
 use Rattle.lines.proofs.kinds.problem.Goals as goal
 
 is-max : {w v : List ℕ} {r t : Bool} → w ≡ v → r ≡ same w (109 ∷ 97 ∷ 120 ∷ []) → r ≡ t → same v (109 ∷ 97 ∷ 120 ∷ []) ≡ t
 is-max e s h = rw e at (sym s) ∙ h
 
 -- the words of the line, and what was found of them on the way
-abbrev words : tie.Start → List (List ℕ)
+abbrev words : lts.Start reads.Pre reads.Post → List (List ℕ)
 words c = words_of c.args.line.now
 
 fit : (c : goal.Else-not-shaped) → shaped 4 (words c.before.before.before) ≡ true

@@ -7,17 +7,18 @@ use Rattle.packed.proofs.Columns.{part_length}
 use Rattle.paths.specs.Order.{page_numbers, LinedUp}
 use Rattle.memory.specs.Memory.{page_from, page_in}
 use Rattle.memory.proofs.Forgets.{Paged, paged-none, paged-more}
-use Rattle.memory.proofs.pages.begin.Tie as tie
+use Rattle.memory.proofs.pages.begin.Lts as lts
+use Rattle.memory.proofs.pages.begin.Reads as reads
 use Rattle.memory.proofs.pages.begin.Goals as goal
 
 pub loop-t-init : goal.loop-t-init
 loop-t-init c = paged-none _ _
 
 -- the function's entry, seen from a turn; and the turn, seen from behind the call of `line_up`
-abbrev entry : goal.In-loop-t → tie.Start goal.the-invariant-loop-t goal.the-decreases-loop-t
+abbrev entry : goal.In-loop-t → lts.Start reads.Pre reads.Post goal.the-invariant-loop-t goal.the-decreases-loop-t
 entry c = c.before.before.before
 
-abbrev turn : tie.After-line_up goal.the-invariant-loop-t goal.the-decreases-loop-t → goal.In-loop-t
+abbrev turn : lts.After-line_up reads.Pre reads.Post goal.the-invariant-loop-t goal.the-decreases-loop-t → goal.In-loop-t
 turn c = c.before.before
 
 -- there is room for the page of t

@@ -8,17 +8,18 @@ use Rattle.paths.specs.Order.{page_numbers}
 use Rattle.memory.specs.Forgotten.{cleared}
 use Rattle.memory.specs.Memory.{page_from, page_in}
 use Rattle.memory.proofs.Forgets.{Paged, paged-none, paged-more}
-use Rattle.memory.proofs.pages.clear_pages.Tie as tie
+use Rattle.memory.proofs.pages.clear_pages.Lts as lts
+use Rattle.memory.proofs.pages.clear_pages.Reads as reads
 use Rattle.memory.proofs.pages.clear_pages.Goals as goal
 
 pub loop-t-init : goal.loop-t-init
 loop-t-init c = paged-none _ _
 
 -- the function's entry, seen from a turn; and the turn, seen from behind the call of `fill`
-abbrev entry : goal.In-loop-t → tie.Start goal.the-invariant-loop-t goal.the-decreases-loop-t
+abbrev entry : goal.In-loop-t → lts.Start reads.Pre reads.Post goal.the-invariant-loop-t goal.the-decreases-loop-t
 entry c = c.before.before.before
 
-abbrev turn : tie.After-fill goal.the-invariant-loop-t goal.the-decreases-loop-t → goal.In-loop-t
+abbrev turn : lts.After-fill reads.Pre reads.Post goal.the-invariant-loop-t goal.the-decreases-loop-t → goal.In-loop-t
 turn c = c.before.before
 
 -- there is room for the page of t

@@ -13,7 +13,8 @@ use Rattle.memory.specs.Memory.{memory_numbers, bounds_in}
 use Rattle.memory.specs.Raised.{Raising, RaisedAt, RaisedIn, AllRaised}
 use Rattle.memory.proofs.Leasts.{least_first, least-less, least_other, least-same}
 use Rattle.memory.proofs.Raises.{raised-in-none, raised-in-more, raised-in-bound, raised-in-other}
-use Rattle.memory.proofs.raise.raise.Tie as tie
+use Rattle.memory.proofs.raise.raise.Lts as lts
+use Rattle.memory.proofs.raise.raise.Reads as reads
 use Rattle.memory.proofs.raise.raise.Invariants.{Passed}
 use Rattle.memory.proofs.raise.raise.Goals as goal
 
@@ -65,19 +66,19 @@ module _ {s : Shape} {net ix l : List ℕ} {t : ℕ} {old : List ℕ} (few : s.c
       }
 
 -- the function's entry, seen from a turn; and the turn, seen from behind the raising
-abbrev entry : tie.At-loop goal.the-invariant-loop-i goal.the-decreases-loop-i → tie.Start goal.the-invariant-loop-i goal.the-decreases-loop-i
+abbrev entry : lts.At-loop reads.Pre reads.Post goal.the-invariant-loop-i goal.the-decreases-loop-i → lts.Start reads.Pre reads.Post goal.the-invariant-loop-i goal.the-decreases-loop-i
 entry c = c.before.before.before.before.before
 
-abbrev turn : tie.After-raise_at goal.the-invariant-loop-i goal.the-decreases-loop-i → tie.In-loop goal.the-invariant-loop-i goal.the-decreases-loop-i
+abbrev turn : lts.After-raise_at reads.Pre reads.Post goal.the-invariant-loop-i goal.the-decreases-loop-i → lts.In-loop reads.Pre reads.Post goal.the-invariant-loop-i goal.the-decreases-loop-i
 turn c = c.before.before
 
-abbrev raised_at : goal.After-slice_known-in-loop-i-1 → tie.After-raise_at goal.the-invariant-loop-i goal.the-decreases-loop-i
+abbrev raised_at : goal.After-slice_known-in-loop-i-1 → lts.After-raise_at reads.Pre reads.Post goal.the-invariant-loop-i goal.the-decreases-loop-i
 raised_at c = c.before.before
 
-few-of : (s : tie.Start goal.the-invariant-loop-i goal.the-decreases-loop-i) → s.args.s.commodities ≤ most_commodities
+few-of : (s : lts.Start reads.Pre reads.Post goal.the-invariant-loop-i goal.the-decreases-loop-i) → s.args.s.commodities ≤ most_commodities
 few-of s = s.requires.raising.packed.few-commodities
 
-b-few : (c : tie.In-loop goal.the-invariant-loop-i goal.the-decreases-loop-i) → c.before.loop-i.b < most_commodities
+b-few : (c : lts.In-loop reads.Pre reads.Post goal.the-invariant-loop-i goal.the-decreases-loop-i) → c.before.loop-i.b < most_commodities
 b-few c =
     let s = entry c.before in
     omega (arith, leader (few-of s) s.requires.raising.places c.before.loop-i.invariant c.loop-i-test.true, few-of s)
@@ -102,13 +103,13 @@ raise_at-bound-requires c =
     )
 
 -- the memory behind the raising has as many numbers, and the leader's bound is read in it
-abbrev memory-at : tie.After-raise_at goal.the-invariant-loop-i goal.the-decreases-loop-i → List ℕ
+abbrev memory-at : lts.After-raise_at reads.Pre reads.Post goal.the-invariant-loop-i goal.the-decreases-loop-i → List ℕ
 memory-at c = c.raise_at-bound.new.1.1.1.1.1.1.0
 
-numbers : (c : tie.After-raise_at goal.the-invariant-loop-i goal.the-decreases-loop-i) → length (memory-at c) ≡ length (entry (turn c).before).args.memory.now
+numbers : (c : lts.After-raise_at reads.Pre reads.Post goal.the-invariant-loop-i goal.the-decreases-loop-i) → length (memory-at c) ≡ length (entry (turn c).before).args.memory.now
 numbers c = c.raise_at-bound.auto.1.1.1.1.1.1.0 ∙ (turn c).before.loop-i.invariant.raised.numbers
 
-read : (c : tie.After-raise_at goal.the-invariant-loop-i goal.the-decreases-loop-i) → let b = (turn c).before.loop-i.b in
+read : (c : lts.After-raise_at reads.Pre reads.Post goal.the-invariant-loop-i goal.the-decreases-loop-i) → let b = (turn c).before.loop-i.b in
     get_or (memory-at c) (0 + b) 0 ≡ get_or (bounds_in (entry (turn c).before).args.s (memory-at c)) b 0
 read c =
     let s = entry (turn c).before in

@@ -1,11 +1,12 @@
 -- `memory::raise::told` meets its contract: where the first entry is the less, nothing is left of the difference. Assumes nothing.
 use mathlib.Core.Path.{◌≡◌}
 use native.Mathlib.Omega.{arith}
-use Rattle.memory.proofs.raise.told.Tie as tie
+use Rattle.memory.proofs.raise.told.Lts as lts
+use Rattle.memory.proofs.raise.told.Reads as reads
 use Rattle.memory.proofs.raise.told.Goals as goal
 
 -- the function's entry, seen from behind the reading of the entries
-abbrev entry : goal.After-through-own → tie.Start
+abbrev entry : goal.After-through-own → lts.Start reads.Pre reads.Post
 entry c = c.before.before.before.before
 
 pub through-own-requires : goal.through-own-requires

@@ -3,13 +3,14 @@ use mathlib.Core.Path.{◌∙◌}
 use native.Mathlib.Omega.{arith}
 use borrow.Author.Rules.{rules}
 use Rattle.records.proofs.Completed.{completed}
-use Rattle.records.proofs.judge.complete.Tie as tie
+use Rattle.records.proofs.judge.complete.Lts as lts
+use Rattle.records.proofs.judge.complete.Reads as reads
 use Rattle.records.proofs.judge.complete.Goals as goal
 
-abbrev entry : tie.After-put_limits → tie.Start
+abbrev entry : lts.After-put_limits reads.Pre reads.Post → lts.Start reads.Pre reads.Post
 entry c = c.before.before.before.before.before
 
-abbrev limits-at : tie.After-put_pairs → tie.After-put_limits
+abbrev limits-at : lts.After-put_pairs reads.Pre reads.Post → lts.After-put_limits reads.Pre reads.Post
 limits-at c = c.before.before.before.before
 
 pub put_limits-requires : goal.put_limits-requires

@@ -4,10 +4,11 @@ use borrow.Author.Rules.{rules}
 use Rattle.packed.specs.Packed.{limits_from}
 use Rattle.packed.proofs.Columns.{part_length}
 use Rattle.records.proofs.Completed.{limits-room, limits-many, put-limits-length, limited}
-use Rattle.records.proofs.judge.put_limits.Tie as tie
+use Rattle.records.proofs.judge.put_limits.Lts as lts
+use Rattle.records.proofs.judge.put_limits.Reads as reads
 use Rattle.records.proofs.judge.put_limits.Goals as goal
 
-abbrev entry : goal.After-copy-arg-1 → tie.Start
+abbrev entry : goal.After-copy-arg-1 → lts.Start reads.Pre reads.Post
 entry c = c.before.before.before
 
 pub slice_bounds-copy-end : goal.slice_bounds-copy-end

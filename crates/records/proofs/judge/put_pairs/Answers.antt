@@ -4,10 +4,11 @@ use native.Mathlib.Omega.{arith}
 use borrow.Author.Rules.{rules}
 use Rattle.packed.proofs.Columns.{part_length}
 use Rattle.records.proofs.Paired.{sinks-column, paired-length, paired}
-use Rattle.records.proofs.judge.put_pairs.Tie as tie
+use Rattle.records.proofs.judge.put_pairs.Lts as lts
+use Rattle.records.proofs.judge.put_pairs.Reads as reads
 use Rattle.records.proofs.judge.put_pairs.Goals as goal
 
-abbrev entry : tie.After-halve → tie.Start
+abbrev entry : lts.After-halve reads.Pre reads.Post → lts.Start reads.Pre reads.Post
 entry c = c.before.before.before.before
 
 pub halve-requires : goal.halve-requires

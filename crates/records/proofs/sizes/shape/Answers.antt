@@ -4,10 +4,11 @@ use mathlib.Core.Logic.{⊎_elim}
 use native.Mathlib.Omega.{arith}
 use Rattle.network.proofs.Given.{given-most}
 use Rattle.records.specs.Parts.{limits_read}
-use Rattle.records.proofs.sizes.shape.Tie as tie
+use Rattle.records.proofs.sizes.shape.Lts as lts
+use Rattle.records.proofs.sizes.shape.Reads as reads
 use Rattle.records.proofs.sizes.shape.Goals as goal
 
-abbrev entry : goal.Joined-n-all → tie.Start
+abbrev entry : goal.Joined-n-all → lts.Start reads.Pre reads.Post
 entry c = c.before.before
 
 read : (c : goal.Joined-n-all) → c.if-n-all.c ≡ limits_read (entry c).args.n (entry c).args.limits.now

@@ -12,14 +12,15 @@ use Rattle.rows.specs.Row.{delimited, header}
 use Rattle.report.specs.Shown.{network_of_file}
 use Rattle.report.proofs.Written.{listed-refused, listed-held}
 use borrow.Author.Rules.{rules}
-use Rattle.report.proofs.file.listing.Tie as tie
+use Rattle.report.proofs.file.listing.Lts as lts
+use Rattle.report.proofs.file.listing.Reads as reads
 use Rattle.report.proofs.file.listing.Goals as goal
 
 -- from each call back to the one before it
-abbrev read_at : tie.After-put → tie.After-read
+abbrev read_at : lts.After-put reads.Pre reads.Post → lts.After-read reads.Pre reads.Post
 read_at c = c.before.before.before
 
-abbrev put-at : tie.After-pack → tie.After-put
+abbrev put-at : lts.After-pack reads.Pre reads.Post → lts.After-put reads.Pre reads.Post
 put-at c = c.before.before.before.before
 
 pub returns-in-Refused : goal.returns-in-Refused
@@ -34,7 +35,7 @@ pack-requires c =
     record { few = w.few; of-tails = w.tails; of-heads = w.heads; of-capacities = w.capacities; places = omega (arith, length-replicate {A = ℕ} net_numbers 0) }
 
 -- the file holds the network that is packed
-held : (c : tie.After-pack) → parsed (read_at (put-at c)).before.before.args.text.now ≡ holds (network_of_file (read_at (put-at c)).read-file.result)
+held : (c : lts.After-pack reads.Pre reads.Post) → parsed (read_at (put-at c)).before.before.args.text.now ≡ holds (network_of_file (read_at (put-at c)).read-file.result)
 held c = accepted-holds _ (read_at (put-at c)).read-file.ensures.result c.before.before.in_default.is
 
 pub judge-requires : goal.judge-requires

@@ -12,11 +12,12 @@ use Rattle.signed.specs.Signed.{size}
 use Rattle.rows.proofs.Puts.{put-length}
 use Rattle.report.specs.Shown.{belt_of}
 use Rattle.report.proofs.Rowed.{Rowed, none-rowed, one-rowed, all-rowed, belt-length}
-use Rattle.report.proofs.solved.put_belts.Tie as tie
+use Rattle.report.proofs.solved.put_belts.Lts as lts
+use Rattle.report.proofs.solved.put_belts.Reads as reads
 use Rattle.report.proofs.solved.put_belts.Goals as goal
 
 -- from the loop's beginning to the function's entry, and from behind the reading of an amount to the turn
-abbrev entry : tie.At-loop goal.the-invariant-loop-e goal.the-decreases-loop-e → tie.Start goal.the-invariant-loop-e goal.the-decreases-loop-e
+abbrev entry : lts.At-loop reads.Pre reads.Post goal.the-invariant-loop-e goal.the-decreases-loop-e → lts.Start reads.Pre reads.Post goal.the-invariant-loop-e goal.the-decreases-loop-e
 entry c = c.before.before.before.before
 
 abbrev turn : goal.After-size-arg-1 → goal.In-loop-e
@@ -29,7 +30,7 @@ amount c = get_or (entry c.before).args.flow.now c.before.loop-e.e (pos 0)
 reads : (c : goal.After-size-arg-1) → to_z w64 (of_z w64 (amount (turn c))) ≡ amount (turn c)
 reads c = to_z-of_z w64 (amount (turn c)) (record { sfits = c.size-arg-1.given })
 
-load : (c : tie.After-size goal.the-invariant-loop-e goal.the-decreases-loop-e) → c.size-load.result ≡ size (amount (turn c.before))
+load : (c : lts.After-size reads.Pre reads.Post goal.the-invariant-loop-e goal.the-decreases-loop-e) → c.size-load.result ≡ size (amount (turn c.before))
 load c = c.size-load.ensures ∙ ap (λ x. size x) (reads c.before)
 
 pub loop-e-init : goal.loop-e-init

@@ -6,17 +6,18 @@ use Rattle.rows.proofs.Lengths.{answer-length}
 use Rattle.rows.proofs.Puts.{put-within}
 use Rattle.report.proofs.Showing.{one-row, total-small, belted, shown}
 use borrow.Author.Rules.{rules}
-use Rattle.report.proofs.solved.show_in.Tie as tie
+use Rattle.report.proofs.solved.show_in.Lts as lts
+use Rattle.report.proofs.solved.show_in.Reads as reads
 use Rattle.report.proofs.solved.show_in.Goals as goal
 
 -- from each call back to the one before it, and from the first to the function's entry
-abbrev entry : tie.After-solve → tie.Start
+abbrev entry : lts.After-solve reads.Pre reads.Post → lts.Start reads.Pre reads.Post
 entry c = c.before.before.before.before.before.before
 
-abbrev solve-at : tie.After-put_answer → tie.After-solve
+abbrev solve-at : lts.After-put_answer reads.Pre reads.Post → lts.After-solve reads.Pre reads.Post
 solve-at c = c.before.before.before.before.before
 
-abbrev answer_at : tie.After-put_belts → tie.After-put_answer
+abbrev answer_at : lts.After-put_belts reads.Pre reads.Post → lts.After-put_answer reads.Pre reads.Post
 answer_at c = c.before.before.before.before.before.before.before
 
 pub solve-a-requires : goal.solve-a-requires

@@ -7,30 +7,31 @@ use Rattle.rows.specs.Row.{delimited, row}
 use Rattle.rows.proofs.Digits.{decimal-short}
 use Rattle.rows.proofs.Puts.{put_next}
 use borrow.Author.Rules.{rules}
-use Rattle.rows.proofs.rows.put_belt.Tie as tie
+use Rattle.rows.proofs.rows.put_belt.Lts as lts
+use Rattle.rows.proofs.rows.put_belt.Reads as reads
 use Rattle.rows.proofs.rows.put_belt.Goals as goal
 
 -- from each call back to the one before it, and from the first to the function's entry
-abbrev entry : tie.After-put → tie.Start
+abbrev entry : lts.After-put reads.Pre reads.Post → lts.Start reads.Pre reads.Post
 entry c = c.before.before.before.before
 
-abbrev kind_at : tie.After-put_number → tie.After-put
+abbrev kind_at : lts.After-put_number reads.Pre reads.Post → lts.After-put reads.Pre reads.Post
 kind_at c = c.before.before.before.before
 
-abbrev tail_at : tie.After-put2 → tie.After-put_number
+abbrev tail_at : lts.After-put2 reads.Pre reads.Post → lts.After-put_number reads.Pre reads.Post
 tail_at c = c.before.before.before.before.before
 
-abbrev comma-at : tie.After-put_number2 → tie.After-put2
+abbrev comma-at : lts.After-put_number2 reads.Pre reads.Post → lts.After-put2 reads.Pre reads.Post
 comma-at c = c.before.before.before.before
 
-abbrev head_at : tie.After-put3 → tie.After-put_number2
+abbrev head_at : lts.After-put3 reads.Pre reads.Post → lts.After-put_number2 reads.Pre reads.Post
 head_at c = c.before.before.before.before.before
 
-abbrev last-at : tie.After-put_fraction → tie.After-put3
+abbrev last-at : lts.After-put_fraction reads.Pre reads.Post → lts.After-put3 reads.Pre reads.Post
 last-at c = c.before.before.before.before
 
 -- the two nodes take few digits
-short : (s : tie.Start) → length (decimal s.args.tail) + length (decimal s.args.head) ≤ 40
+short : (s : lts.Start reads.Pre reads.Post) → length (decimal s.args.tail) + length (decimal s.args.head) ≤ 40
 short s = omega (arith, decimal-short s.args.tail, decimal-short s.args.head)
 
 pub put_number-next-requires : goal.put_number-next-requires

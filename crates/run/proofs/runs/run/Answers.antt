@@ -16,7 +16,8 @@ use Rattle.run.proofs.Begun.{begin-noted, begin-running}
 use Rattle.run.proofs.Onward.{onward-less, onward-last, onward-running, onward-noted}
 use Rattle.run.proofs.Running.{left, Running}
 use Rattle.run.proofs.Same.{Same}
-use Rattle.run.proofs.runs.run.Tie as tie
+use Rattle.run.proofs.runs.run.Lts as lts
+use Rattle.run.proofs.runs.run.Reads as reads
 use Rattle.run.proofs.runs.run.Invariants.{net}
 use Rattle.run.proofs.runs.run.Goals as goal
 
@@ -43,7 +44,7 @@ loop-p-init c =
     )
 
 -- from the loop's beginning to the function's entry
-abbrev entry : tie.At-loop goal.the-invariant-loop-p goal.the-decreases-loop-p → tie.Start goal.the-invariant-loop-p goal.the-decreases-loop-p
+abbrev entry : lts.At-loop reads.Pre reads.Post goal.the-invariant-loop-p goal.the-decreases-loop-p → lts.Start reads.Pre reads.Post goal.the-invariant-loop-p goal.the-decreases-loop-p
 entry c = c.before.before.before.before.before.before.before.before
 
 pub iterate-p-requires : goal.iterate-p-requires
@@ -62,21 +63,21 @@ iterate-p-requires c =
     )
 
 -- behind an iteration: the loop's beginning, and the states before and after it
-abbrev turn : tie.After-iterate goal.the-invariant-loop-p goal.the-decreases-loop-p → tie.At-loop goal.the-invariant-loop-p goal.the-decreases-loop-p
+abbrev turn : lts.After-iterate reads.Pre reads.Post goal.the-invariant-loop-p goal.the-decreases-loop-p → lts.At-loop reads.Pre reads.Post goal.the-invariant-loop-p goal.the-decreases-loop-p
 turn c = c.before.before.before.before.before
 
-abbrev old : tie.After-iterate goal.the-invariant-loop-p goal.the-decreases-loop-p → State
+abbrev old : lts.After-iterate reads.Pre reads.Post goal.the-invariant-loop-p goal.the-decreases-loop-p → State
 old c = let l = (turn c).loop-p in state_in (entry (turn c)).args.s l.flow-1 l.tables-1 l.p
 
-abbrev new : tie.After-iterate goal.the-invariant-loop-p goal.the-decreases-loop-p → State
+abbrev new : lts.After-iterate reads.Pre reads.Post goal.the-invariant-loop-p goal.the-decreases-loop-p → State
 new c =
     let l = c.iterate-p.new.1.1.1.1.1 in
     state_in (entry (turn c)).args.s l.0 l.1.0 c.iterate-p.result
 
-iterated : (c : tie.After-iterate goal.the-invariant-loop-p goal.the-decreases-loop-p) → let s = entry (turn c) in Iterated (net s) s.args.q (old c) (new c) c.iterate-p.result
+iterated : (c : lts.After-iterate reads.Pre reads.Post goal.the-invariant-loop-p goal.the-decreases-loop-p) → let s = entry (turn c) in Iterated (net s) s.args.q (old c) (new c) c.iterate-p.result
 iterated c = c.iterate-p.ensures.iterated
 
-sizes : (c : tie.After-iterate goal.the-invariant-loop-p goal.the-decreases-loop-p) →
+sizes : (c : lts.After-iterate reads.Pre reads.Post goal.the-invariant-loop-p goal.the-decreases-loop-p) →
     let z = (entry (turn c)).args in
     let l = c.iterate-p.new.1.1.1.1.1 in
     Same z.flow-1.now z.tables-1.now z.memory-1.now z.path-1.now l.0 l.1.0 l.1.1.0 l.1.1.1.0
@@ -91,10 +92,10 @@ sizes c =
     }
 
 -- the iteration, seen from where the run goes on and from where it ends
-abbrev going-at : goal.Else-p → tie.After-iterate goal.the-invariant-loop-p goal.the-decreases-loop-p
+abbrev going-at : goal.Else-p → lts.After-iterate reads.Pre reads.Post goal.the-invariant-loop-p goal.the-decreases-loop-p
 going-at c = c.before.before.before.before.before.before.before.before
 
-abbrev ended_at : goal.Then-p → tie.After-iterate goal.the-invariant-loop-p goal.the-decreases-loop-p
+abbrev ended_at : goal.Then-p → lts.After-iterate reads.Pre reads.Post goal.the-invariant-loop-p goal.the-decreases-loop-p
 ended_at c = c.before.before.before.before.before.before.before.before
 
 pub loop-p-smaller : goal.loop-p-smaller

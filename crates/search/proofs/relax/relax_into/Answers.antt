@@ -14,24 +14,25 @@ use Rattle.paths.specs.Far.{far}
 use Rattle.paths.specs.Searching.{Passed, Spread}
 use Rattle.paths.proofs.NodeLengths.{through-is, node-small}
 use Rattle.paths.proofs.Turning.{spread_none, spread-more, spread-all}
-use Rattle.search.proofs.relax.relax_into.Tie as tie
+use Rattle.search.proofs.relax.relax_into.Lts as lts
+use Rattle.search.proofs.relax.relax_into.Reads as reads
 use Rattle.search.proofs.relax.relax_into.Goals as goal
 
 -- the function's entry, seen from behind the call of `through`; that, seen from a turn; and the turn, seen from behind the call of `reach`
-abbrev first : goal.After-through-x → tie.Start goal.the-invariant-loop-p goal.the-decreases-loop-p
+abbrev first : goal.After-through-x → lts.Start reads.Pre reads.Post goal.the-invariant-loop-p goal.the-decreases-loop-p
 first c = c.before.before.before.before.before.before
 
-abbrev through-at : tie.At-loop goal.the-invariant-loop-p goal.the-decreases-loop-p → goal.After-through-x
+abbrev through-at : lts.At-loop reads.Pre reads.Post goal.the-invariant-loop-p goal.the-decreases-loop-p → goal.After-through-x
 through-at c = c.before.before.before.before.before
 
-abbrev entry : tie.At-loop goal.the-invariant-loop-p goal.the-decreases-loop-p → tie.Start goal.the-invariant-loop-p goal.the-decreases-loop-p
+abbrev entry : lts.At-loop reads.Pre reads.Post goal.the-invariant-loop-p goal.the-decreases-loop-p → lts.Start reads.Pre reads.Post goal.the-invariant-loop-p goal.the-decreases-loop-p
 entry c = first (through-at c)
 
-abbrev turn : tie.After-reach goal.the-invariant-loop-p goal.the-decreases-loop-p → tie.In-loop goal.the-invariant-loop-p goal.the-decreases-loop-p
+abbrev turn : lts.After-reach reads.Pre reads.Post goal.the-invariant-loop-p goal.the-decreases-loop-p → lts.In-loop reads.Pre reads.Post goal.the-invariant-loop-p goal.the-decreases-loop-p
 turn c = c.before.before.before
 
 -- the index has an entry for the next node
-next : (s : tie.Start goal.the-invariant-loop-p goal.the-decreases-loop-p) → s.args.v + 1 < length s.args.into.now
+next : (s : lts.Start reads.Pre reads.Post goal.the-invariant-loop-p goal.the-decreases-loop-p) → s.args.v + 1 < length s.args.into.now
 next s = omega (arith, s.requires.index.arcs.numbers, s.requires.index.arcs.nodes, s.requires.node)
 
 pub through-x-requires : goal.through-x-requires
@@ -52,10 +53,10 @@ small c =
     let s = first c in
     omega (arith, own c, node-small (net_in s.args.s s.args.net.now) s.args.lengths.now s.requires.searching.fit.small s.args.v s.requires.node)
 
-entry-small : (s : tie.Start goal.the-invariant-loop-p goal.the-decreases-loop-p) → get_or s.args.dist.now s.args.v 0 ≤ far
+entry-small : (s : lts.Start reads.Pre reads.Post goal.the-invariant-loop-p goal.the-decreases-loop-p) → get_or s.args.dist.now s.args.v 0 ≤ far
 entry-small s = s.requires.searching.labels.capped s.args.v s.requires.node
 
-room : (s : tie.Start goal.the-invariant-loop-p goal.the-decreases-loop-p) → s.args.v < length s.args.dist.now
+room : (s : lts.Start reads.Pre reads.Post goal.the-invariant-loop-p goal.the-decreases-loop-p) → s.args.v < length s.args.dist.now
 room s = omega (arith, s.requires.node, s.requires.searching.fit.room)
 
 pub offset_bounds-into-v : goal.offset_bounds-into-v

@@ -10,11 +10,12 @@ use Rattle.network.specs.Verdict.{outside}
 use Rattle.network.proofs.First.{decides, passes, none_left}
 use Rattle.numbers.specs.Numbers.{items}
 use Rattle.site.specs.Site.{list_conditions}
-use Rattle.site.proofs.list.check_list.Tie as tie
+use Rattle.site.proofs.list.check_list.Lts as lts
+use Rattle.site.proofs.list.check_list.Reads as reads
 use Rattle.site.proofs.list.check_list.Goals as goal
 
 -- the tests, as the code and as the contract say them
-listed : (c : tie.After-outside) → c.outside.result ≡ outside 1 most_networks (items floor_numbers c.before.before.before.before.args.floors.now)
+listed : (c : lts.After-outside reads.Pre reads.Post) → c.outside.result ≡ outside 1 most_networks (items floor_numbers c.before.before.before.before.args.floors.now)
 listed c = c.outside.ensures ∙ ap (outside 1 most_networks) c.before.items-k.ensures
 
 needed : (c : goal.After-count) → 8 * c.before.before.before.items-k.result ≡ 8 * items floor_numbers c.before.before.before.before.before.before.args.floors.now

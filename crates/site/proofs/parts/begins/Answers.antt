@@ -10,7 +10,8 @@ use Rattle.numbers.specs.Numbers.{count}
 use Rattle.numbers.proofs.Columns.{member_below}
 use Rattle.site.specs.Parts.{begins}
 use Rattle.site.proofs.Begins.{begins-most, begins-more}
-use Rattle.site.proofs.parts.begins.Tie as tie
+use Rattle.site.proofs.parts.begins.Lts as lts
+use Rattle.site.proofs.parts.begins.Reads as reads
 use Rattle.site.proofs.parts.begins.Goals as goal
 
 pub loop-f-init : goal.loop-f-init
@@ -19,7 +20,7 @@ loop-f-init c = (omega arith, refl)
 
 -- floor f's size is in the list
 module _ (c : goal.In-loop-f) where
-  abbrev first : tie.Start goal.the-invariant-loop-f goal.the-decreases-loop-f
+  abbrev first : lts.Start reads.Pre reads.Post goal.the-invariant-loop-f goal.the-decreases-loop-f
   first = c.before.before.before
 
   place : floor_numbers * c.before.loop-f.f + first.args.j < count first.args.floors.now

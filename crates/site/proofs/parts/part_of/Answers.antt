@@ -9,10 +9,11 @@ use Rattle.numbers.proofs.Columns.{member_below}
 use Rattle.site.specs.Parts.{begins, numbers_in}
 use Rattle.site.specs.declared.parts.Span.{Span}
 use Rattle.site.proofs.Begins.{begins-most}
-use Rattle.site.proofs.parts.part_of.Tie as tie
+use Rattle.site.proofs.parts.part_of.Lts as lts
+use Rattle.site.proofs.parts.part_of.Reads as reads
 use Rattle.site.proofs.parts.part_of.Goals as goal
 
-abbrev entry : goal.After-count-room → tie.Start
+abbrev entry : goal.After-count-room → lts.Start reads.Pre reads.Post
 entry c = c.before.before.before
 
 -- the part's size is in the list

@@ -2,10 +2,11 @@
 use borrow.Author.Rules.{rules}
 use mathlib.Core.Path.{refl}
 use native.Mathlib.Omega.{arith}
-use Rattle.solver.proofs.outcomes.answer.Tie as tie
+use Rattle.solver.proofs.outcomes.answer.Lts as lts
+use Rattle.solver.proofs.outcomes.answer.Reads as reads
 use Rattle.solver.proofs.outcomes.answer.Goals as goal
 
-abbrev entry : goal.After-fullest-b → tie.Start
+abbrev entry : goal.After-fullest-b → lts.Start reads.Pre reads.Post
 entry c = c.before.before.before.before
 
 pub fullest-b-requires : goal.fullest-b-requires

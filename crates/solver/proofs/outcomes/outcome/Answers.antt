@@ -21,14 +21,15 @@ use Rattle.run.proofs.Chosen.{choosing}
 use Rattle.tables.specs.Calls.{Ranking}
 use Rattle.solver.specs.Solved.{answer_of}
 use Rattle.solver.proofs.Solving.{solved-none, solved-some, ranking}
-use Rattle.solver.proofs.outcomes.outcome.Tie as tie
+use Rattle.solver.proofs.outcomes.outcome.Lts as lts
+use Rattle.solver.proofs.outcomes.outcome.Reads as reads
 use Rattle.solver.proofs.outcomes.outcome.Goals as goal
 
 -- the network at entry; the lengths are those of the definition's start
-abbrev net : tie.Start → Network
+abbrev net : lts.Start reads.Pre reads.Post → Network
 net s = net_in s.args.s s.args.net.now
 
-first : (s : tie.Start) → lengths_in s.args.s s.args.tables.now ≡ (initial (net s)).lengths
+first : (s : lts.Start reads.Pre reads.Post) → lengths_in s.args.s s.args.tables.now ≡ (initial (net s)).lengths
 first s = ap (λ t. t.lengths) s.requires.cleared.state
 
 pub choose-first-requires : goal.choose-first-requires
@@ -37,10 +38,10 @@ choose-first-requires c =
     choosing s.requires.room (initial (net s)) (reached-start (net s) s.args.q s.requires.room.lent.sound) (first s) s.requires.cleared.memory-of
 
 -- the function's entry, seen from behind the search; what the search says of the network's choice by these lengths
-abbrev entry : tie.After-choose → tie.Start
+abbrev entry : lts.After-choose reads.Pre reads.Post → lts.Start reads.Pre reads.Post
 entry c = c.before.before.before.before.before.before.before.before.before.before
 
-chose : (c : tie.After-choose) → Chose (net (entry c)) (initial (net (entry c))).lengths c.choose-first.result c.choose-first.new.1.1.1.1.1.0
+chose : (c : lts.After-choose reads.Pre reads.Post) → Chose (net (entry c)) (initial (net (entry c))).lengths c.choose-first.result c.choose-first.new.1.1.1.1.1.0
 chose c = rw (← (first (entry c))) c.choose-first.ensures.chose
 
 pub returns-then-first-ge-FAR_LENGTH : goal.returns-then-first-ge-FAR_LENGTH
@@ -56,13 +57,13 @@ returns-then-first-ge-FAR_LENGTH c =
     (ap (λ t. t.best_lengths) start))
 
 -- something is chosen by the first lengths, so by any
-abbrev search-at : tie.Else1 → tie.After-choose
+abbrev search-at : lts.Else1 reads.Pre reads.Post → lts.After-choose reads.Pre reads.Post
 search-at c = c.before.before.before.before.before.before
 
-picked : (c : tie.Else1) → let f = search-at c in Picked (net (entry f)) (initial (net (entry f))).lengths f.choose-first.result f.choose-first.last.1.1.1.1.1.0
+picked : (c : lts.Else1 reads.Pre reads.Post) → let f = search-at c in Picked (net (entry f)) (initial (net (entry f))).lengths f.choose-first.result f.choose-first.last.1.1.1.1.1.0
 picked c = (chose (search-at c)).something c.if-first-ge-FAR_LENGTH.false
 
-chooses : (c : tie.Else1) → Chooses (net (entry (search-at c)))
+chooses : (c : lts.Else1 reads.Pre reads.Post) → Chooses (net (entry (search-at c)))
 chooses c = let s = entry (search-at c) in always (net s) (initial (net s)).lengths _ (picked c).chosen
 
 pub run-p-requires : goal.run-p-requires
@@ -75,27 +76,27 @@ run-p-requires c =
     )
 
 -- behind the run: the entry, and the tables of the arcs
-abbrev choice-at : tie.After-run → tie.Else1
+abbrev choice-at : lts.After-run reads.Pre reads.Post → lts.Else1 reads.Pre reads.Post
 choice-at c = c.before.before.before.before.before
 
-abbrev start_of : tie.After-run → tie.Start
+abbrev start_of : lts.After-run reads.Pre reads.Post → lts.Start reads.Pre reads.Post
 start_of c = entry (search-at (choice-at c))
 
-abbrev tables : tie.After-run → List ℕ
+abbrev tables : lts.After-run reads.Pre reads.Post → List ℕ
 tables c = c.run-p.new.1.1.1.1.1.0
 
-room : (c : tie.After-run) → table_numbers ≤ length (tables c)
+room : (c : lts.After-run reads.Pre reads.Post) → table_numbers ≤ length (tables c)
 room c = omega (arith, c.run-p.auto.1.1.1.1.1.0, (start_of c).requires.room.tables)
 
-few : (c : tie.After-run) → (start_of c).args.s.resources ≤ most_arcs
+few : (c : lts.After-run reads.Pre reads.Post) → (start_of c).args.s.resources ≤ most_arcs
 few c = let a = (start_of c).requires.room.lent in omega (arith, a.counted, a.sound.counts.of-resources)
 
-loaded : (c : tie.After-run) → length (loads_in (start_of c).args.s (tables c)) ≡ resources (net (start_of c))
+loaded : (c : lts.After-run reads.Pre reads.Post) → length (loads_in (start_of c).args.s (tables c)) ≡ resources (net (start_of c))
 loaded c =
     part_length loads_from (start_of c).args.s.resources (tables c) (omega (arith, few c, room c)) ∙ (start_of c).requires.room.lent.counted
 
 -- The part of the slice of indexes that is lent has the capacities of the resources.
-caps-are : (c : tie.After-run) → let s = start_of c in part resource_capacities_from s.args.s.resources s.args.indexes.now ≡ resource_capacities (net s)
+caps-are : (c : lts.After-run reads.Pre reads.Post) → let s = start_of c in part resource_capacities_from s.args.s.resources s.args.indexes.now ≡ resource_capacities (net s)
 caps-are c = let s = start_of c in ap (λ n. part resource_capacities_from n s.args.indexes.now) s.requires.room.lent.counted ∙ s.requires.room.indexed.capacities
 
 -- The end of that part is within the slice.
@@ -117,7 +118,7 @@ answer-requires c =
           (ranking (net s) s.args.q s.requires.room.lent.sound (chooses (choice-at f)) (loads_in s.args.s (tables f)) (ap (λ t. t.loads) f.run-p.ensures) (loaded f));
     }
 
-abbrev run_at : goal.After-answer → tie.After-run
+abbrev run_at : goal.After-answer → lts.After-run reads.Pre reads.Post
 run_at c = c.before.before.before.before.before.before.before.before.before.before
 
 pub returns : goal.returns

@@ -15,32 +15,33 @@ use Rattle.lengths.specs.Calls.{Startable}
 use Rattle.step.specs.Progress.{state_of, begun}
 use Rattle.step.proofs.Tabled.{Tabled, tabled, part-size, with-lengths, with-loads, with-kept, in-slice}
 use Rattle.solver.proofs.Solving.{initial-is, weight_is}
-use Rattle.solver.proofs.start.prepare.Tie as tie
+use Rattle.solver.proofs.start.prepare.Lts as lts
+use Rattle.solver.proofs.start.prepare.Reads as reads
 use Rattle.solver.proofs.start.prepare.Goals as goal
 
 -- from each call back to the one before it, and from the first to the function's entry
-abbrev entry : tie.After-start → tie.Start
+abbrev entry : lts.After-start reads.Pre reads.Post → lts.Start reads.Pre reads.Post
 entry c = c.before.before.before.before.before.before
 
-abbrev start-at : tie.After-clear → tie.After-start
+abbrev start-at : lts.After-clear reads.Pre reads.Post → lts.After-start reads.Pre reads.Post
 start-at c = c.before.before.before.before
 
-abbrev loads-at : tie.After-clear2 → tie.After-clear
+abbrev loads-at : lts.After-clear2 reads.Pre reads.Post → lts.After-clear reads.Pre reads.Post
 loads-at c = c.before.before.before.before
 
-abbrev kept_at : tie.After-clear_flow → tie.After-clear2
+abbrev kept_at : lts.After-clear_flow reads.Pre reads.Post → lts.After-clear2 reads.Pre reads.Post
 kept_at c = c.before.before.before.before
 
-abbrev flow-at : tie.After-begin → tie.After-clear_flow
+abbrev flow-at : lts.After-begin reads.Pre reads.Post → lts.After-clear_flow reads.Pre reads.Post
 flow-at c = c.before.before.before
 
-abbrev begin-at : tie.After-forget → tie.After-begin
+abbrev begin-at : lts.After-forget reads.Pre reads.Post → lts.After-begin reads.Pre reads.Post
 begin-at c = c.before.before.before.before
 
-abbrev m : tie.Start → ℕ
+abbrev m : lts.Start reads.Pre reads.Post → ℕ
 m s = s.args.s.resources
 
-few : (s : tie.Start) → m s ≤ most_arcs
+few : (s : lts.Start reads.Pre reads.Post) → m s ≤ most_arcs
 few s = let a = s.requires.lent in omega (arith, a.counted, a.sound.counts.of-resources)
 
 pub start-weight-requires : goal.start-weight-requires
@@ -60,17 +61,17 @@ start-weight-requires c =
     })
 
 -- the tables of the resources after each call that changes them
-started : (c : tie.After-start) → let s = entry c in let T = s.args.tables.now in
+started : (c : lts.After-start reads.Pre reads.Post) → let s = entry c in let T = s.args.tables.now in
     Tabled (m s) (put lengths_from (m s) T c.start-weight.new.1.0) c.start-weight.new.1.0 (part loads_from (m s) T) (part kept_from (m s) T)
 started c =
     let s = entry c in
     with-lengths (tabled (m s) s.args.tables.now (few s) s.requires.tabled) c.start-weight.new.1.0 c.start-weight.auto.1.0
 
-unloaded : (c : tie.After-clear) → let f = start-at c in let s = entry f in let T = s.args.tables.now in
+unloaded : (c : lts.After-clear reads.Pre reads.Post) → let f = start-at c in let s = entry f in let T = s.args.tables.now in
     Tabled (m s) (put loads_from (m s) (put lengths_from (m s) T f.start-weight.last.1.0) c.clear.new.0) f.start-weight.last.1.0 c.clear.new.0 (part kept_from (m s) T)
 unloaded c = with-loads (started (start-at c)) c.clear.new.0 c.clear.auto.0
 
-cleared : (c : tie.After-clear2) → let g = loads-at c in let f = start-at g in let s = entry f in let T = s.args.tables.now in
+cleared : (c : lts.After-clear2 reads.Pre reads.Post) → let g = loads-at c in let f = start-at g in let s = entry f in let T = s.args.tables.now in
     Tabled (m s) (put kept_from (m s) (put loads_from (m s) (put lengths_from (m s) T f.start-weight.last.1.0) g.clear.last.0) c.clear-2.new.0) f.start-weight.last.1.0
     g.clear.last.0 c.clear-2.new.0
 cleared c = with-kept (unloaded (loads-at c)) c.clear-2.new.0 c.clear-2.auto.0

@@ -5,20 +5,21 @@ use native.Mathlib.Omega.{arith}
 use Rattle.network.proofs.Sounds.{sound-ends}
 use Rattle.packed.specs.Packed.{part, net_in}
 use Rattle.choice.specs.Calls.{resource_capacities_from}
-use Rattle.solver.proofs.start.solve_in.Tie as tie
+use Rattle.solver.proofs.start.solve_in.Lts as lts
+use Rattle.solver.proofs.start.solve_in.Reads as reads
 use Rattle.solver.proofs.start.solve_in.Goals as goal
 
 -- from each call back to the one before it, from the first to the function's entry, and from the end of the function to the last
-abbrev entry : tie.After-index_all → tie.Start
+abbrev entry : lts.After-index_all reads.Pre reads.Post → lts.Start reads.Pre reads.Post
 entry c = c.before.before.before.before.before.before.before
 
-abbrev index_at : tie.After-prepare → tie.After-index_all
+abbrev index_at : lts.After-prepare reads.Pre reads.Post → lts.After-index_all reads.Pre reads.Post
 index_at c = c.before.before.before.before.before.before.before.before
 
-abbrev prepare-at : tie.After-outcome → tie.After-prepare
+abbrev prepare-at : lts.After-outcome reads.Pre reads.Post → lts.After-prepare reads.Pre reads.Post
 prepare-at c = c.before.before.before.before.before.before.before.before.before.before.before
 
-abbrev outcome-at : goal.After-slice_known-10-1 → tie.After-outcome
+abbrev outcome-at : goal.After-slice_known-10-1 → lts.After-outcome reads.Pre reads.Post
 outcome-at c = c.before.before.before.before.before.before.before
 
 pub index_all-requires : goal.index_all-requires

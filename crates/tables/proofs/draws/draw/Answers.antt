@@ -5,11 +5,12 @@ use Prim.Native.Nat.{◌-◌, ◌<◌}
 use native.Mathlib.Omega.{arith}
 use lib.ListN.{length, get_or}
 use Rattle.tables.proofs.Lowered.{Lowered, lower-first, lower-more, lower-all}
-use Rattle.tables.proofs.draws.draw.Tie as tie
+use Rattle.tables.proofs.draws.draw.Lts as lts
+use Rattle.tables.proofs.draws.draw.Reads as reads
 use Rattle.tables.proofs.draws.draw.Invariants.{first}
 use Rattle.tables.proofs.draws.draw.Goals as goal
 
-abbrev entry : goal.In-loop-j → tie.Start goal.the-invariant-loop-j goal.the-decreases-loop-j
+abbrev entry : goal.In-loop-j → lts.Start reads.Pre reads.Post goal.the-invariant-loop-j goal.the-decreases-loop-j
 entry c = c.before.before.before.before
 
 place : (c : goal.In-loop-j) → get_or (entry c).args.path.now c.before.loop-j.j 0 < length (entry c).args.capacities.now

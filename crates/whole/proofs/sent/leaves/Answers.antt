@@ -9,11 +9,12 @@ use Rattle.arith.specs.Sum.{sum}
 use Rattle.numbers.specs.Numbers.{count, items}
 use Rattle.numbers.proofs.Columns.{member_below}
 use Rattle.whole.proofs.Leaves.{over, leaves-sum, one_more, sum-next}
-use Rattle.whole.proofs.sent.leaves.Tie as tie
+use Rattle.whole.proofs.sent.leaves.Lts as lts
+use Rattle.whole.proofs.sent.leaves.Reads as reads
 use Rattle.whole.proofs.sent.leaves.Goals as goal
 
 -- from the loop to the function's entry
-abbrev entry : tie.At-loop goal.the-invariant-loop-e goal.the-decreases-loop-e → tie.Start goal.the-invariant-loop-e goal.the-decreases-loop-e
+abbrev entry : lts.At-loop reads.Pre reads.Post goal.the-invariant-loop-e goal.the-decreases-loop-e → lts.Start reads.Pre reads.Post goal.the-invariant-loop-e goal.the-decreases-loop-e
 entry c = c.before.before.before.before
 
 pub loop-e-init : goal.loop-e-init
