@@ -12,12 +12,14 @@ use Rattle.packed.proofs.Columns.{arcs-is, capacities-length}
 use Rattle.index.proofs.Gathering.{Gathering, gathering-none, gathering-on, gathering-place, gathering-more, gathering-all}
 use Rattle.index.proofs.append_limits.Lts as lts
 use Rattle.index.proofs.append_limits.Reads as reads
-use Rattle.index.proofs.append_limits.Invariants.{net}
 use Rattle.index.proofs.append_limits.Goals as goal
 
 -- the function's entry, seen from a turn
 abbrev entry : lts.At-loop reads.Pre reads.Post goal.the-invariant-loop-v goal.the-decreases-loop-v → lts.Start reads.Pre reads.Post goal.the-invariant-loop-v goal.the-decreases-loop-v
 entry c = c.before.before.before.before
+
+abbrev net : lts.Start reads.Pre reads.Post goal.the-invariant-loop-v goal.the-decreases-loop-v → Network
+net s = net_in s.args.s s.args.net.now
 
 -- the present node is one of the network's
 node : (c : goal.In-loop-v) → c.before.loop-v.v ≤ (net (entry c.before)).nodes

@@ -17,6 +17,3 @@ invariant-loop-v l = Gathering (net_in l.s l.net) l.table l.end l.v
 
 abbrev pub decreases-loop-v : goal.decreases-loop-v
 decreases-loop-v l = l.s.nodes + 1 - l.v
-
-abbrev pub net : tie.Start%%TIE invariant-loop decreases-loop → Network
-net s = net_in s.args.s s.args.net.now

@@ -14,12 +14,14 @@ use Rattle.index.proofs.Limits.{place-most}
 use Rattle.index.proofs.Locating.{Locating, locating-none, locating-none-limited, locating-limited, locating-all}
 use Rattle.index.proofs.place_nodes.Lts as lts
 use Rattle.index.proofs.place_nodes.Reads as reads
-use Rattle.index.proofs.place_nodes.Invariants.{net}
 use Rattle.index.proofs.place_nodes.Goals as goal
 
 -- the function's entry, seen from a turn
 abbrev entry : lts.At-loop reads.Pre reads.Post goal.the-invariant-loop-v goal.the-decreases-loop-v → lts.Start reads.Pre reads.Post goal.the-invariant-loop-v goal.the-decreases-loop-v
 entry c = c.before.before.before.before
+
+abbrev net : lts.Start reads.Pre reads.Post goal.the-invariant-loop-v goal.the-decreases-loop-v → Network
+net s = net_in s.args.s s.args.net.now
 
 -- the present node is one of the network's, and has a place
 node : (c : goal.In-loop-v) → c.before.loop-v.v ≤ (net (entry c.before)).nodes

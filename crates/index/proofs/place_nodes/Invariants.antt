@@ -19,6 +19,3 @@ invariant-loop-v l = Locating (net_in l.s l.net) l.initial.ix l.ix l.next l.v
 
 abbrev pub decreases-loop-v : goal.decreases-loop-v
 decreases-loop-v l = l.s.nodes + 1 - l.v
-
-abbrev pub net : tie.Start%%TIE invariant-loop decreases-loop → Network
-net s = net_in s.args.s s.args.net.now

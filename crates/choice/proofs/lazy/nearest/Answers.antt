@@ -17,7 +17,6 @@ use Rattle.choice.proofs.Slack.{slack}
 use Rattle.choice.proofs.Turns.{turn-falls, turn-noted}
 use Rattle.choice.proofs.lazy.nearest.Lts as lts
 use Rattle.choice.proofs.lazy.nearest.Reads as reads
-use Rattle.choice.proofs.lazy.nearest.Invariants.{net}
 use Rattle.choice.proofs.lazy.nearest.Goals as goal
 
 -- the function's entry, seen from a turn; from each call back to the one before it; and the network
@@ -32,6 +31,9 @@ looked-at c = c.before.before.before.before.before
 
 abbrev begun : lts.After-look reads.Pre reads.Post goal.the-invariant-loop-s goal.the-decreases-loop-s → lts.Start reads.Pre reads.Post goal.the-invariant-loop-s goal.the-decreases-loop-s
 begun c = entry (turn c)
+
+abbrev net : lts.Start reads.Pre reads.Post goal.the-invariant-loop-s goal.the-decreases-loop-s → Network
+net s = net_in s.args.s s.args.net.now
 
 -- the memory behind the search, and the path behind the walk
 abbrev memory-at : lts.After-look reads.Pre reads.Post goal.the-invariant-loop-s goal.the-decreases-loop-s → List ℕ

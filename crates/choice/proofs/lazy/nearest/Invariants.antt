@@ -22,6 +22,3 @@ invariant-loop-s l = Known l.s (net_in l.s l.net) l.lengths l.memory l.i × ((le
 
 abbrev pub decreases-loop-s : goal.decreases-loop-s
 decreases-loop-s l = slack (commodities (net_in l.s l.net)) (bounds_in l.s l.memory)
-
-abbrev pub net : tie.Start%%TIE invariant-loop decreases-loop → Network
-net s = net_in s.args.s s.args.net.now

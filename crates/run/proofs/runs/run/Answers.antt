@@ -18,8 +18,11 @@ use Rattle.run.proofs.Running.{left, Running}
 use Rattle.run.proofs.Same.{Same}
 use Rattle.run.proofs.runs.run.Lts as lts
 use Rattle.run.proofs.runs.run.Reads as reads
-use Rattle.run.proofs.runs.run.Invariants.{net}
 use Rattle.run.proofs.runs.run.Goals as goal
+
+-- the network at entry
+abbrev net : lts.Start reads.Pre reads.Post goal.the-invariant-loop-p goal.the-decreases-loop-p → Network
+net s = net_in s.args.s s.args.net.now
 
 -- The table of L has a row for this many resources. It has one for this many arcs too, so that a
 -- mark by the arcs fails not here but where it has to be the method's mark.

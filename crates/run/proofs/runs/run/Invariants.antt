@@ -26,7 +26,3 @@ invariant-loop-p l =
 
 abbrev pub decreases-loop-p : goal.decreases-loop-p
 decreases-loop-p l = left (net_in l.s l.net) l.q (state_in l.s l.flow l.tables l.p)
-
--- the network at entry
-abbrev pub net : tie.Start%%TIE invariant-loop decreases-loop → Network
-net s = net_in s.args.s s.args.net.now

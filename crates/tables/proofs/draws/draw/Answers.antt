@@ -7,8 +7,11 @@ use lib.ListN.{length, get_or}
 use Rattle.tables.proofs.Lowered.{Lowered, lower-first, lower-more, lower-all}
 use Rattle.tables.proofs.draws.draw.Lts as lts
 use Rattle.tables.proofs.draws.draw.Reads as reads
-use Rattle.tables.proofs.draws.draw.Invariants.{first}
 use Rattle.tables.proofs.draws.draw.Goals as goal
+
+-- the arc at the first place and that at the present one are among the arcs
+first : (c : lts.Start reads.Pre reads.Post goal.the-invariant-loop-j goal.the-decreases-loop-j) → get_or c.args.path.now 0 0 < length c.args.capacities.now
+first c = c.requires.1 0 c.requires.0
 
 abbrev entry : goal.In-loop-j → lts.Start reads.Pre reads.Post goal.the-invariant-loop-j goal.the-decreases-loop-j
 entry c = c.before.before.before.before

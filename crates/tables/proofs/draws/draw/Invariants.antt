@@ -12,7 +12,3 @@ invariant-loop-j l = Lowered l.capacities l.path l.j l.g
 
 abbrev pub decreases-loop-j : goal.decreases-loop-j
 decreases-loop-j l = length l.path - l.j
-
--- the arc at the first place and that at the present one are among the arcs
-pub first : (c : tie.Start%%TIE invariant-loop decreases-loop) → get_or c.args.path.now 0 0 < length c.args.capacities.now
-first c = c.requires.1 0 c.requires.0
