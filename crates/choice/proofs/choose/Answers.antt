@@ -11,48 +11,47 @@ use Rattle.packed.specs.Packed.{net_in, sources_from}
 use Rattle.packed.proofs.Columns.{part_at, commodities-is}
 use Rattle.memory.specs.Memory.{bounds_in, least_in, memory_numbers}
 use Rattle.choice.proofs.Selects.{selects-nothing, selects-closest, selects-path, selects_walk}
-use Rattle.choice.proofs.choose.Lts as lts
-use Rattle.choice.proofs.choose.Reads as reads
 use Rattle.choice.proofs.choose.Goals as goal
+use Rattle.choice.proofs.choose.Goals.{After-nearest-arcs, After-slice_known-5-1, After-visit-used, Else-alpha-ge-FAR_LENGTH, Start}
 
 -- the search for the nearest commodity, seen from behind the reading of its bound, and from behind the visits; and the function's entry
-abbrev search-at : goal.After-slice_known-5-1 → lts.After-nearest reads.Pre reads.Post
+abbrev search-at : After-slice_known-5-1 → After-nearest-arcs
 search-at c = c.before.before.before.before.before
 
-abbrev test_at : lts.After-visit reads.Pre reads.Post → goal.Else-alpha-ge-FAR_LENGTH
+abbrev test_at : After-visit-used → Else-alpha-ge-FAR_LENGTH
 test_at c = c.before.before.before.before
 
-abbrev tested : goal.Else-alpha-ge-FAR_LENGTH → lts.After-nearest reads.Pre reads.Post
+abbrev tested : Else-alpha-ge-FAR_LENGTH → After-nearest-arcs
 tested c = search-at c.before.before
 
-abbrev entry : lts.After-nearest reads.Pre reads.Post → lts.Start reads.Pre reads.Post
+abbrev entry : After-nearest-arcs → Start
 entry c = c.before.before.before.before.before.before.before.before
 
-abbrev net : lts.Start reads.Pre reads.Post → Network
+abbrev net : Start → Network
 net s = net_in s.args.s s.args.net.now
 
 -- the memory and the path behind the search
-abbrev memory-at : lts.After-nearest reads.Pre reads.Post → List ℕ
+abbrev memory-at : After-nearest-arcs → List ℕ
 memory-at c = c.nearest-arcs.new.1.1.1.1.0
 
-abbrev path-at : lts.After-nearest reads.Pre reads.Post → List ℕ
+abbrev path-at : After-nearest-arcs → List ℕ
 path-at c = c.nearest-arcs.new.1.1.1.1.1.0
 
 -- the nearest is one of the commodities, and has a bound in the memory
-among : (c : lts.After-nearest reads.Pre reads.Post) → least_in (memory-at c) < (entry c).args.s.commodities
+among : (c : After-nearest-arcs) → least_in (memory-at c) < (entry c).args.s.commodities
 among c = omega (arith, c.nearest-arcs.ensures.memory-of.least.among, commodities-is (entry c).requires.packed)
 
-few : (c : lts.After-nearest reads.Pre reads.Post) → least_in (memory-at c) < most_commodities
+few : (c : After-nearest-arcs) → least_in (memory-at c) < most_commodities
 few c = omega (arith, among c, (entry c).requires.packed.few-commodities)
 
-places : (c : lts.After-nearest reads.Pre reads.Post) → memory_numbers ≤ length (memory-at c)
+places : (c : After-nearest-arcs) → memory_numbers ≤ length (memory-at c)
 places c = c.nearest-arcs.ensures.memory-of.places
 
-own : (c : lts.After-nearest reads.Pre reads.Post) → let i = least_in (memory-at c) in get_or (memory-at c) (0 + i) 0 ≡ get_or (bounds_in (entry c).args.s (memory-at c)) i 0
+own : (c : After-nearest-arcs) → let i = least_in (memory-at c) in get_or (memory-at c) (0 + i) 0 ≡ get_or (bounds_in (entry c).args.s (memory-at c)) i 0
 own c = sym (part_at 0 (entry c).args.s.commodities (memory-at c) (least_in (memory-at c)) (among c))
 
 -- its source, as it is read
-from : (c : lts.After-nearest reads.Pre reads.Post) → let i = least_in (memory-at c) in get_or (entry c).args.net.now (sources_from + i) 0 ≡ source (net (entry c)) i
+from : (c : After-nearest-arcs) → let i = least_in (memory-at c) in get_or (entry c).args.net.now (sources_from + i) 0 ≡ source (net (entry c)) i
 unfolding net_in
 from c = sym (part_at sources_from (entry c).args.s.commodities (entry c).args.net.now (least_in (memory-at c)) (among c))
 

@@ -12,6 +12,7 @@ use Rattle.network.proofs.Given.{given-most, given-zero, given-one}
 use Rattle.numbers.specs.Numbers.{number_at, column}
 use Rattle.numbers.proofs.Columns.{get_or-column}
 use Rattle.decode.proofs.count_given.Goals as goal
+use Rattle.decode.proofs.count_given.Goals.{Joined-read-ne0}
 
 pub loop-i-init : goal.loop-i-init
 unfolding given
@@ -23,7 +24,7 @@ overflow_add-r c =
     omega (arith, turn.loop-i.invariant.1, given-most (column turn.before.before.args.limits.now 1 0 turn.before.before.args.c) turn.loop-i.i)
 
 -- the number read is the one to count
-present : (c : goal.Joined-read-ne0) →
+present : (c : Joined-read-ne0) →
     let turn = c.before.before.before in
     get_or (column turn.before.before.args.limits.now 1 0 turn.before.before.args.c) turn.loop-i.i 0 ≡ c.before.read.result
 present c =

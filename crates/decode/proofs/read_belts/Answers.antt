@@ -1,21 +1,20 @@
 -- `decode::read_belts` meets its contract: each column is read to its place, and later ones leave it there. Assumes nothing.
 use borrow.Author.Rules.{rules}
 use Rattle.decode.proofs.Decoded.{fills, belts-read}
-use Rattle.decode.proofs.read_belts.Lts as lts
-use Rattle.decode.proofs.read_belts.Reads as reads
 use Rattle.decode.proofs.read_belts.Goals as goal
+use Rattle.decode.proofs.read_belts.Goals.{After-read_column, After-read_column-2, After-read_column-3, After-read_column-4, Start}
 
 -- from each column back to the one before it, and from the first to the function's entry
-abbrev entry : lts.After-read_column reads.Pre reads.Post → lts.Start reads.Pre reads.Post
+abbrev entry : After-read_column → Start
 entry c = c.before.before.before.before
 
-abbrev tails-at : lts.After-read_column2 reads.Pre reads.Post → lts.After-read_column reads.Pre reads.Post
+abbrev tails-at : After-read_column-2 → After-read_column
 tails-at c = c.before.before.before.before
 
-abbrev heads-at : lts.After-read_column3 reads.Pre reads.Post → lts.After-read_column2 reads.Pre reads.Post
+abbrev heads-at : After-read_column-3 → After-read_column-2
 heads-at c = c.before.before.before.before
 
-abbrev capacities-at : lts.After-read_column4 reads.Pre reads.Post → lts.After-read_column3 reads.Pre reads.Post
+abbrev capacities-at : After-read_column-4 → After-read_column-3
 capacities-at c = c.before.before.before.before
 
 pub returns : goal.returns

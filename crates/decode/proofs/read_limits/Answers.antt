@@ -1,11 +1,10 @@
 -- `decode::read_limits` meets its contract: the column is read to its place. Assumes nothing.
 use borrow.Author.Rules.{rules}
 use Rattle.decode.proofs.Decoded.{fills, limits-read}
-use Rattle.decode.proofs.read_limits.Lts as lts
-use Rattle.decode.proofs.read_limits.Reads as reads
 use Rattle.decode.proofs.read_limits.Goals as goal
+use Rattle.decode.proofs.read_limits.Goals.{After-read_column, Start}
 
-abbrev entry : lts.After-read_column reads.Pre reads.Post → lts.Start reads.Pre reads.Post
+abbrev entry : After-read_column → Start
 entry c = c.before.before.before.before
 
 pub returns : goal.returns

@@ -1,15 +1,14 @@
 -- `decode::read_pairs` meets its contract: each column is read to its place, and the second leaves the first there. Assumes nothing.
 use borrow.Author.Rules.{rules}
 use Rattle.decode.proofs.Decoded.{fills, pairs-read}
-use Rattle.decode.proofs.read_pairs.Lts as lts
-use Rattle.decode.proofs.read_pairs.Reads as reads
 use Rattle.decode.proofs.read_pairs.Goals as goal
+use Rattle.decode.proofs.read_pairs.Goals.{After-read_column, After-read_column-2, Start}
 
 -- from each column back to the one before it, and from the first to the function's entry
-abbrev entry : lts.After-read_column reads.Pre reads.Post → lts.Start reads.Pre reads.Post
+abbrev entry : After-read_column → Start
 entry c = c.before.before.before.before
 
-abbrev sources-at : lts.After-read_column2 reads.Pre reads.Post → lts.After-read_column reads.Pre reads.Post
+abbrev sources-at : After-read_column-2 → After-read_column
 sources-at c = c.before.before.before.before
 
 pub returns : goal.returns

@@ -7,14 +7,13 @@ use borrow.Author.Rules.{rules}
 use Rattle.network.proofs.Given.{given-most}
 use Rattle.numbers.specs.Numbers.{count, items, column}
 use Rattle.decode.proofs.Shapes.{counts}
-use Rattle.decode.proofs.shape.Lts as lts
-use Rattle.decode.proofs.shape.Reads as reads
 use Rattle.decode.proofs.shape.Goals as goal
+use Rattle.decode.proofs.shape.Goals.{Joined-n-all, Start}
 
-abbrev entry : goal.Joined-n-all → lts.Start reads.Pre reads.Post
+abbrev entry : Joined-n-all → Start
 entry c = c.before.before.before.before.before.before.before
 
-read : (c : goal.Joined-n-all) → c.if-n-all.c ≡ min (entry c).args.n (count (entry c).args.limits.now)
+read : (c : Joined-n-all) → c.if-n-all.c ≡ min (entry c).args.n (count (entry c).args.limits.now)
 read c =
     let all = c.before.count-all.ensures in
     ⊎_elim (λ w. omega (arith, all, w.0.taken, w.1)) (λ w. omega (arith, all, w.0.left, w.1)) c.if-n-all.branch

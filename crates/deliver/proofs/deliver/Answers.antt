@@ -7,18 +7,17 @@ use Rattle.method.specs.Answer.{numbers_of}
 use Rattle.call.specs.Host.{raised}
 use Rattle.call.proofs.Counting.{count_small}
 use Rattle.call.proofs.Equal.{same-slices}
-use Rattle.deliver.proofs.deliver.Lts as lts
-use Rattle.deliver.proofs.deliver.Reads as reads
 use Rattle.deliver.proofs.deliver.Goals as goal
+use Rattle.deliver.proofs.deliver.Goals.{After-put_answer, After-raise_count, After-write_tables-a, Start}
 
 -- from each call back to the one before it, and from the first to the function's entry
-abbrev entry : lts.After-write_tables reads.Pre reads.Post → lts.Start reads.Pre reads.Post
+abbrev entry : After-write_tables-a → Start
 entry c = c.before.before.before.before.before.before.before.before
 
-abbrev tables-at : lts.After-put_answer reads.Pre reads.Post → lts.After-write_tables reads.Pre reads.Post
+abbrev tables-at : After-put_answer → After-write_tables-a
 tables-at c = c.before.before.before.before.before.before
 
-abbrev answer_at : lts.After-raise_count reads.Pre reads.Post → lts.After-put_answer reads.Pre reads.Post
+abbrev answer_at : After-raise_count → After-put_answer
 answer_at c = c.before.before.before.before
 
 pub raise_count-requires : goal.raise_count-requires

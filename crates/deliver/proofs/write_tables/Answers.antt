@@ -7,12 +7,11 @@ use lib.IntN.{pos}
 use lib.ListN.{replicate, length-replicate}
 use lib.Seq.{length-take-le}
 use Rattle.packed.proofs.Columns.{arcs-is, commodities-is}
-use Rattle.deliver.proofs.write_tables.Lts as lts
-use Rattle.deliver.proofs.write_tables.Reads as reads
 use Rattle.deliver.proofs.write_tables.Goals as goal
+use Rattle.deliver.proofs.write_tables.Goals.{Start}
 
 -- 32 commodities on 256 arcs
-few : (s : lts.Start reads.Pre reads.Post) → s.args.s.commodities * s.args.s.arcs ≤ 8192
+few : (s : Start) → s.args.s.commodities * s.args.s.arcs ≤ 8192
 few s = mul-le-mul s.requires.lent.packed.few-commodities s.requires.lent.packed.few-arcs
 
 pub slice_bounds-flows-end : goal.slice_bounds-flows-end

@@ -13,31 +13,30 @@ use Rattle.signed.specs.Signed.{twos}
 use Rattle.numbers.specs.Numbers.{written}
 use Rattle.packed.specs.Packed.{kept_from, kept_in}
 use Rattle.packed.proofs.Columns.{arcs-is, commodities-is, part_length}
-use Rattle.deliver.proofs.write_tables_in.Lts as lts
-use Rattle.deliver.proofs.write_tables_in.Reads as reads
 use Rattle.deliver.proofs.write_tables_in.Goals as goal
+use Rattle.deliver.proofs.write_tables_in.Goals.{After-solve-a, After-write_all, After-write_signed, Start}
 
 -- from each call back to the one before it, and from the first to the function's entry
-abbrev entry : lts.After-solve reads.Pre reads.Post → lts.Start reads.Pre reads.Post
+abbrev entry : After-solve-a → Start
 entry c = c.before.before.before.before.before.before.before
 
-abbrev solve-at : lts.After-write_signed reads.Pre reads.Post → lts.After-solve reads.Pre reads.Post
+abbrev solve-at : After-write_signed → After-solve-a
 solve-at c = c.before.before.before.before.before.before
 
-abbrev flow-at : lts.After-write_all reads.Pre reads.Post → lts.After-write_signed reads.Pre reads.Post
+abbrev flow-at : After-write_all → After-write_signed
 flow-at c = c.before.before.before.before.before.before
 
 -- the outcome's tables are of the shape's size
-flow-size : (c : lts.After-solve reads.Pre reads.Post) → length c.solve-a.new.1.1.1.0 ≡ (entry c).args.s.commodities * (entry c).args.s.arcs
+flow-size : (c : After-solve-a) → length c.solve-a.new.1.1.1.0 ≡ (entry c).args.s.commodities * (entry c).args.s.arcs
 flow-size c =
     let p = (entry c).requires.solving in
     c.solve-a.auto.1.1.1.0 ∙ (p.flows-1 ∙ ap₂ ◌*◌ (commodities-is p.lent.packed) (arcs-is p.lent.packed))
 
 -- and no more resources than arcs may be
-few : (s : lts.Start reads.Pre reads.Post) → s.args.s.resources ≤ most_arcs
+few : (s : Start) → s.args.s.resources ≤ most_arcs
 few s = let p = s.requires.solving.lent in omega (arith, p.counted, p.sound.counts.of-resources)
 
-kept-size : (c : lts.After-solve reads.Pre reads.Post) → length (kept_in (entry c).args.s c.solve-a.new.1.1.1.1.0) ≡ (entry c).args.s.resources
+kept-size : (c : After-solve-a) → length (kept_in (entry c).args.s c.solve-a.new.1.1.1.1.0) ≡ (entry c).args.s.resources
 kept-size c =
     let p = (entry c).requires.solving in
     part_length kept_from (entry c).args.s.resources c.solve-a.new.1.1.1.1.0 (omega (arith, c.solve-a.auto.1.1.1.1.0, p.places, few (entry c)))

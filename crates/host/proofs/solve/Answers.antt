@@ -16,48 +16,47 @@ use Rattle.call.specs.Host.{Slices, host_conditions, verdict_in}
 use Rattle.call.specs.Serve.{call_conditions}
 use Rattle.call.proofs.Hosts.{an-office, has-counts, has-count, open-for, call_fits, call-counts, call-open, refused-in, accepted-in}
 use Rattle.call.proofs.Judged.{judged-of, served-refused, served-own}
-use Rattle.host.proofs.solve.Lts as lts
-use Rattle.host.proofs.solve.Reads as reads
 use Rattle.host.proofs.solve.Goals as goal
+use Rattle.host.proofs.solve.Goals.{After-check_call-v, After-serve, After-shape-s, After-slice_known-8-1, In_default, Start}
 
 -- the network and the slices at entry
-abbrev net : lts.Start reads.Pre reads.Post → Network
+abbrev net : Start → Network
 net s = network_in s.args.n s.args.belts.now s.args.pairs.now s.args.limits.now
 
-abbrev lent : lts.Start reads.Pre reads.Post → Slices
+abbrev lent : Start → Slices
 lent s = slices s.args.flow.now s.args.lengths.now s.args.answer.now s.args.counts.now
 
 -- from each call back to the one before it, and from the first to the function's entry
-abbrev shape_at : lts.After-check_call reads.Pre reads.Post → goal.After-shape-s
+abbrev shape_at : After-check_call-v → After-shape-s
 shape_at c = c.before.before.before.before.before
 
-abbrev entry : goal.After-shape-s → lts.Start reads.Pre reads.Post
+abbrev entry : After-shape-s → Start
 entry c = c.before.before.before.before.before.before.before.before
 
-abbrev told_at : lts.After-serve reads.Pre reads.Post → goal.In_default
+abbrev told_at : After-serve → In_default
 told_at c = c.before.before.before.before.before
 
-abbrev serve-at : goal.After-slice_known-8-1 → lts.After-serve reads.Pre reads.Post
+abbrev serve-at : After-slice_known-8-1 → After-serve
 serve-at c = c.before.before.before.before.before.before.before.before
 
 -- what is looked at before an item is read
-abbrev conditions : goal.After-shape-s → List Condition
+abbrev conditions : After-shape-s → List Condition
 conditions c =
     let s = c.shape-s.result in
     call_conditions (entry c).args.lacking s.nodes s.arcs s.resources s.commodities (entry c).args.q (entry c).args.office (lent (entry c))
 
-passed : (c : goal.In_default) → verdict (conditions (shape_at c.before.before)) ≡ Accepted
+passed : (c : In_default) → verdict (conditions (shape_at c.before.before)) ≡ Accepted
 passed c = sym c.before.before.check_call-v.ensures ∙ c.in_default.is
 
 -- so the office has its count in the table
 opened :
-    (c : goal.In_default) →
+    (c : In_default) →
     let i = shape_at c.before.before in
     let s = i.shape-s.result in
     verdict (host_conditions (entry i).args.lacking s.commodities s.arcs s.resources (entry i).args.office (lent (entry i))) ≡ Accepted
 opened c = call-open _ _ _ _ _ _ _ (lent (entry (shape_at c.before.before))) (passed c)
 
-office-is : (c : goal.In_default) → Within 1 offices (entry (shape_at c.before.before)).args.office
+office-is : (c : In_default) → Within 1 offices (entry (shape_at c.before.before)).args.office
 office-is c = an-office _ _ _ _ _ (lent (entry (shape_at c.before.before))) (opened c)
 
 pub host_number-requires : goal.host_number-requires

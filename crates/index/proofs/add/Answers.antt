@@ -7,18 +7,17 @@ use borrow.Author.Rules.{rules}
 use Rattle.index.specs.Indexing.{Side, side, Joining, Building}
 use Rattle.index.proofs.Adding.{building-room, building-put}
 use Rattle.index.proofs.Building.{building-on}
-use Rattle.index.proofs.add.Lts as lts
-use Rattle.index.proofs.add.Reads as reads
 use Rattle.index.proofs.add.Goals as goal
+use Rattle.index.proofs.add.Goals.{After-other-w, Else-w-eq0, Start}
 
 -- from the arc's other end back to the function's entry, and the columns there
-abbrev entry : lts.After-other reads.Pre reads.Post → lts.Start reads.Pre reads.Post
+abbrev entry : After-other-w → Start
 entry c = c.before.before.before.before.before
 
-abbrev columns : lts.Start reads.Pre reads.Post → Side
+abbrev columns : Start → Side
 columns s = side s.args.here.now s.args.there.now s.args.marks.now
 
-joins : (c : lts.Else1 reads.Pre reads.Post) → let s = entry c.before in Joining (columns s) s.args.v s.args.e c.before.other-w.result
+joins : (c : Else-w-eq0) → let s = entry c.before in Joining (columns s) s.args.v s.args.e c.before.other-w.result
 joins c = c.before.other-w.ensures.at c.if-w-eq0.false
 
 pub other-w-requires : goal.other-w-requires

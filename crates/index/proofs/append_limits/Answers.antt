@@ -10,28 +10,27 @@ use Rattle.network.specs.Network.{Network, limit}
 use Rattle.packed.specs.Packed.{net_in}
 use Rattle.packed.proofs.Columns.{arcs-is, capacities-length}
 use Rattle.index.proofs.Gathering.{Gathering, gathering-none, gathering-on, gathering-place, gathering-more, gathering-all}
-use Rattle.index.proofs.append_limits.Lts as lts
-use Rattle.index.proofs.append_limits.Reads as reads
 use Rattle.index.proofs.append_limits.Goals as goal
+use Rattle.index.proofs.append_limits.Goals.{After-limit-x, At-loop-v, In-loop-v, Start, Then-x-ne0}
 
 -- the function's entry, seen from a turn
-abbrev entry : lts.At-loop reads.Pre reads.Post goal.the-invariant-loop-v goal.the-decreases-loop-v → lts.Start reads.Pre reads.Post goal.the-invariant-loop-v goal.the-decreases-loop-v
+abbrev entry : At-loop-v → Start
 entry c = c.before.before.before.before
 
-abbrev net : lts.Start reads.Pre reads.Post goal.the-invariant-loop-v goal.the-decreases-loop-v → Network
+abbrev net : Start → Network
 net s = net_in s.args.s s.args.net.now
 
 -- the present node is one of the network's
-node : (c : goal.In-loop-v) → c.before.loop-v.v ≤ (net (entry c.before)).nodes
+node : (c : In-loop-v) → c.before.loop-v.v ≤ (net (entry c.before)).nodes
 unfolding net_in
 node c = c.loop-v-test.true
 
-read : (c : lts.After-limit reads.Pre reads.Post goal.the-invariant-loop-v goal.the-decreases-loop-v) → c.limit-x.result ≡ limit (net (entry c.before.before)) c.before.before.loop-v.v
+read : (c : After-limit-x) → c.limit-x.result ≡ limit (net (entry c.before.before)) c.before.before.loop-v.v
 unfolding net_in
 read c = c.limit-x.ensures
 
 -- and if it is limited there is a place for it
-place : (c : goal.Then-x-ne0) → let t = c.before.before in t.before.loop-v.end < length t.before.loop-v.table
+place : (c : Then-x-ne0) → let t = c.before.before in t.before.loop-v.end < length t.before.loop-v.table
 place c =
     let t = c.before.before in
     gathering-place t.before.loop-v.invariant (node t) (λ z. c.if-x-ne0.true (read c.before ∙ z))

@@ -9,6 +9,7 @@ use lib.ListN.{length, get_or, take, set, length-set}
 use lib.Seq.{take-length, take-suc, take-suc-set}
 use Rattle.index.proofs.copy.Invariants.{Copied}
 use Rattle.index.proofs.copy.Goals as goal
+use Rattle.index.proofs.copy.Goals.{In-loop-i}
 
 one_more : {from old new : List ℕ} {e : ℕ} → Copied from old new e → e < length from → e < length new → Copied from old (set new e (get_or from e 0)) (e + 1)
 one_more {from} {old} {new} {e} C b r =
@@ -21,7 +22,7 @@ one_more {from} {old} {new} {e} C b r =
 whole : (from new : List ℕ) {e : ℕ} → length from ≡ e → take e new ≡ take e from → take (length from) new ≡ from
 whole from new q h = rw q (h ∙ rw (← q) (take-length from))
 
-place : (c : goal.In-loop-i) → c.before.loop-i.i < length c.before.loop-i.table
+place : (c : In-loop-i) → c.before.loop-i.i < length c.before.loop-i.table
 place c = omega (arith, c.before.loop-i.invariant.size, c.before.before.requires, c.loop-i-test.true)
 
 pub loop-i-init : goal.loop-i-init

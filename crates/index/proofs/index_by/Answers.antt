@@ -8,12 +8,11 @@ use lib.ListN.{length, length-set}
 use borrow.Author.Rules.{rules}
 use Rattle.index.specs.Indexing.{Side, side, Building}
 use Rattle.index.proofs.Building.{building-none, building-all}
-use Rattle.index.proofs.index_by.Lts as lts
-use Rattle.index.proofs.index_by.Reads as reads
 use Rattle.index.proofs.index_by.Goals as goal
+use Rattle.index.proofs.index_by.Goals.{At-loop-v, Start}
 
 -- the function's entry, seen from a turn
-abbrev entry : lts.At-loop reads.Pre reads.Post goal.the-invariant-loop-v goal.the-decreases-loop-v → lts.Start reads.Pre reads.Post goal.the-invariant-loop-v goal.the-decreases-loop-v
+abbrev entry : At-loop-v → Start
 entry c = c.before.before.before.before.before
 
 pub bounds-ix-1 : goal.bounds-ix-1

@@ -4,12 +4,11 @@ use borrow.Author.Rules.{rules}
 use Rattle.packed.specs.Packed.{net_in}
 use Rattle.index.proofs.Indexes.{into-indexing, into-index, still-indexable}
 use Rattle.index.proofs.Locating.{index-located}
-use Rattle.index.proofs.index_into.Lts as lts
-use Rattle.index.proofs.index_into.Reads as reads
 use Rattle.index.proofs.index_into.Goals as goal
+use Rattle.index.proofs.index_into.Goals.{After-index_by, Start}
 
 -- the function's entry, seen from behind the first call
-abbrev entry : lts.After-index_by reads.Pre reads.Post → lts.Start reads.Pre reads.Post
+abbrev entry : After-index_by → Start
 entry c = c.before.before.before.before.before.before.before
 
 pub index_by-requires : goal.index_by-requires

@@ -4,12 +4,13 @@ use native.Mathlib.Omega.{arith}
 use borrow.Author.Rules.{rules}
 use Rattle.index.proofs.Seeing.{seen-forth, seen_back, seen-one-way, seen_none}
 use Rattle.index.proofs.other.Goals as goal
+use Rattle.index.proofs.other.Goals.{Else-here-e, Else-marks-e-eq0, Start}
 
 -- the function's entry, seen from behind each test that failed
-abbrev first : goal.Else-here-e → goal.Start
+abbrev first : Else-here-e → Start
 first c = c.before.before
 
-abbrev second : goal.Else-marks-e-eq0 → goal.Else-here-e
+abbrev second : Else-marks-e-eq0 → Else-here-e
 second c = c.before.before
 
 pub returns-then-here-e : goal.returns-then-here-e

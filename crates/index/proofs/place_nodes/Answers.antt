@@ -12,33 +12,32 @@ use Rattle.packed.proofs.Columns.{arcs-is}
 use Rattle.index.specs.Index.{places_from}
 use Rattle.index.proofs.Limits.{place-most}
 use Rattle.index.proofs.Locating.{Locating, locating-none, locating-none-limited, locating-limited, locating-all}
-use Rattle.index.proofs.place_nodes.Lts as lts
-use Rattle.index.proofs.place_nodes.Reads as reads
 use Rattle.index.proofs.place_nodes.Goals as goal
+use Rattle.index.proofs.place_nodes.Goals.{After-limit, At-loop-v, In-loop-v, Joined-limit-ne0, Start}
 
 -- the function's entry, seen from a turn
-abbrev entry : lts.At-loop reads.Pre reads.Post goal.the-invariant-loop-v goal.the-decreases-loop-v → lts.Start reads.Pre reads.Post goal.the-invariant-loop-v goal.the-decreases-loop-v
+abbrev entry : At-loop-v → Start
 entry c = c.before.before.before.before
 
-abbrev net : lts.Start reads.Pre reads.Post goal.the-invariant-loop-v goal.the-decreases-loop-v → Network
+abbrev net : Start → Network
 net s = net_in s.args.s s.args.net.now
 
 -- the present node is one of the network's, and has a place
-node : (c : goal.In-loop-v) → c.before.loop-v.v ≤ (net (entry c.before)).nodes
+node : (c : In-loop-v) → c.before.loop-v.v ≤ (net (entry c.before)).nodes
 unfolding net_in
 node c = c.loop-v-test.true
 
-place : (c : goal.In-loop-v) → places_from + c.before.loop-v.v < length (entry c.before).args.ix.now
+place : (c : In-loop-v) → places_from + c.before.loop-v.v < length (entry c.before).args.ix.now
 place c = let p = (entry c.before).requires in omega (arith, node c, p.nodes, p.numbers)
 
-read : (c : lts.After-limit reads.Pre reads.Post goal.the-invariant-loop-v goal.the-decreases-loop-v) → c.limit.result ≡ limit (net (entry c.before.before)) c.before.before.loop-v.v
+read : (c : After-limit) → c.limit.result ≡ limit (net (entry c.before.before)) c.before.before.loop-v.v
 unfolding net_in
 read c = c.limit.ensures
 
 pub loop-v-init : goal.loop-v-init
 loop-v-init c = locating-none (sym (arcs-is c.before.before.before.requires.packed))
 
-good : (c : goal.Joined-limit-ne0) → places_from + c.before.before.before.loop-v.v < 1155
+good : (c : Joined-limit-ne0) → places_from + c.before.before.before.loop-v.v < 1155
 good c = omega (arith, node c.before.before, (entry c.before.before.before).requires.nodes)
 
 pub overflow_add-next : goal.overflow_add-next

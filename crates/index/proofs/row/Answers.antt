@@ -8,12 +8,11 @@ use lib.ListN.{length, length-set}
 use borrow.Author.Rules.{rules}
 use Rattle.index.specs.Indexing.{Side, side, Building}
 use Rattle.index.proofs.Opening.{building-next}
-use Rattle.index.proofs.row.Lts as lts
-use Rattle.index.proofs.row.Reads as reads
 use Rattle.index.proofs.row.Goals as goal
+use Rattle.index.proofs.row.Goals.{At-loop-e, Start}
 
 -- the function's entry, seen from a turn
-abbrev entry : lts.At-loop reads.Pre reads.Post goal.the-invariant-loop-e goal.the-decreases-loop-e → lts.Start reads.Pre reads.Post goal.the-invariant-loop-e goal.the-decreases-loop-e
+abbrev entry : At-loop-e → Start
 entry c = c.before.before.before.before.before.before
 
 pub loop-e-init : goal.loop-e-init

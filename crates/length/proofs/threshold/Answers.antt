@@ -7,8 +7,9 @@ use borrow.Author.Rules.{rules}
 use Rattle.length.specs.Level.{threshold}
 use Rattle.length.proofs.Bounds.{threshold-most}
 use Rattle.length.proofs.threshold.Goals as goal
+use Rattle.length.proofs.threshold.Goals.{After-level}
 
-product : (c : goal.After-level) → c.before.args.q * c.level.result ≡ threshold c.before.args.m c.before.args.q
+product : (c : After-level) → c.before.args.q * c.level.result ≡ threshold c.before.args.m c.before.args.q
 unfolding threshold
 product c = ap (λ (x : ℕ). c.before.args.q * x) c.level.ensures
 

@@ -10,26 +10,25 @@ use native.Mathlib.Omega.{arith}
 use lib.ListN.{length, get_or}
 use Rattle.lengths.specs.Calls.{Growing}
 use Rattle.lengths.proofs.Lengthened.{Lengthened, lengthen-none, lengthen-more, lengthen-all, next_place, next-short, next-longer, next-rise}
-use Rattle.lengths.proofs.grow.Lts as lts
-use Rattle.lengths.proofs.grow.Reads as reads
 use Rattle.lengths.proofs.grow.Goals as goal
+use Rattle.lengths.proofs.grow.Goals.{After-growth-longer, In-loop-j, Start}
 
-abbrev entry : goal.In-loop-j → lts.Start reads.Pre reads.Post goal.the-invariant-loop-j goal.the-decreases-loop-j
+abbrev entry : In-loop-j → Start
 entry c = c.before.before.before.before.before
 
 -- the arc at the present place, which is among the arcs, and its length
-abbrev arc : goal.In-loop-j → ℕ
+abbrev arc : In-loop-j → ℕ
 arc c = get_or (entry c).args.path.now c.before.loop-j.j 0
 
-place : (c : goal.In-loop-j) → arc c < length (entry c).args.capacities.now
+place : (c : In-loop-j) → arc c < length (entry c).args.capacities.now
 place c = next_place (entry c).requires.growing c.before.loop-j.invariant c.loop-j-test.true
 
-short : (c : goal.In-loop-j) → get_or c.before.loop-j.lengths (arc c) 0 < 2 ^ 40
+short : (c : In-loop-j) → get_or c.before.loop-j.lengths (arc c) 0 < 2 ^ 40
 short c = next-short (entry c).requires.growing c.before.loop-j.invariant c.loop-j-test.true
 
 -- how much D grows by this arc
-module _ (c : goal.After-growth-longer) where
-  abbrev turn : goal.In-loop-j
+module _ (c : After-growth-longer) where
+  abbrev turn : In-loop-j
   turn = c.before.before.before.before
 
   abbrev old : ℕ

@@ -13,37 +13,36 @@ use Rattle.arith.proofs.Lists.{map_at}
 use Rattle.tables.proofs.Filled.{fill-next}
 use Rattle.lengths.proofs.Weighable.{halved-weighable}
 use Rattle.lengths.proofs.Weighed.{Weighing, weigh-none, weigh-more, weigh-all, weighing-most}
-use Rattle.lengths.proofs.halve.Lts as lts
-use Rattle.lengths.proofs.halve.Reads as reads
 use Rattle.lengths.proofs.halve.Goals as goal
+use Rattle.lengths.proofs.halve.Goals.{After-halving-half, In-loop-e, Start}
 
-abbrev entry : goal.In-loop-e → lts.Start reads.Pre reads.Post goal.the-invariant-loop-e goal.the-decreases-loop-e
+abbrev entry : In-loop-e → Start
 entry c = c.before.before.before.before
 
 -- the next arc: its length is as it was, grown no further than 2^41
-abbrev capacity : goal.In-loop-e → ℕ
+abbrev capacity : In-loop-e → ℕ
 capacity c = get_or (entry c).args.capacities.now c.before.loop-e.e 0
 
-abbrev old : goal.In-loop-e → ℕ
+abbrev old : In-loop-e → ℕ
 old c = get_or c.before.loop-e.lengths c.before.loop-e.e 0
 
-among : (c : goal.In-loop-e) → c.before.loop-e.e < length (entry c).args.lengths.now
+among : (c : In-loop-e) → c.before.loop-e.e < length (entry c).args.lengths.now
 among c = omega arith
 
-next : (c : goal.In-loop-e) → old c ≡ get_or (entry c).args.lengths.now c.before.loop-e.e 0
+next : (c : In-loop-e) → old c ≡ get_or (entry c).args.lengths.now c.before.loop-e.e 0
 next c = fill-next c.before.loop-e.invariant.filling
 
-short : (c : goal.In-loop-e) → old c < 2 ^ 41
+short : (c : In-loop-e) → old c < 2 ^ 41
 short c = rw (next c) ((entry c).requires.grown _ (among c))
 
 -- its part of D before the halving, and behind it, no more than that
-was : (c : goal.In-loop-e) → capacity c * old c ≤ most_capacity * 2 ^ 41
+was : (c : In-loop-e) → capacity c * old c ≤ most_capacity * 2 ^ 41
 was c = let p = (entry c).requires in mul-le-mul {m₁ = old c} {m₂ = 2 ^ 41} (p.sizes _ (omega (arith, among c, p.same))) (omega (arith, short c))
 
-abbrev turn : goal.After-halving-half → goal.In-loop-e
+abbrev turn : After-halving-half → In-loop-e
 turn c = c.before.before
 
-falls : (c : goal.After-halving-half) → capacity (turn c) * c.halving-half.result.value ≤ capacity (turn c) * old (turn c)
+falls : (c : After-halving-half) → capacity (turn c) * c.halving-half.result.value ≤ capacity (turn c) * old (turn c)
 falls c = mul-le-mul_left (capacity (turn c)) (omega (arith, c.halving-half.ensures, halving-falls (old (turn c))))
 
 pub overflow_mul-d : goal.overflow_mul-d

@@ -12,22 +12,21 @@ use Rattle.length.proofs.Size.{start_fits}
 use Rattle.lengths.specs.Results.{first_lengths}
 use Rattle.lengths.proofs.Weighable.{first-weighable}
 use Rattle.lengths.proofs.Weighed.{Weighing, weigh-none, weigh-more, weigh-all, weighing-most}
-use Rattle.lengths.proofs.start.Lts as lts
-use Rattle.lengths.proofs.start.Reads as reads
 use Rattle.lengths.proofs.start.Goals as goal
+use Rattle.lengths.proofs.start.Goals.{After-start-first, In-loop-e, Start}
 
-abbrev entry : goal.In-loop-e → lts.Start reads.Pre reads.Post goal.the-invariant-loop-e goal.the-decreases-loop-e
+abbrev entry : In-loop-e → Start
 entry c = c.before.before.before.before
 
 pub start-first-requires : goal.start-first-requires
 start-first-requires c = let p = (entry c.before).requires.sizes in (p.least _ (omega arith), p.most _ (omega arith))
 
 -- behind the start of an arc: the loop's test
-abbrev turn : goal.After-start-first → goal.In-loop-e
+abbrev turn : After-start-first → In-loop-e
 turn c = c.before.before
 
 -- the arc's part of D
-part : (c : goal.After-start-first) →
+part : (c : After-start-first) →
     get_or (entry (turn c)).args.capacities.now (turn c).before.loop-e.e 0 * c.start-first.result.value ≤ most_capacity * 2 ^ 40
 unfolding mark
 part c =

@@ -10,13 +10,14 @@ use lib.ListN.{length, drop, length-set}
 use Rattle.numbers.specs.Numbers.{count, column}
 use Rattle.numbers.proofs.Columns.{member_below, column-more}
 use Rattle.numbers.proofs.read_column.Goals as goal
+use Rattle.numbers.proofs.read_column.Goals.{In-loop-i}
 
 pub loop-i-init : goal.loop-i-init
 unfolding column
 loop-i-init c = (search rules, refl, refl)
 
 -- The number to read is complete.
-complete : (c : goal.In-loop-i) → let start = c.before.before.before.before.args in start.k * c.before.loop-i.i + start.j < count start.s.now
+complete : (c : In-loop-i) → let start = c.before.before.before.before.args in start.k * c.before.loop-i.i + start.j < count start.s.now
 complete c =
     let start = c.before.before.before.before in
     member_below start.args.s.now start.args.k start.args.j c.before.loop-i.i (omega arith) (omega arith)

@@ -20,9 +20,8 @@ use Rattle.paths.proofs.Fars.{searching-start}
 use Rattle.paths.proofs.Orders.{ordered-arranged, ordered-scanning, ordered-waits}
 use Rattle.paths.proofs.Pages.{searched}
 use Rattle.paths.proofs.Searches.{searching-out}
-use Rattle.search.proofs.distances_in.Lts as lts
-use Rattle.search.proofs.distances_in.Reads as reads
 use Rattle.search.proofs.distances_in.Goals as goal
+use Rattle.search.proofs.distances_in.Goals.{After-enlist-size, After-relax_into-size, After-reset, After-scan-at, After-take_out-v, At-loop-size, In-loop-size, Joined-at-n, Start}
 
 begun :
     {net : Network} {into l new : List ℕ} {t : ℕ} (old : List ℕ) {flags listed : List ℕ} {size r : ℕ} → Seeking net into l t old →
@@ -32,35 +31,35 @@ begun {net} {l = l} {t = t} old S s q E =
     rw q (searching-start net l old t S.sink.1 S.index.arcs.nodes S.ordered (rw (sym (ap length q) ∙ s) S.fit) E)
 
 -- from each call back to the one before it, and from the first to the function's entry
-abbrev first : lts.After-reset reads.Pre reads.Post goal.the-invariant-loop-size goal.the-decreases-loop-size → lts.Start reads.Pre reads.Post goal.the-invariant-loop-size goal.the-decreases-loop-size
+abbrev first : After-reset → Start
 first c = c.before.before.before.before.before.before.before
 
-abbrev reset-at : lts.After-enlist reads.Pre reads.Post goal.the-invariant-loop-size goal.the-decreases-loop-size → lts.After-reset reads.Pre reads.Post goal.the-invariant-loop-size goal.the-decreases-loop-size
+abbrev reset-at : After-enlist-size → After-reset
 reset-at c = c.before.before.before.before
 
-abbrev enlist-at : lts.At-loop reads.Pre reads.Post goal.the-invariant-loop-size goal.the-decreases-loop-size → lts.After-enlist reads.Pre reads.Post goal.the-invariant-loop-size goal.the-decreases-loop-size
+abbrev enlist-at : At-loop-size → After-enlist-size
 enlist-at c = c.before.before.before
 
-abbrev entry : lts.At-loop reads.Pre reads.Post goal.the-invariant-loop-size goal.the-decreases-loop-size → lts.Start reads.Pre reads.Post goal.the-invariant-loop-size goal.the-decreases-loop-size
+abbrev entry : At-loop-size → Start
 entry c = first (reset-at (enlist-at c))
 
-abbrev turn : lts.After-scan reads.Pre reads.Post goal.the-invariant-loop-size goal.the-decreases-loop-size → goal.In-loop-size
+abbrev turn : After-scan-at → In-loop-size
 turn c = c.before.before.before
 
-abbrev scan-at : lts.Joined1 reads.Pre reads.Post goal.the-invariant-loop-size goal.the-decreases-loop-size → lts.After-scan reads.Pre reads.Post goal.the-invariant-loop-size goal.the-decreases-loop-size
+abbrev scan-at : Joined-at-n → After-scan-at
 scan-at c = c.before
 
-abbrev found_at : lts.After-take_out reads.Pre reads.Post goal.the-invariant-loop-size goal.the-decreases-loop-size → lts.Joined1 reads.Pre reads.Post goal.the-invariant-loop-size goal.the-decreases-loop-size
+abbrev found_at : After-take_out-v → Joined-at-n
 found_at c = c.before.before.before.before
 
-abbrev take-out-at : lts.After-relax_into reads.Pre reads.Post goal.the-invariant-loop-size goal.the-decreases-loop-size → lts.After-take_out reads.Pre reads.Post goal.the-invariant-loop-size goal.the-decreases-loop-size
+abbrev take-out-at : After-relax_into-size → After-take_out-v
 take-out-at c = c.before.before.before.before.before
 
 -- the page is as large as it was lent, so the order has room
-whole : (c : lts.At-loop reads.Pre reads.Post goal.the-invariant-loop-size goal.the-decreases-loop-size) → length c.loop-size.page ≡ length (entry c).args.page.now
+whole : (c : At-loop-size) → length c.loop-size.page ≡ length (entry c).args.page.now
 whole c = c.loop-size.invariant.pages ∙ (reset-at (enlist-at c)).reset.auto.1.1.0
 
-room : (c : lts.At-loop reads.Pre reads.Post goal.the-invariant-loop-size goal.the-decreases-loop-size) → order_from + (net_in (entry c).args.s (entry c).args.net.now).nodes ≤ length c.loop-size.page
+room : (c : At-loop-size) → order_from + (net_in (entry c).args.s (entry c).args.net.now).nodes ≤ length c.loop-size.page
 room c = let S = (entry c).requires.seeking in omega (arith, whole c, S.room, S.index.arcs.nodes)
 
 pub reset-requires : goal.reset-requires
@@ -83,7 +82,7 @@ loop-size-init c =
       flags = refl;
     }
 
-scanning : (c : goal.In-loop-size) → let s = (entry c.before).args in
+scanning : (c : In-loop-size) → let s = (entry c.before).args in
     Scanning (net_in s.s s.net.now).nodes c.before.loop-size.page c.before.loop-size.listed
 scanning c = let S = c.before.loop-size.invariant.searching in ordered-scanning S.ordered S.worklist (room c.before)
 
@@ -99,7 +98,7 @@ at_place : {n at p : ℕ} {page listed : List ℕ} → at ≡ p → Waits n page
 at_place q W = rw q W
 
 -- the place found, by the first look or, from the first place on, by the second
-waits : (c : lts.Joined1 reads.Pre reads.Post goal.the-invariant-loop-size goal.the-decreases-loop-size) → let t = turn (scan-at c) in let s = (entry t.before).args in
+waits : (c : Joined-at-n) → let t = turn (scan-at c) in let s = (entry t.before).args in
     Waits (net_in s.s s.net.now).nodes t.before.loop-size.page t.before.loop-size.listed c.if-at-n.at
 unfolding net_in
 waits c =

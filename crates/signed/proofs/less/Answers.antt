@@ -5,8 +5,9 @@ use mir.Syntax.{w64}
 use mir.Val.{of_z}
 use Rattle.signed.proofs.Bits.{Result, less-result}
 use Rattle.signed.proofs.less.Goals as goal
+use Rattle.signed.proofs.less.Goals.{Start}
 
-difference : (c : goal.Start) → Result ◌-ℤ◌ (of_z w64 c.args.x) c.args.g (c.args.x -ℤ pos c.args.g)
+difference : (c : Start) → Result ◌-ℤ◌ (of_z w64 c.args.x) c.args.g (c.args.x -ℤ pos c.args.g)
 difference c = less-result c.args.x c.ranges.x c.args.g c.requires
 
 pub overflow_sub-result : goal.overflow_sub-result

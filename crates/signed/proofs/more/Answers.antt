@@ -5,8 +5,9 @@ use mir.Syntax.{w64}
 use mir.Val.{of_z}
 use Rattle.signed.proofs.Bits.{Result, more-result}
 use Rattle.signed.proofs.more.Goals as goal
+use Rattle.signed.proofs.more.Goals.{Start}
 
-sum : (c : goal.Start) → Result ◌+ℤ◌ (of_z w64 c.args.x) c.args.g (c.args.x +ℤ pos c.args.g)
+sum : (c : Start) → Result ◌+ℤ◌ (of_z w64 c.args.x) c.args.g (c.args.x +ℤ pos c.args.g)
 sum c = more-result c.args.x c.ranges.x c.args.g c.requires
 
 pub overflow_add-result : goal.overflow_add-result

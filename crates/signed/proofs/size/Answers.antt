@@ -7,8 +7,9 @@ use mir.Val.{of_z}
 use Rattle.signed.specs.Signed.{size}
 use Rattle.signed.proofs.Bits.{Result, size-result, cast_fits, forward-cast, forward-size}
 use Rattle.signed.proofs.size.Goals as goal
+use Rattle.signed.proofs.size.Goals.{Then-x-lt0}
 
-y : (c : goal.Then-x-lt0) → Result ◌-ℤ◌ 0 (of_z w64 c.before.args.x) (pos (size c.before.args.x))
+y : (c : Then-x-lt0) → Result ◌-ℤ◌ 0 (of_z w64 c.before.args.x) (pos (size c.before.args.x))
 y c = size-result c.before.args.x c.before.ranges.x c.if-x-lt0.true c.before.requires
 
 pub overflow_sub-y : goal.overflow_sub-y

@@ -8,8 +8,9 @@ use mir.Syntax.{w64}
 use mir.Val.{of_z}
 use Rattle.signed.proofs.Bits.{Result, twos-result, twos-is, cast_fits, forward-cast, forward-twos}
 use Rattle.signed.proofs.twos.Goals as goal
+use Rattle.signed.proofs.twos.Goals.{Then-x-lt0}
 
-y : (c : goal.Then-x-lt0) → Result ◌-ℤ◌ (2 ^ 64 - 1) (of_z w64 c.before.args.x) (pos (mag c.before.args.x))
+y : (c : Then-x-lt0) → Result ◌-ℤ◌ (2 ^ 64 - 1) (of_z w64 c.before.args.x) (pos (mag c.before.args.x))
 y c = twos-result c.before.args.x c.before.ranges.x c.if-x-lt0.true
 
 pub overflow_cast-result : goal.overflow_cast-result

@@ -10,28 +10,27 @@ use Rattle.site.specs.Site.{Site, list_conditions}
 use Rattle.site.specs.Turns.{site}
 use Rattle.site.proofs.Listed.{listed, list-fits}
 use Rattle.site.proofs.Sites.{site-refused, site-accepted}
-use Rattle.site.proofs.solve.Lts as lts
-use Rattle.site.proofs.solve.Reads as reads
 use Rattle.site.proofs.solve.Goals as goal
+use Rattle.site.proofs.solve.Goals.{After-check_list-v, After-slice_known-8-1, After-solve_floors, In_default, Start}
 
 -- what is read, and the slices at entry
-abbrev what : lts.Start reads.Pre reads.Post → Site
+abbrev what : Start → Site
 what s = site s.args.office s.args.floors.now s.args.belts.now s.args.pairs.now s.args.limits.now
 
-abbrev lent : lts.Start reads.Pre reads.Post → Slices
+abbrev lent : Start → Slices
 lent s = slices s.args.flow.now s.args.lengths.now s.args.answers.now s.args.counts.now
 
 -- from each call back to the one before it, and from the first to the function's entry
-abbrev entry : lts.After-check_list reads.Pre reads.Post → lts.Start reads.Pre reads.Post
+abbrev entry : After-check_list-v → Start
 entry c = c.before.before.before.before.before.before.before.before.before.before
 
-abbrev told_at : lts.After-solve_floors reads.Pre reads.Post → lts.After-enum_told2 reads.Pre reads.Post
+abbrev told_at : After-solve_floors → In_default
 told_at c = c.before.before.before.before.before
 
-abbrev floors-at : goal.After-slice_known-8-1 → lts.After-solve_floors reads.Pre reads.Post
+abbrev floors-at : After-slice_known-8-1 → After-solve_floors
 floors-at c = c.before.before.before.before.before.before.before.before
 
-passed : (c : lts.After-enum_told2 reads.Pre reads.Post) → let s = entry c.before.before in verdict (list_conditions s.args.floors.now s.args.answers.now) ≡ Accepted
+passed : (c : In_default) → let s = entry c.before.before in verdict (list_conditions s.args.floors.now s.args.answers.now) ≡ Accepted
 passed c = sym c.before.before.check_list-v.ensures ∙ c.in_default.is
 
 pub host_number-requires : goal.host_number-requires

@@ -16,32 +16,31 @@ use Rattle.site.specs.Site.{Site}
 use Rattle.site.specs.Turns.{site}
 use Rattle.site.proofs.Fitting.{Fitting, fitting}
 use Rattle.site.proofs.Floor.{floor-served}
-use Rattle.site.proofs.solve_floor.Lts as lts
-use Rattle.site.proofs.solve_floor.Reads as reads
 use Rattle.site.proofs.solve_floor.Goals as goal
+use Rattle.site.proofs.solve_floor.Goals.{After-of_floor-p, After-read-q, After-solve-returned, After-write-arg-1, Start}
 
 -- what is read, and the slices at entry
-abbrev what : lts.Start reads.Pre reads.Post → Site
+abbrev what : Start → Site
 what s = site s.args.office s.args.floors.now s.args.belts.now s.args.pairs.now s.args.limits.now
 
-abbrev lent : lts.Start reads.Pre reads.Post → Slices
+abbrev lent : Start → Slices
 lent s = slices s.args.flow.now s.args.lengths.now s.args.answers.now s.args.counts.now
 
 -- from each call back to the one before it, and from the first to the function's entry
-abbrev entry : lts.After-of_floor reads.Pre reads.Post → lts.Start reads.Pre reads.Post
+abbrev entry : After-of_floor-p → Start
 entry c = c.before.before.before.before.before.before.before.before.before.before.before
 
-abbrev parts_at : goal.After-read-q → lts.After-of_floor reads.Pre reads.Post
+abbrev parts_at : After-read-q → After-of_floor-p
 parts_at c = c.before.before.before.before.before.before.before
 
-abbrev told_at : lts.After-solve reads.Pre reads.Post → goal.After-read-q
+abbrev told_at : After-solve-returned → After-read-q
 told_at c = c.before.before.before.before.before.before.before.before
 
-abbrev solved-at : goal.After-write-arg-1 → lts.After-solve reads.Pre reads.Post
+abbrev solved-at : After-write-arg-1 → After-solve-returned
 solved-at c = c.before.before.before.before.before.before.before.before.before
 
-module _ (c : lts.After-of_floor reads.Pre reads.Post) where
-  abbrev first : lts.Start reads.Pre reads.Post
+module _ (c : After-of_floor-p) where
+  abbrev first : Start
   first = entry c
 
   -- the parts end within their slices
@@ -59,13 +58,13 @@ module _ (c : lts.After-of_floor reads.Pre reads.Post) where
   eight-fit = omega (arith, first.requires.0, first.requires.1.room)
 
 -- the seven have come back
-seven : (c : lts.After-solve reads.Pre reads.Post) → length c.solve-returned.new.1.1.1.1.1.1.1.1.0 ≡ 56
+seven : (c : After-solve-returned) → length c.solve-returned.new.1.1.1.1.1.1.1.1.0 ≡ 56
 seven c =
     let p = parts_at (told_at c) in
     c.solve-returned.auto.1.1.1.1.1.1.1.1.0 ∙ part_length (64 * (entry p).args.i + 8) 56 (entry p).args.answers.now (omega (arith, eight-fit p))
 
 answers-length :
-    (c : lts.After-solve reads.Pre reads.Post) →
+    (c : After-solve-returned) →
     let s = entry (parts_at (told_at c)) in
     length (put (64 * s.args.i + 8) 56 s.args.answers.now c.solve-returned.new.1.1.1.1.1.1.1.1.0) ≡ length s.args.answers.now
 answers-length c =

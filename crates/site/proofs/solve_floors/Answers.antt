@@ -11,18 +11,17 @@ use Rattle.call.specs.Deliver.{slices}
 use Rattle.call.specs.Host.{Slices}
 use Rattle.site.specs.Turns.{site, FloorsServed}
 use Rattle.site.proofs.Floors.{none_yet, one_more}
-use Rattle.site.proofs.solve_floors.Lts as lts
-use Rattle.site.proofs.solve_floors.Reads as reads
 use Rattle.site.proofs.solve_floors.Goals as goal
+use Rattle.site.proofs.solve_floors.Goals.{After-slice_known-in-loop-i-4-1, After-solve_floor, At-loop-i, In-loop-i, Start}
 
 -- from each call back to the one before it, and from the first to the function's entry
-abbrev entry : lts.At-loop reads.Pre reads.Post goal.the-invariant-loop-i goal.the-decreases-loop-i → lts.Start reads.Pre reads.Post goal.the-invariant-loop-i goal.the-decreases-loop-i
+abbrev entry : At-loop-i → Start
 entry c = c.before.before.before.before.before.before.before.before.before.before
 
-abbrev loop-at : lts.After-solve_floor reads.Pre reads.Post goal.the-invariant-loop-i goal.the-decreases-loop-i → lts.In-loop reads.Pre reads.Post goal.the-invariant-loop-i goal.the-decreases-loop-i
+abbrev loop-at : After-solve_floor → In-loop-i
 loop-at c = c.before.before.before.before.before
 
-abbrev floor-at : goal.After-slice_known-in-loop-i-4-1 → lts.After-solve_floor reads.Pre reads.Post goal.the-invariant-loop-i goal.the-decreases-loop-i
+abbrev floor-at : After-slice_known-in-loop-i-4-1 → After-solve_floor
 floor-at c = c.before.before.before.before.before.before.before.before
 
 pub loop-i-init : goal.loop-i-init

@@ -20,69 +20,68 @@ use Rattle.step.specs.Steps.{chosen_in, Stepped}
 use Rattle.step.proofs.Parts.{pushing, loading, lengthening}
 use Rattle.step.proofs.Stepped.{put-together}
 use Rattle.step.proofs.Tabled.{Tabled, tabled, with-lengths, with-loads, with-keeping, in-slice}
-use Rattle.step.proofs.step.Lts as lts
-use Rattle.step.proofs.step.Reads as reads
 use Rattle.step.proofs.step.Goals as goal
+use Rattle.step.proofs.step.Goals.{After-count, After-draw-g, After-keep, After-lengthen-grown, After-less_product-better, After-load-ended, After-push, Start}
 
 -- from each call back to the one before it, and from the first to the function's entry
-abbrev entry : goal.After-draw-g → lts.Start reads.Pre reads.Post
+abbrev entry : After-draw-g → Start
 entry c = c.before.before.before.before.before
 
-abbrev compare-at : lts.After-keep reads.Pre reads.Post → lts.After-less_product reads.Pre reads.Post
+abbrev compare-at : After-keep → After-less_product-better
 compare-at c = c.before.before
 
-abbrev draw-at : lts.After-keep reads.Pre reads.Post → goal.After-draw-g
+abbrev draw-at : After-keep → After-draw-g
 draw-at c = (compare-at c).before
 
-abbrev keep_at : lts.After-push reads.Pre reads.Post → lts.After-keep reads.Pre reads.Post
+abbrev keep_at : After-push → After-keep
 keep_at c = c.before.before.before.before.before
 
-abbrev push_at : lts.After-load reads.Pre reads.Post → lts.After-push reads.Pre reads.Post
+abbrev push_at : After-load-ended → After-push
 push_at c = c.before.before.before
 
-abbrev load_at : lts.After-lengthen reads.Pre reads.Post → lts.After-load reads.Pre reads.Post
+abbrev load_at : After-lengthen-grown → After-load-ended
 load_at c = c.before.before.before.before
 
-abbrev lengthen-at : goal.After-count → lts.After-lengthen reads.Pre reads.Post
+abbrev lengthen-at : After-count → After-lengthen-grown
 lengthen-at c = c.before.before.before
 
 -- the network, what the path uses, and the choice
-abbrev net-of : lts.Start reads.Pre reads.Post → Network
+abbrev net-of : Start → Network
 net-of s = net_in s.args.s s.args.net.now
 
-abbrev chosen : lts.Start reads.Pre reads.Post → Choice
+abbrev chosen : Start → Choice
 chosen s = chosen_in s.args.c s.args.path.now
 
 -- the tables of the resources at entry, and after each call that changes them
-abbrev m : lts.Start reads.Pre reads.Post → ℕ
+abbrev m : Start → ℕ
 m s = s.args.s.resources
 
-abbrev L : lts.Start reads.Pre reads.Post → List ℕ
+abbrev L : Start → List ℕ
 L s = part lengths_from (m s) s.args.tables.now
 
-abbrev Y : lts.Start reads.Pre reads.Post → List ℕ
+abbrev Y : Start → List ℕ
 Y s = part loads_from (m s) s.args.tables.now
 
-abbrev K : lts.After-keep reads.Pre reads.Post → List ℕ
+abbrev K : After-keep → List ℕ
 K c = let s = entry (draw-at c) in cond (compare-at c).less_product-better.result (L s) (part kept_from (m s) s.args.tables.now)
 
-kept : (c : lts.After-keep reads.Pre reads.Post) → let s = entry (draw-at c) in Tabled (m s) c.keep.new.1.1.0 (L s) (Y s) (K c)
+kept : (c : After-keep) → let s = entry (draw-at c) in Tabled (m s) c.keep.new.1.1.0 (L s) (Y s) (K c)
 kept c =
     let s = entry (draw-at c) in
     with-keeping (tabled (m s) s.args.tables.now s.requires.few s.requires.places) (compare-at c).less_product-better.result c.keep.ensures
 
-abbrev start_of : lts.After-load reads.Pre reads.Post → lts.Start reads.Pre reads.Post
+abbrev start_of : After-load-ended → Start
 start_of c = entry (draw-at (keep_at (push_at c)))
 
 -- The slices of the capacities and of the path hold what the definitions say, so that the draw is the method's.
-drawn : (f : goal.After-draw-g) → f.draw-g.result ≡ draw (resource_capacities (net-of (entry f))) (used_by (net-of (entry f)) (chosen (entry f)))
+drawn : (f : After-draw-g) → f.draw-g.result ≡ draw (resource_capacities (net-of (entry f))) (used_by (net-of (entry f)) (chosen (entry f)))
 drawn f = let s = entry f in f.draw-g.ensures ∙ ap₂ draw s.requires.caps-are s.requires.path-is
 
-loaded : (c : lts.After-load reads.Pre reads.Post) → let k = keep_at (push_at c) in let s = start_of c in
+loaded : (c : After-load-ended) → let k = keep_at (push_at c) in let s = start_of c in
     Tabled (m s) (put loads_from (m s) k.keep.last.1.1.0 c.load-ended.new.0) (L s) c.load-ended.new.0 (K k)
 loaded c = with-loads (kept (keep_at (push_at c))) c.load-ended.new.0 c.load-ended.auto.0
 
-lengthened : (c : lts.After-lengthen reads.Pre reads.Post) → let k = keep_at (push_at (load_at c)) in let s = start_of (load_at c) in
+lengthened : (c : After-lengthen-grown) → let k = keep_at (push_at (load_at c)) in let s = start_of (load_at c) in
     Tabled (m s) (put lengths_from (m s) (put loads_from (m s) k.keep.last.1.1.0 (load_at c).load-ended.new.0) c.lengthen-grown.new.0) c.lengthen-grown.new.0 (load_at c).load-ended.new.0 (K k)
 lengthened c = with-lengths (loaded (load_at c)) c.lengthen-grown.new.0 c.lengthen-grown.auto.0
 

@@ -11,16 +11,17 @@ use Rattle.network.specs.Path.{forward}
 use Rattle.packed.specs.Packed.{net_in, tails_from, heads_from}
 use Rattle.packed.proofs.Columns.{part_at}
 use Rattle.walk.proofs.beyond.Goals as goal
+use Rattle.walk.proofs.beyond.Goals.{Start}
 
-abbrev net : goal.Start → Network
+abbrev net : Start → Network
 net s = net_in s.args.s s.args.net.now
 
 -- the two ends, as they are read
-from : (s : goal.Start) → get_or s.args.net.now (tails_from + s.args.e) 0 ≡ tail (net s) s.args.e
+from : (s : Start) → get_or s.args.net.now (tails_from + s.args.e) 0 ≡ tail (net s) s.args.e
 unfolding net_in
 from s = sym (part_at tails_from s.args.s.arcs s.args.net.now s.args.e s.requires.arc)
 
-to : (s : goal.Start) → get_or s.args.net.now (heads_from + s.args.e) 0 ≡ head (net s) s.args.e
+to : (s : Start) → get_or s.args.net.now (heads_from + s.args.e) 0 ≡ head (net s) s.args.e
 unfolding net_in
 to s = sym (part_at heads_from s.args.s.arcs s.args.net.now s.args.e s.requires.arc)
 

@@ -5,16 +5,15 @@ use Prim.Native.Nat.{◌+◌, ◌-◌, ◌≤◌}
 use native.Mathlib.Omega.{arith}
 use Rattle.index.specs.Index.{begins, most_places}
 use Rattle.paths.proofs.Passing.{Passing, passing-first, passing-none, passing-offered, passing-more, passing-found}
-use Rattle.walk.proofs.tight.Lts as lts
-use Rattle.walk.proofs.tight.Reads as reads
 use Rattle.walk.proofs.tight.Goals as goal
+use Rattle.walk.proofs.tight.Goals.{At-loop-p, Start}
 
 -- the function's entry, seen from a turn
-abbrev entry : lts.At-loop reads.Pre reads.Post goal.the-invariant-loop-p goal.the-decreases-loop-p → lts.Start reads.Pre reads.Post goal.the-invariant-loop-p goal.the-decreases-loop-p
+abbrev entry : At-loop-p → Start
 entry c = c.before.before.before.before.before.before.before.before
 
 -- the places of v end within the index
-ends : (c : lts.At-loop reads.Pre reads.Post goal.the-invariant-loop-p goal.the-decreases-loop-p) → begins (entry c).args.out.now ((entry c).args.v + 1) ≤ most_places
+ends : (c : At-loop-p) → begins (entry c).args.out.now ((entry c).args.v + 1) ≤ most_places
 ends c = (entry c).requires.index.arcs.within (entry c).args.v (entry c).requires.node
 
 pub offset_bounds-dist-v : goal.offset_bounds-dist-v

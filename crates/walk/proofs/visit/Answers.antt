@@ -8,25 +8,24 @@ use Rattle.bounds.specs.Bounds.{most_nodes}
 use Rattle.packed.specs.Packed.{net_in}
 use Rattle.packed.proofs.Columns.{arcs-is}
 use Rattle.paths.proofs.Collecting.{visits-none, Collecting, collecting-first, collecting-end, collecting-room, collecting-arc, collecting-node, collecting-more}
-use Rattle.walk.proofs.visit.Lts as lts
-use Rattle.walk.proofs.visit.Reads as reads
 use Rattle.walk.proofs.visit.Goals as goal
+use Rattle.walk.proofs.visit.Goals.{After-beyond-to, After-enter-used, At-loop-i, In-loop-i, Start}
 
 -- the function's entry, seen from behind the first call; that, seen from a turn
-abbrev entry : lts.After-enter reads.Pre reads.Post goal.the-invariant-loop-i goal.the-decreases-loop-i → lts.Start reads.Pre reads.Post goal.the-invariant-loop-i goal.the-decreases-loop-i
+abbrev entry : After-enter-used → Start
 entry c = c.before.before.before.before.before.before.before
 
-abbrev first : lts.At-loop reads.Pre reads.Post goal.the-invariant-loop-i goal.the-decreases-loop-i → lts.After-enter reads.Pre reads.Post goal.the-invariant-loop-i goal.the-decreases-loop-i
+abbrev first : At-loop-i → After-enter-used
 first c = c.before.before.before
 
 -- there is room in the table
-within : (s : lts.Start reads.Pre reads.Post goal.the-invariant-loop-i goal.the-decreases-loop-i) → s.args.arcs ≤ length s.args.path.now
+within : (s : Start) → s.args.arcs ≤ length s.args.path.now
 within s = omega (arith, s.requires.few, s.requires.room)
 
-room : (c : lts.At-loop reads.Pre reads.Post goal.the-invariant-loop-i goal.the-decreases-loop-i) → 2 * most_nodes ≤ length c.loop-i.path
+room : (c : At-loop-i) → 2 * most_nodes ≤ length c.loop-i.path
 room c = omega (arith, (entry (first c)).requires.room, (first c).enter-used.auto.1.1.1.1.1.0, c.loop-i.invariant.1)
 
-fits : (c : lts.At-loop reads.Pre reads.Post goal.the-invariant-loop-i goal.the-decreases-loop-i) → (entry (first c)).args.arcs ≤ length c.loop-i.path
+fits : (c : At-loop-i) → (entry (first c)).args.arcs ≤ length c.loop-i.path
 fits c = omega (arith, room c, (entry (first c)).requires.few)
 
 pub returns-then-s : goal.returns-then-s
@@ -58,10 +57,10 @@ beyond-to-requires c =
     record { packed = p.packed; arc = omega (arith, arcs-is p.packed, collecting-arc t.before.loop-i.invariant.0 p.ends (fits t.before) t.loop-i-test.true) }
 
 -- the turn, seen from behind the call of `beyond`
-abbrev turn : lts.After-beyond reads.Pre reads.Post goal.the-invariant-loop-i goal.the-decreases-loop-i → goal.In-loop-i
+abbrev turn : After-beyond-to → In-loop-i
 turn c = c.before.before
 
-place : (c : goal.In-loop-i) → c.before.loop-i.used < length c.before.loop-i.path
+place : (c : In-loop-i) → c.before.loop-i.used < length c.before.loop-i.path
 place c = collecting-room c.before.loop-i.invariant.0 (entry (first c.before)).requires.few (room c.before) c.loop-i-test.true
 
 pub enter-used-requires-in-loop-i : goal.enter-used-requires-in-loop-i

@@ -7,28 +7,27 @@ use lib.ListN.{length, get_or}
 use Rattle.packed.specs.Packed.{net_in}
 use Rattle.paths.specs.Tight.{Tight}
 use Rattle.paths.proofs.Walking.{Walking, walking_start, walking-few, walking-end, walking_on, walking-stuck, walking-step, next-nearer}
-use Rattle.walk.proofs.walk.Lts as lts
-use Rattle.walk.proofs.walk.Reads as reads
 use Rattle.walk.proofs.walk.Goals as goal
+use Rattle.walk.proofs.walk.Goals.{After-tight-p, At-loop-v, Else-p-out, Start}
 
 -- the function's entry, seen from a turn; the turn, seen from behind the search for its arc; and that, where there is an arc
-abbrev entry : lts.At-loop reads.Pre reads.Post goal.the-invariant-loop-v goal.the-decreases-loop-v → lts.Start reads.Pre reads.Post goal.the-invariant-loop-v goal.the-decreases-loop-v
+abbrev entry : At-loop-v → Start
 entry c = c.before.before.before.before.before.before
 
-abbrev turn : goal.After-tight-p → lts.At-loop reads.Pre reads.Post goal.the-invariant-loop-v goal.the-decreases-loop-v
+abbrev turn : After-tight-p → At-loop-v
 turn c = c.before.before
 
-abbrev sought : goal.Else-p-out → goal.After-tight-p
+abbrev sought : Else-p-out → After-tight-p
 sought c = c.before.before
 
 -- the arc
 tight :
-    (c : goal.Else-p-out) →
+    (c : Else-p-out) →
     let e = (entry (turn (sought c))).args in
     Tight (net_in e.s e.net.now) e.out.now e.lengths.now e.dist.now (turn (sought c)).loop-v.v (sought c).tight-p.result
 tight c = (sought c).tight-p.ensures.found (omega (arith, c.if-p-out.false))
 
-place : (c : goal.Else-p-out) → (turn (sought c)).loop-v.k < length (turn (sought c)).loop-v.path
+place : (c : Else-p-out) → (turn (sought c)).loop-v.k < length (turn (sought c)).loop-v.path
 place c =
     let t = turn (sought c) in
     omega (arith, walking-few (entry t).requires t.loop-v.invariant, t.loop-v.invariant.whole, (entry t).requires.places)

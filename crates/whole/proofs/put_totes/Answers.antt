@@ -12,15 +12,14 @@ use Rattle.numbers.proofs.Columns.{member_below}
 use Rattle.whole.specs.Read.{leaves_in, sent_in}
 use Rattle.whole.specs.Whole.{parted}
 use Rattle.whole.proofs.Parted.{parted-more}
-use Rattle.whole.proofs.put_totes.Lts as lts
-use Rattle.whole.proofs.put_totes.Reads as reads
 use Rattle.whole.proofs.put_totes.Goals as goal
+use Rattle.whole.proofs.put_totes.Goals.{After-items-k, After-leaves, After-read-source, At-loop-i, In-loop-i, Start}
 
 -- from the loop to the function's entry
-abbrev sizes-at : lts.At-loop reads.Pre reads.Post goal.the-invariant-loop-i goal.the-decreases-loop-i → goal.After-items-k
+abbrev sizes-at : At-loop-i → After-items-k
 sizes-at c = c.before.before.before
 
-abbrev entry : goal.After-items-k → lts.Start reads.Pre reads.Post goal.the-invariant-loop-i goal.the-decreases-loop-i
+abbrev entry : After-items-k → Start
 entry c = c.before.before.before.before.before.before.before
 
 pub loop-i-init : goal.loop-i-init
@@ -28,8 +27,8 @@ unfolding written encode parted
 loop-i-init c = (search rules, refl, refl)
 
 -- pair i, and where its numbers are
-module _ (c : goal.In-loop-i) where
-  abbrev first : lts.Start reads.Pre reads.Post goal.the-invariant-loop-i goal.the-decreases-loop-i
+module _ (c : In-loop-i) where
+  abbrev first : Start
   first = entry (sizes-at c.before)
 
   inside : c.before.loop-i.i < items 2 first.args.pairs.now
@@ -42,11 +41,11 @@ module _ (c : goal.In-loop-i) where
   row = omega (arith, first.requires.rows, mul-le-mul_right (items 4 first.args.belts.now) inside)
 
 -- its amounts' place, in the numbers that were read
-row_at : (c : goal.After-read-source) → c.before.before.loop-i.i * (sizes-at c.before.before).before.items-m.result ≡ c.before.before.loop-i.i * items 4 (first c.before).args.belts.now
+row_at : (c : After-read-source) → c.before.before.loop-i.i * (sizes-at c.before.before).before.items-m.result ≡ c.before.before.loop-i.i * items 4 (first c.before).args.belts.now
 row_at c = ap (λ m. c.before.before.loop-i.i * m) (sizes-at c.before.before).before.items-m.ensures
 
 leaves_of :
-    (c : goal.After-read-source) →
+    (c : After-read-source) →
     let s = first c.before in
     leaves_in s.args.belts.now s.args.flow.now (c.before.before.loop-i.i * (sizes-at c.before.before).before.items-m.result) c.read-source.result ≡
     sent_in s.args.belts.now s.args.pairs.now s.args.flow.now c.before.before.loop-i.i
@@ -54,7 +53,7 @@ leaves_of c = let s = first c.before in ap₂ (leaves_in s.args.belts.now s.args
 
 -- what leaves its source
 sent_is :
-    (c : goal.After-leaves) →
+    (c : After-leaves) →
     let s = first c.before.before in
     c.leaves.result ≡ sent_in s.args.belts.now s.args.pairs.now s.args.flow.now c.before.before.before.loop-i.i
 sent_is c = c.leaves.ensures ∙ leaves_of c.before

@@ -15,52 +15,51 @@ use Rattle.call.specs.Host.{Slices, verdict_in, Hosted}
 use Rattle.call.proofs.ReadBack.{taken-up, answered, turned_down, had-room}
 use Rattle.whole.specs.Whole.{lacks}
 use Rattle.whole.proofs.Reading.{totes-are, readable}
-use Rattle.whole.proofs.solve.Lts as lts
-use Rattle.whole.proofs.solve.Reads as reads
 use Rattle.whole.proofs.solve.Goals as goal
+use Rattle.whole.proofs.solve.Goals.{After-items, After-slice_known-9-1, After-solve-result, Start, Then-result-eq0}
 
 -- the network and the slices at entry
-abbrev net : lts.Start reads.Pre reads.Post → Network
+abbrev net : Start → Network
 net s = network_in s.args.n s.args.belts.now s.args.pairs.now s.args.limits.now
 
-abbrev lent : lts.Start reads.Pre reads.Post → Slices
+abbrev lent : Start → Slices
 lent s = slices s.args.flow.now s.args.lengths.now s.args.answer.now s.args.counts.now
 
 -- from each call back to the one before it, and from the first to the function's entry
-abbrev items_at : lts.After-solve reads.Pre reads.Post → goal.After-items
+abbrev items_at : After-solve-result → After-items
 items_at c = c.before.before.before.before.before
 
-abbrev first : goal.After-items → lts.Start reads.Pre reads.Post
+abbrev first : After-items → Start
 first c = c.before.before.before.before.before.before.before.before.before.before.before
 
-abbrev entry : lts.After-solve reads.Pre reads.Post → lts.Start reads.Pre reads.Post
+abbrev entry : After-solve-result → Start
 entry c = first (items_at c)
 
-abbrev solve-at : lts.After-slice_known9 reads.Pre reads.Post → lts.After-solve reads.Pre reads.Post
+abbrev solve-at : After-slice_known-9-1 → After-solve-result
 solve-at c = c.before.before.before.before.before.before.before.before
 
 -- what the shared call has left
-abbrev left : lts.After-solve reads.Pre reads.Post → Slices
+abbrev left : After-solve-result → Slices
 left c =
     let t = c.solve-result.new.1.1.1.1.1.1 in
     slices t.0 t.1.0 t.1.1.0 t.1.1.1.0
 
 -- the table of totes is too small, as the code and as the contract say it
-lacking : (c : lts.After-solve reads.Pre reads.Post) → ltb (items_at c).before.count.result (2 * (items_at c).items.result) ≡ lacks (net (entry c)) (entry c).args.totes.now
+lacking : (c : After-solve-result) → ltb (items_at c).before.count.result (2 * (items_at c).items.result) ≡ lacks (net (entry c)) (entry c).args.totes.now
 lacking c =
     let s = entry c in
     ap₂ ltb (items_at c).before.count.ensures
     (ap (λ k. 2 * k) ((items_at c).items.ensures ∙ sym (commodities-in s.args.n s.args.belts.now s.args.pairs.now s.args.limits.now)))
 
 hosted :
-    (c : lts.After-solve reads.Pre reads.Post) →
+    (c : After-solve-result) →
     let s = entry c in
     Hosted (lacks (net s) s.args.totes.now) s.args.n s.args.q s.args.office s.args.belts.now s.args.pairs.now s.args.limits.now (lent s)
     (left c) c.solve-result.result
 hosted c = rw (← lacking c) c.solve-result.ensures
 
 accepted :
-    (c : lts.Then1 reads.Pre reads.Post) →
+    (c : Then-result-eq0) →
     let s = entry (solve-at c.before) in
     verdict_in (lacks (net s) s.args.totes.now) (net s) s.args.q s.args.office (lent s) ≡ Accepted
 accepted c = answered (hosted (solve-at c.before)) c.if-result-eq0.true

@@ -13,24 +13,23 @@ use Rattle.network.specs.Verdict.{verdict, loose, outside, arc_conditions}
 use Rattle.network.proofs.Bounds.{loose-of}
 use Rattle.network.proofs.First.{decides, passes, none_left}
 use Rattle.network.proofs.Search.{found, search-all, search-ends, search-stops, search-goes-on}
-use Rattle.checks.proofs.items.check_arcs.Lts as lts
-use Rattle.checks.proofs.items.check_arcs.Reads as reads
 use Rattle.checks.proofs.items.check_arcs.Goals as goal
+use Rattle.checks.proofs.items.check_arcs.Goals.{After-loose, After-outside, At-loop-e}
 
 -- the network, and the present arc's two tests as the definition has them
-abbrev net : lts.At-loop reads.Pre reads.Post goal.the-invariant-loop-e goal.the-decreases-loop-e → Network
+abbrev net : At-loop-e → Network
 net c =
     let args = c.before.before.before.before.args in
     of_arcs args.n args.tails.now args.heads.now args.capacities.now
 
-abbrev turn : lts.After-loose reads.Pre reads.Post goal.the-invariant-loop-e goal.the-decreases-loop-e → lts.At-loop reads.Pre reads.Post goal.the-invariant-loop-e goal.the-decreases-loop-e
+abbrev turn : After-loose → At-loop-e
 turn c = c.before.before.before.before
 
-loose-tested : (c : lts.After-loose reads.Pre reads.Post goal.the-invariant-loop-e goal.the-decreases-loop-e) →
+loose-tested : (c : After-loose) →
     c.loose.result ≡ loose (net (turn c)).nodes (tail (net (turn c)) (turn c).loop-e.e) (head (net (turn c)) (turn c).loop-e.e)
 loose-tested c = loose-of _ c.loose.ensures c.before.before.at.ensures c.before.at-in-loop-e.ensures
 
-capacity-tested : (c : lts.After-outside reads.Pre reads.Post goal.the-invariant-loop-e goal.the-decreases-loop-e) →
+capacity-tested : (c : After-outside) →
     c.outside.result ≡ outside 1 most_capacity (capacity (net (turn c.before.before.before)) (turn c.before.before.before).loop-e.e)
 capacity-tested c = c.outside.ensures ∙ ap (outside 1 most_capacity) c.before.at-in-loop-e-2.ensures
 

@@ -12,20 +12,19 @@ use Rattle.network.specs.Verdict.{verdict, loose, commodity_conditions}
 use Rattle.network.proofs.Bounds.{loose-of}
 use Rattle.network.proofs.First.{decides, passes, none_left}
 use Rattle.network.proofs.Search.{found, search-all, search-ends, search-stops, search-goes-on}
-use Rattle.checks.proofs.items.check_commodities.Lts as lts
-use Rattle.checks.proofs.items.check_commodities.Reads as reads
 use Rattle.checks.proofs.items.check_commodities.Goals as goal
+use Rattle.checks.proofs.items.check_commodities.Goals.{After-loose, At-loop-i}
 
 -- the network, and the present commodity's test as the definition has it
-abbrev net : lts.At-loop reads.Pre reads.Post goal.the-invariant-loop-i goal.the-decreases-loop-i → Network
+abbrev net : At-loop-i → Network
 net c =
     let args = c.before.before.before.args in
     of_commodities args.n args.sources.now args.sinks.now
 
-abbrev turn : lts.After-loose reads.Pre reads.Post goal.the-invariant-loop-i goal.the-decreases-loop-i → lts.At-loop reads.Pre reads.Post goal.the-invariant-loop-i goal.the-decreases-loop-i
+abbrev turn : After-loose → At-loop-i
 turn c = c.before.before.before.before
 
-loose-tested : (c : lts.After-loose reads.Pre reads.Post goal.the-invariant-loop-i goal.the-decreases-loop-i) →
+loose-tested : (c : After-loose) →
     c.loose.result ≡ loose (net (turn c)).nodes (source (net (turn c)) (turn c).loop-i.i) (sink (net (turn c)) (turn c).loop-i.i)
 loose-tested c = loose-of _ c.loose.ensures c.before.before.at.ensures c.before.at-in-loop-i.ensures
 

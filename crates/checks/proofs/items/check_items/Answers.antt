@@ -10,21 +10,20 @@ use Rattle.network.proofs.First.{refused-first, accepted-first}
 use Rattle.network.proofs.Limits.{limits-given}
 use Rattle.packed.specs.Packed.{net_in}
 use Rattle.packed.proofs.Columns.{limits-length}
-use Rattle.checks.proofs.items.check_items.Lts as lts
-use Rattle.checks.proofs.items.check_items.Reads as reads
 use Rattle.checks.proofs.items.check_items.Goals as goal
+use Rattle.checks.proofs.items.check_items.Goals.{After-check_arcs-arcs, After-check_limits-limits, Start}
 
-abbrev arcs-at : lts.After-check_limits reads.Pre reads.Post → lts.After-check_arcs reads.Pre reads.Post
+abbrev arcs-at : After-check_limits-limits → After-check_arcs-arcs
 arcs-at c = c.before.before.before.before
 
-abbrev entry : lts.After-check_limits reads.Pre reads.Post → lts.Start reads.Pre reads.Post
+abbrev entry : After-check_limits-limits → Start
 entry c = (arcs-at c).before.before.before.before.before
 
-abbrev net : lts.After-check_limits reads.Pre reads.Post → Network
+abbrev net : After-check_limits-limits → Network
 net c = net_in (entry c).args.s (entry c).args.net.now
 
 -- the limits that are given say what those of all nodes do
-limits-checked : (c : lts.After-check_limits reads.Pre reads.Post) → c.check_limits-limits.result ≡ verdict (flat (limit_conditions (net c)) (up_to (net c).nodes))
+limits-checked : (c : After-check_limits-limits) → c.check_limits-limits.result ≡ verdict (flat (limit_conditions (net c)) (up_to (net c).nodes))
 unfolding net_in limit_conditions
 limits-checked c =
     let p = (entry c).requires in

@@ -14,15 +14,14 @@ use Rattle.network.specs.Parts.{of_limits}
 use Rattle.network.specs.Verdict.{verdict, limit_conditions}
 use Rattle.network.proofs.First.{decides, passes, none_left}
 use Rattle.network.proofs.Search.{found, search-all, search-ends, search-stops, search-goes-on}
-use Rattle.checks.proofs.items.check_limits.Lts as lts
-use Rattle.checks.proofs.items.check_limits.Reads as reads
 use Rattle.checks.proofs.items.check_limits.Goals as goal
+use Rattle.checks.proofs.items.check_limits.Goals.{At-loop-v}
 
 -- the present limit, and its test as the definition has it
-abbrev present : lts.At-loop reads.Pre reads.Post goal.the-invariant-loop-v goal.the-decreases-loop-v → ℕ
+abbrev present : At-loop-v → ℕ
 present c = get_or c.before.before.args.limits.now c.loop-v.v 0
 
-abbrev large : lts.At-loop reads.Pre reads.Post goal.the-invariant-loop-v goal.the-decreases-loop-v → Bool
+abbrev large : At-loop-v → Bool
 large c = ltb most_capacity (present c)
 
 pub loop-v-init : goal.loop-v-init

@@ -6,12 +6,11 @@ use mathlib.Core.Logic.{⊎_elim}
 use borrow.Author.Rules.{rules}
 use Rattle.network.specs.Verdict.{outside, loose}
 use Rattle.network.proofs.Or.{or-stop, or-on}
-use Rattle.checks.proofs.items.loose.Lts as lts
-use Rattle.checks.proofs.items.loose.Reads as reads
 use Rattle.checks.proofs.items.loose.Goals as goal
+use Rattle.checks.proofs.items.loose.Goals.{Joined-outside}
 
 -- the first two tests, where their ways meet
-ends : (c : lts.Joined1 reads.Pre reads.Post) →
+ends : (c : Joined-outside) →
     c.if-outside.value ≡ outside 1 c.before.before.args.n c.before.before.args.a || outside 1 c.before.before.args.n c.before.before.args.b
 ends c =
     ⊎_elim

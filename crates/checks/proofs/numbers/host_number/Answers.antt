@@ -5,12 +5,11 @@ use Prim.Native.Nat.{◌+◌, ◌*◌}
 use native.Mathlib.Omega.{arith}
 use borrow.Author.Rules.{rules}
 use Rattle.network.specs.Refusal.{host_number}
-use Rattle.checks.proofs.numbers.host_number.Lts as lts
-use Rattle.checks.proofs.numbers.host_number.Reads as reads
 use Rattle.checks.proofs.numbers.host_number.Goals as goal
+use Rattle.checks.proofs.numbers.host_number.Goals.{After-refusal_code-c}
 
 -- the number of the verdict, by its code
-numbered : (c : lts.After-refusal_code reads.Pre reads.Post) → c.refusal_code-c.result.number * 1000 + c.refusal_code-c.result.place ≡ host_number c.before.before.before.before.args.v
+numbered : (c : After-refusal_code-c) → c.refusal_code-c.result.number * 1000 + c.refusal_code-c.result.place ≡ host_number c.before.before.before.before.args.v
 numbered c = rw (c.refusal_code-c.ensures, c.before.before.in-Refused.is) refl
 
 pub overflow_mul-result : goal.overflow_mul-result

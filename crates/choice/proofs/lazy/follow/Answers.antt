@@ -17,73 +17,72 @@ use Rattle.paths.proofs.NodeLengths.{through-is, node-small}
 use Rattle.memory.specs.Memory.{page_from, distances_in, bounds_in, Page}
 use Rattle.memory.specs.Raised.{told_by, length_by}
 use Rattle.choice.proofs.Looks.{followed-walk, followed-none}
-use Rattle.choice.proofs.lazy.follow.Lts as lts
-use Rattle.choice.proofs.lazy.follow.Reads as reads
 use Rattle.choice.proofs.lazy.follow.Goals as goal
+use Rattle.choice.proofs.lazy.follow.Goals.{After-dist-1, After-out-1, After-told, Start}
 
 -- the function's entry, seen from where the ends are read, and from behind the calls
-abbrev entry : goal.After-out-1 → lts.Start reads.Pre reads.Post
+abbrev entry : After-out-1 → Start
 entry c = c.before.before.before.before.before.before
 
-abbrev first : goal.After-dist-1 → lts.Start reads.Pre reads.Post
+abbrev first : After-dist-1 → Start
 first c = entry c.before.before.before
 
-abbrev net : lts.Start reads.Pre reads.Post → Network
+abbrev net : Start → Network
 net s = net_in s.args.s s.args.net.now
 
-abbrev out : lts.Start reads.Pre reads.Post → List ℕ
+abbrev out : Start → List ℕ
 out s = part index_numbers index_numbers s.args.indexes.now
 
-abbrev dist : lts.Start reads.Pre reads.Post → List ℕ
+abbrev dist : Start → List ℕ
 dist s = distances_in (sink (net s) s.args.i) s.args.memory.now
 
 -- the commodity has ends, which are nodes,
-among : (s : lts.Start reads.Pre reads.Post) → s.args.i < s.args.s.commodities
+among : (s : Start) → s.args.i < s.args.s.commodities
 among s = omega (arith, s.requires.known.least.among, commodities-is s.requires.packed)
 
-few : (s : lts.Start reads.Pre reads.Post) → s.args.i < most_commodities
+few : (s : Start) → s.args.i < most_commodities
 few s = omega (arith, among s, s.requires.packed.few-commodities)
 
-from : (s : lts.Start reads.Pre reads.Post) → get_or s.args.net.now (sources_from + s.args.i) 0 ≡ source (net s) s.args.i
+from : (s : Start) → get_or s.args.net.now (sources_from + s.args.i) 0 ≡ source (net s) s.args.i
 unfolding net_in
 from s = sym (part_at sources_from s.args.s.commodities s.args.net.now s.args.i (among s))
 
-to : (s : lts.Start reads.Pre reads.Post) → get_or s.args.net.now (sinks_from + s.args.i) 0 ≡ sink (net s) s.args.i
+to : (s : Start) → get_or s.args.net.now (sinks_from + s.args.i) 0 ≡ sink (net s) s.args.i
 unfolding net_in
 to s = sym (part_at sinks_from s.args.s.commodities s.args.net.now s.args.i (among s))
 
-source-few : (s : lts.Start reads.Pre reads.Post) → source (net s) s.args.i ≤ most_nodes
+source-few : (s : Start) → source (net s) s.args.i ≤ most_nodes
 source-few s = omega (arith, s.requires.survey.fit.ends.sources s.args.i s.requires.known.least.among, s.requires.survey.few)
 
-sink-few : (s : lts.Start reads.Pre reads.Post) → sink (net s) s.args.i ≤ most_nodes
+sink-few : (s : Start) → sink (net s) s.args.i ≤ most_nodes
 sink-few s = omega (arith, s.requires.survey.fit.ends.sinks s.args.i s.requires.known.least.among, s.requires.survey.few)
 
-sink-read : (s : lts.Start reads.Pre reads.Post) → get_or s.args.net.now (sinks_from + s.args.i) 0 ≤ most_nodes
+sink-read : (s : Start) → get_or s.args.net.now (sinks_from + s.args.i) 0 ≤ most_nodes
 sink-read s = omega (arith, to s, sink-few s)
 
 -- and the sink a page
-page : (s : lts.Start reads.Pre reads.Post) → Page (net s) s.args.lengths.now s.args.memory.now (sink (net s) s.args.i)
+page : (s : Start) → Page (net s) s.args.lengths.now s.args.memory.now (sink (net s) s.args.i)
 page s = s.requires.known.pages (sink (net s) s.args.i) (s.requires.survey.fit.ends.sinks s.args.i s.requires.known.least.among)
 
-size : (s : lts.Start reads.Pre reads.Post) → length (dist s) ≡ distance_numbers
+size : (s : Start) → length (dist s) ≡ distance_numbers
 size s =
     part_length (page_from (sink (net s) s.args.i)) distance_numbers s.args.memory.now (omega (arith, sink-few s, s.requires.known.places))
 
 -- the length of its source is read by the index, and is small
-own : (s : lts.Start reads.Pre reads.Post) → through (out s) s.args.lengths.now (source (net s) s.args.i) ≡ node_length (net s) s.args.lengths.now (source (net s) s.args.i)
+own : (s : Start) → through (out s) s.args.lengths.now (source (net s) s.args.i) ≡ node_length (net s) s.args.lengths.now (source (net s) s.args.i)
 own s =
     through-is (net s) s.args.lengths.now (out s) s.requires.indexed.out.places s.requires.survey.fit.lengths (source (net s) s.args.i)
     (s.requires.survey.fit.ends.sources s.args.i s.requires.known.least.among).1
 
 -- what is told is the length by the page, and the bound is read
-tells : (c : goal.After-told) → let s = first c.before in c.told.result ≡ length_by (net s) s.args.lengths.now (dist s) s.args.i
+tells : (c : After-told) → let s = first c.before in c.told.result ≡ length_by (net s) s.args.lengths.now (dist s) s.args.i
 tells c =
     let s = first c.before in
     let told : c.told.result ≡ told_by (through (out s) s.args.lengths.now) (dist s) (source (net s) s.args.i) (sink (net s) s.args.i) =
     rw (← from s, ← to s) c.told.ensures in
     omega (arith, told, own s, (page s).feasible.sink)
 
-bound : (s : lts.Start reads.Pre reads.Post) → get_or s.args.memory.now (0 + s.args.i) 0 ≡ get_or (bounds_in s.args.s s.args.memory.now) s.args.i 0
+bound : (s : Start) → get_or s.args.memory.now (0 + s.args.i) 0 ≡ get_or (bounds_in s.args.s s.args.memory.now) s.args.i 0
 bound s = sym (part_at 0 s.args.s.commodities s.args.memory.now s.args.i (among s))
 
 pub told-requires : goal.told-requires

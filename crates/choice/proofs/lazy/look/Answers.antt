@@ -13,34 +13,33 @@ use Rattle.paths.specs.Order.{page_numbers}
 use Rattle.paths.proofs.NodeLengths.{through-is, node-small}
 use Rattle.memory.specs.Memory.{page_from, page_in}
 use Rattle.choice.proofs.Looks.{looked}
-use Rattle.choice.proofs.lazy.look.Lts as lts
-use Rattle.choice.proofs.lazy.look.Reads as reads
 use Rattle.choice.proofs.lazy.look.Goals as goal
+use Rattle.choice.proofs.lazy.look.Goals.{After-distances, After-raise, After-slice_known-1, Start}
 
 -- the function's entry, seen from the calls; and the network
-abbrev entry : goal.After-slice_known-1 → lts.Start reads.Pre reads.Post
+abbrev entry : After-slice_known-1 → Start
 entry c = c.before.before.before.before
 
-abbrev first : lts.After-distances reads.Pre reads.Post → lts.Start reads.Pre reads.Post
+abbrev first : After-distances → Start
 first c = entry c.before.before
 
-abbrev searched : lts.After-raise reads.Pre reads.Post → lts.After-distances reads.Pre reads.Post
+abbrev searched : After-raise → After-distances
 searched c = c.before.before.before.before
 
-abbrev net : lts.Start reads.Pre reads.Post → Network
+abbrev net : Start → Network
 net s = net_in s.args.s s.args.net.now
 
 -- the sink is a node, and has a page in the memory
-node : (s : lts.Start reads.Pre reads.Post) → Node (net s) s.args.t
+node : (s : Start) → Node (net s) s.args.t
 node s = rw s.requires.to (s.requires.survey.fit.ends.sinks s.args.i s.requires.known.least.among)
 
-few : (s : lts.Start reads.Pre reads.Post) → s.args.t ≤ most_nodes
+few : (s : Start) → s.args.t ≤ most_nodes
 few s = omega (arith, node s, s.requires.survey.few)
 
-page : (s : lts.Start reads.Pre reads.Post) → length (page_in s.args.t s.args.memory.now) ≡ page_numbers
+page : (s : Start) → length (page_in s.args.t s.args.memory.now) ≡ page_numbers
 page s = part_length (page_from s.args.t) page_numbers s.args.memory.now (omega (arith, few s, s.requires.known.places))
 
-size : (c : lts.After-distances reads.Pre reads.Post) → length c.distances.new.1.1.1.1.1.0 ≡ page_numbers
+size : (c : After-distances) → length c.distances.new.1.1.1.1.1.0 ≡ page_numbers
 size c = c.distances.auto.1.1.1.1.1.0 ∙ page (first c)
 
 pub distances-requires : goal.distances-requires

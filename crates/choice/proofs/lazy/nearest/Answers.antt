@@ -15,35 +15,34 @@ use Rattle.memory.specs.Memory.{bounds_in, least_at, distances_in, Known}
 use Rattle.choice.specs.Looked.{Looked, Followed}
 use Rattle.choice.proofs.Slack.{slack}
 use Rattle.choice.proofs.Turns.{turn-falls, turn-noted}
-use Rattle.choice.proofs.lazy.nearest.Lts as lts
-use Rattle.choice.proofs.lazy.nearest.Reads as reads
 use Rattle.choice.proofs.lazy.nearest.Goals as goal
+use Rattle.choice.proofs.lazy.nearest.Goals.{After-follow-arcs, After-look-i, At-loop-s, Else-arcs-gt0, Joined-then-arcs-gt0, Start}
 
 -- the function's entry, seen from a turn; from each call back to the one before it; and the network
-abbrev entry : goal.At-loop-s → lts.Start reads.Pre reads.Post goal.the-invariant-loop-s goal.the-decreases-loop-s
+abbrev entry : At-loop-s → Start
 entry c = c.before.before.before.before.before.before.before
 
-abbrev turn : lts.After-look reads.Pre reads.Post goal.the-invariant-loop-s goal.the-decreases-loop-s → goal.At-loop-s
+abbrev turn : After-look-i → At-loop-s
 turn c = c.before.before.before.before
 
-abbrev looked-at : lts.After-follow reads.Pre reads.Post goal.the-invariant-loop-s goal.the-decreases-loop-s → lts.After-look reads.Pre reads.Post goal.the-invariant-loop-s goal.the-decreases-loop-s
+abbrev looked-at : After-follow-arcs → After-look-i
 looked-at c = c.before.before.before.before.before
 
-abbrev begun : lts.After-look reads.Pre reads.Post goal.the-invariant-loop-s goal.the-decreases-loop-s → lts.Start reads.Pre reads.Post goal.the-invariant-loop-s goal.the-decreases-loop-s
+abbrev begun : After-look-i → Start
 begun c = entry (turn c)
 
-abbrev net : lts.Start reads.Pre reads.Post goal.the-invariant-loop-s goal.the-decreases-loop-s → Network
+abbrev net : Start → Network
 net s = net_in s.args.s s.args.net.now
 
 -- the memory behind the search, and the path behind the walk
-abbrev memory-at : lts.After-look reads.Pre reads.Post goal.the-invariant-loop-s goal.the-decreases-loop-s → List ℕ
+abbrev memory-at : After-look-i → List ℕ
 memory-at c = c.look-i.new.1.1.1.1.1.1.0
 
-abbrev path-at : lts.After-follow reads.Pre reads.Post goal.the-invariant-loop-s goal.the-decreases-loop-s → List ℕ
+abbrev path-at : After-follow-arcs → List ℕ
 path-at c = c.follow-arcs.new.1.1.1.1.1.1.0
 
 -- a commodity is one of few, and its sink is read
-module _ (s : lts.Start reads.Pre reads.Post goal.the-invariant-loop-s goal.the-decreases-loop-s) {i : ℕ} (b : i < commodities (net s)) where
+module _ (s : Start) {i : ℕ} (b : i < commodities (net s)) where
   few : i < most_commodities
   few = omega (arith, commodities-is s.requires.packed, s.requires.packed.few-commodities)
 
@@ -54,25 +53,25 @@ module _ (s : lts.Start reads.Pre reads.Post goal.the-invariant-loop-s goal.the-
   unfolding net_in
   to = sym (part_at sinks_from s.args.s.commodities s.args.net.now i (omega (arith, commodities-is s.requires.packed)))
 
-among : (c : goal.At-loop-s) → c.loop-s.i < commodities (net (entry c))
+among : (c : At-loop-s) → c.loop-s.i < commodities (net (entry c))
 among c = c.loop-s.invariant.0.least.among
 
 -- what the search and the walk have found
-looks : (c : lts.After-look reads.Pre reads.Post goal.the-invariant-loop-s goal.the-decreases-loop-s) → let s = begun c in
+looks : (c : After-look-i) → let s = begun c in
     Looked s.args.s (net s) s.args.lengths.now (sink (net s) (turn c).loop-s.i) (turn c).loop-s.memory (memory-at c) c.look-i.result
 looks c = rw (← to (begun c) (among (turn c))) c.look-i.ensures
 
-follows : (c : lts.After-follow reads.Pre reads.Post goal.the-invariant-loop-s goal.the-decreases-loop-s) → let l = looked-at c in let s = begun l in let j = l.look-i.result in
+follows : (c : After-follow-arcs) → let l = looked-at c in let s = begun l in let j = l.look-i.result in
     Followed (net s) s.args.lengths.now (bounds_in s.args.s (memory-at l)) (distances_in (sink (net s) j) (memory-at l)) j (path-at c) c.follow-arcs.result
 follows c = c.follow-arcs.ensures
 
-chosen : (c : lts.After-look reads.Pre reads.Post goal.the-invariant-loop-s goal.the-decreases-loop-s) → c.look-i.result < commodities (net (begun c))
+chosen : (c : After-look-i) → c.look-i.result < commodities (net (begun c))
 chosen c = (looks c).known.least.among
 
-numbers : (c : lts.After-look reads.Pre reads.Post goal.the-invariant-loop-s goal.the-decreases-loop-s) → length (memory-at c) ≡ length (begun c).args.memory.now
+numbers : (c : After-look-i) → length (memory-at c) ≡ length (begun c).args.memory.now
 numbers c = c.look-i.auto.1.1.1.1.1.1.0 ∙ (turn c).loop-s.invariant.1.0
 
-paths : (c : lts.After-follow reads.Pre reads.Post goal.the-invariant-loop-s goal.the-decreases-loop-s) → length (path-at c) ≡ length (begun (looked-at c)).args.path.now
+paths : (c : After-follow-arcs) → length (path-at c) ≡ length (begun (looked-at c)).args.path.now
 paths c = c.follow-arcs.auto.1.1.1.1.1.1.0 ∙ (turn (looked-at c)).loop-s.invariant.1.1
 
 pub look-i-requires : goal.look-i-requires
@@ -100,10 +99,10 @@ follow-arcs-requires c =
     }
 
 -- the walk and the search, seen from where the turn is left and from where it is not
-abbrev left_at : goal.Joined-then-arcs-gt0 → lts.After-follow reads.Pre reads.Post goal.the-invariant-loop-s goal.the-decreases-loop-s
+abbrev left_at : Joined-then-arcs-gt0 → After-follow-arcs
 left_at c = c.before.before.before
 
-abbrev again-at : goal.Else-arcs-gt0 → lts.After-follow reads.Pre reads.Post goal.the-invariant-loop-s goal.the-decreases-loop-s
+abbrev again-at : Else-arcs-gt0 → After-follow-arcs
 again-at c = c.before.before.before
 
 pub loop-s-smaller : goal.loop-s-smaller
@@ -126,7 +125,7 @@ pub shape_of-memory : goal.shape_of-memory
 shape_of-memory c = let l = looked-at (left_at c) in length-set (memory-at l) least_at l.look-i.result ∙ numbers l
 
 -- the walk has arrived, or the sink is the one searched
-ended : (c : goal.Joined-then-arcs-gt0) → let f = left_at c in let l = looked-at f in
+ended : (c : Joined-then-arcs-gt0) → let f = left_at c in let l = looked-at f in
     (1 ≤ f.follow-arcs.result) ⊎ (sink (net (begun l)) l.look-i.result ≡ sink (net (begun l)) (turn l).loop-s.i)
 ended c =
     let l = looked-at (left_at c) in

@@ -8,12 +8,11 @@ use Rattle.network.specs.declared.Refusal.TheVariants.{Nodes, Arcs}
 use Rattle.dimacs.specs.Progress.{begun}
 use Rattle.dimacs.specs.Reading.{opening}
 use Rattle.dimacs.proofs.Stages.{turned_down, nodes-outside, arcs-outside, opened}
-use Rattle.dimacs.proofs.reader.begin.Lts as lts
-use Rattle.dimacs.proofs.reader.begin.Reads as reads
 use Rattle.dimacs.proofs.reader.begin.Goals as goal
+use Rattle.dimacs.proofs.reader.begin.Goals.{After-outside, After-outside-in-Problem}
 
 -- the p line, and its two tests as the definition has them
-abbrev nodes-at : lts.After-outside2 reads.Pre reads.Post → lts.After-outside reads.Pre reads.Post
+abbrev nodes-at : After-outside-in-Problem → After-outside
 nodes-at c = c.before.before
 
 pub returns-then-outside : goal.returns-then-outside

@@ -7,15 +7,14 @@ use Rattle.network.proofs.Sizes.{sizes-kept}
 use Rattle.call.specs.Deliver.{slices}
 use Rattle.call.specs.Host.{Slices, host_conditions}
 use Rattle.call.proofs.Hosts.{room}
-use Rattle.host.proofs.room.check_call.Lts as lts
-use Rattle.host.proofs.room.check_call.Reads as reads
 use Rattle.host.proofs.room.check_call.Goals as goal
+use Rattle.host.proofs.room.check_call.Goals.{After-check_sizes-sizes, Start}
 
 -- from the sizes' verdict to the function's entry
-abbrev entry : lts.After-check_sizes reads.Pre reads.Post → lts.Start reads.Pre reads.Post
+abbrev entry : After-check_sizes-sizes → Start
 entry c = c.before.before.before.before.before
 
-abbrev lent : lts.Start reads.Pre reads.Post → Slices
+abbrev lent : Start → Slices
 lent s = slices s.args.flow.now s.args.lengths.now s.args.answer.now s.args.counts.now
 
 pub returns-in-Refused : goal.returns-in-Refused

@@ -10,14 +10,13 @@ use Rattle.network.proofs.Bounds.{within}
 use Rattle.network.proofs.First.{decides, passes, none_left}
 use Rattle.call.specs.Host.{count_of, office_conditions}
 use Rattle.call.proofs.Hosts.{no-office}
-use Rattle.host.proofs.room.check_office.Lts as lts
-use Rattle.host.proofs.room.check_office.Reads as reads
 use Rattle.host.proofs.room.check_office.Goals as goal
+use Rattle.host.proofs.room.check_office.Goals.{Else-outside, Start}
 
-abbrev entry : goal.Else-outside → lts.Start reads.Pre reads.Post
+abbrev entry : Else-outside → Start
 entry c = c.before.before.before
 
-an-office : (c : goal.Else-outside) → Within 1 offices (entry c).args.office
+an-office : (c : Else-outside) → Within 1 offices (entry c).args.office
 an-office c = within _ _ _ (sym c.before.outside.ensures ∙ c.if-outside.false)
 
 pub overflow_sub-place : goal.overflow_sub-place

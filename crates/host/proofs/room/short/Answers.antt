@@ -9,25 +9,24 @@ use native.Mathlib.Omega.{arith}
 use Rattle.bounds.specs.Bounds.{answer_numbers}
 use Rattle.numbers.specs.Numbers.{count}
 use Rattle.call.specs.Host.{short}
-use Rattle.host.proofs.room.short.Lts as lts
-use Rattle.host.proofs.room.short.Reads as reads
 use Rattle.host.proofs.room.short.Goals as goal
+use Rattle.host.proofs.room.short.Goals.{After-count, Else-count-k, Else-count-r, Start}
 
 -- from the first table's count to the function's entry
-abbrev entry : goal.After-count → lts.Start reads.Pre reads.Post
+abbrev entry : After-count → Start
 entry c = c.before.before.before.before.before.before
 
 pub overflow_mul-k : goal.overflow_mul-k
 overflow_mul-k c = let p = (entry c).requires in omega (arith, mul-le-mul p.0 p.1)
 
 -- none of its own lacks, and each table where it has room
-owns : (c : goal.After-count) → (entry c).args.lacking ≡ false
+owns : (c : After-count) → (entry c).args.lacking ≡ false
 owns c = c.before.if-lacking.false
 
-flows : (c : goal.Else-count-k) → (entry c.before).args.k * (entry c.before).args.m ≤ count (entry c.before).args.flow.now
+flows : (c : Else-count-k) → (entry c.before).args.k * (entry c.before).args.m ≤ count (entry c.before).args.flow.now
 flows c = omega (arith, c.before.count.ensures, c.if-count-k.false)
 
-lengths : (c : goal.Else-count-r) → (entry c.before.before.before).args.r ≤ count (entry c.before.before.before).args.lengths.now
+lengths : (c : Else-count-r) → (entry c.before.before.before).args.r ≤ count (entry c.before.before.before).args.lengths.now
 lengths c = omega (arith, c.before.count-2.ensures, c.if-count-r.false)
 
 pub returns-then-lacking : goal.returns-then-lacking

@@ -11,38 +11,37 @@ use Rattle.packed.specs.Packed.{net_in, Packed}
 use Rattle.call.specs.Deliver.{slices}
 use Rattle.call.specs.Host.{Slices}
 use Rattle.call.proofs.Judged.{fits, lends, judged-of, served-refused, served-accepted}
-use Rattle.host.proofs.serve.serve_in.Lts as lts
-use Rattle.host.proofs.serve.serve_in.Reads as reads
 use Rattle.host.proofs.serve.serve_in.Goals as goal
+use Rattle.host.proofs.serve.serve_in.Goals.{After-check_items-v, After-decode, After-deliver, After-slice_known-10-1, In_default, Start}
 
 -- from each call back to the one before it, and from the first to the function's entry
-abbrev entry : lts.After-decode reads.Pre reads.Post → lts.Start reads.Pre reads.Post
+abbrev entry : After-decode → Start
 entry c = c.before.before.before.before.before.before.before.before.before.before
 
-abbrev decode-at : lts.After-check_items reads.Pre reads.Post → lts.After-decode reads.Pre reads.Post
+abbrev decode-at : After-check_items-v → After-decode
 decode-at c = c.before.before.before.before
 
-abbrev told_at : lts.After-deliver reads.Pre reads.Post → lts.After-enum_told2 reads.Pre reads.Post
+abbrev told_at : After-deliver → In_default
 told_at c = c.before.before.before.before.before.before
 
-abbrev deliver-at : goal.After-slice_known-10-1 → lts.After-deliver reads.Pre reads.Post
+abbrev deliver-at : After-slice_known-10-1 → After-deliver
 deliver-at c = c.before.before.before.before.before.before.before.before
 
 -- the slices at entry
-abbrev lent : lts.Start reads.Pre reads.Post → Slices
+abbrev lent : Start → Slices
 lent s = slices s.args.flow.now s.args.lengths.now s.args.answer.now s.args.running.now
 
 -- the network as it was read
-abbrev net : lts.After-decode reads.Pre reads.Post → Network
+abbrev net : After-decode → Network
 net c = net_in (entry c).args.s c.decode.new.1.1.1.1.0
 
-packs : (c : lts.After-decode reads.Pre reads.Post) → Packed (entry c).args.s c.decode.new.1.1.1.1.0
+packs : (c : After-decode) → Packed (entry c).args.s c.decode.new.1.1.1.1.0
 packs c =
     let p = (entry c).requires.places in
     record { few-nodes = p.few-nodes; few-limits = p.few-limits; few-arcs = p.few-arcs; few-commodities = p.few-commodities; places = omega (arith, p.places, c.decode.auto.1.1.1.1.0) }
 
 -- its resources are those that the shape counts
-counted : (c : lts.After-decode reads.Pre reads.Post) → (entry c).args.s.resources ≡ resources (net c)
+counted : (c : After-decode) → (entry c).args.s.resources ≡ resources (net c)
 counted c = (entry c).requires.sizes.shaped.counted ∙ ap resources (sym c.decode.ensures)
 
 pub check_items-v-requires : goal.check_items-v-requires
@@ -64,7 +63,7 @@ returns-in-Refused c =
     (served-refused (net d) s.args.q (verdict (item_conditions (net d))) (lent s) c.host_number.result _ _ (sym e ∙ c.before.in-Refused.is) (c.host_number.ensures ∙ ap host_number e))
 
 -- nothing is refused
-accepted : (c : lts.After-enum_told2 reads.Pre reads.Post) → verdict (item_conditions (net (decode-at c.before.before))) ≡ Accepted
+accepted : (c : In_default) → verdict (item_conditions (net (decode-at c.before.before))) ≡ Accepted
 accepted c = sym c.before.before.check_items-v.ensures ∙ c.in_default.is
 
 pub deliver-requires : goal.deliver-requires

@@ -7,11 +7,12 @@ use native.Mathlib.Omega.{arith}
 use Rattle.length.specs.Length.{mark, growth}
 use Rattle.length.proofs.Size.{growth-fits}
 use Rattle.length.proofs.Length.growth.Goals as goal
+use Rattle.length.proofs.Length.growth.Goals.{After-quotient, Start}
 
-dividend : (c : goal.Start) → c.args.self.value * c.args.draw ≤ 2 ^ 40 * 1000
+dividend : (c : Start) → c.args.self.value * c.args.draw ≤ 2 ^ 40 * 1000
 dividend c = mul-le-mul {n₂ = 2 ^ 40} {m₂ = 1000} (omega arith) (omega arith)
 
-divisor : (c : goal.Start) → c.args.q * c.args.capacity ≤ 16 * 1000
+divisor : (c : Start) → c.args.q * c.args.capacity ≤ 16 * 1000
 divisor c = mul-le-mul {n₂ = 16} {m₂ = 1000} (omega arith) (omega arith)
 
 pub overflow_mul-l : goal.overflow_mul-l
@@ -23,7 +24,7 @@ overflow_mul-q c = omega (arith, divisor c)
 pub quotient-requires : goal.quotient-requires
 quotient-requires c = (mul-pos (omega arith) (omega arith), omega (arith, dividend c, divisor c))
 
-grown : (c : goal.After-quotient) → c.before.args.self.value + c.quotient.result
+grown : (c : After-quotient) → c.before.args.self.value + c.quotient.result
     ≡ growth c.before.args.q c.before.args.draw c.before.args.capacity c.before.args.self.value
 unfolding growth
 grown c = ap (λ (x : ℕ). c.before.args.self.value + x) c.quotient.ensures

@@ -11,21 +11,20 @@ use Rattle.lines.specs.Meaning.{word, shaped, given}
 use Rattle.lines.specs.Number.{number_of}
 use Rattle.lines.specs.Pieces.{words_of}
 use Rattle.lines.proofs.Meant.{arc-by, number_is}
-use Rattle.lines.proofs.kinds.arc.Lts as lts
-use Rattle.lines.proofs.kinds.arc.Reads as reads
 use Rattle.lines.proofs.kinds.arc.Goals as goal
+use Rattle.lines.proofs.kinds.arc.Goals.{Else-not-shaped, In-Given, In-Given-number_at, Start}
 
 -- the words of the line, and what was found of them on the way
-abbrev words : lts.Start reads.Pre reads.Post → List (List ℕ)
+abbrev words : Start → List (List ℕ)
 words c = words_of c.args.line.now
 
-fit : (c : goal.Else-not-shaped) → shaped 4 (words c.before.before.before) ≡ true
+fit : (c : Else-not-shaped) → shaped 4 (words c.before.before.before) ≡ true
 fit c = sym c.before.shaped.ensures ∙ not-false _ c.if-not-shaped.false-raw
 
-tail-read : (c : goal.In-Given) → number_of (word (words c.before.before.before.before.before.before.before) 1) ≡ some c.before.in-Given.u
+tail-read : (c : In-Given) → number_of (word (words c.before.before.before.before.before.before.before) 1) ≡ some c.before.in-Given.u
 tail-read c = number_is c.before.before.before.number_at.ensures c.before.in-Given.is
 
-head_read : (c : goal.In-Given-number_at) → number_of (word (words c.before.before.before.before.before.before.before.before.before.before.before) 2) ≡ some c.before.in-Given-number_at.v
+head_read : (c : In-Given-number_at) → number_of (word (words c.before.before.before.before.before.before.before.before.before.before.before) 2) ≡ some c.before.in-Given-number_at.v
 head_read c = number_is c.before.before.before.number_at-2.ensures c.before.in-Given-number_at.is
 
 pub returns-then-not-shaped : goal.returns-then-not-shaped

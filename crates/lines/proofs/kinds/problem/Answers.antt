@@ -12,24 +12,23 @@ use Rattle.lines.specs.Meaning.{word, shaped, given}
 use Rattle.lines.specs.Number.{number_of}
 use Rattle.lines.specs.Pieces.{words_of}
 use Rattle.lines.proofs.Meant.{problem-by, number_is}
-use Rattle.lines.proofs.kinds.problem.Lts as lts
-use Rattle.lines.proofs.kinds.problem.Reads as reads
 use Rattle.lines.proofs.kinds.problem.Goals as goal
+use Rattle.lines.proofs.kinds.problem.Goals.{Else-not-says_max, Else-not-shaped, In-Given, Start}
 
 is-max : {w v : List ℕ} {r t : Bool} → w ≡ v → r ≡ same w (109 ∷ 97 ∷ 120 ∷ []) → r ≡ t → same v (109 ∷ 97 ∷ 120 ∷ []) ≡ t
 is-max e s h = rw e at (sym s) ∙ h
 
 -- the words of the line, and what was found of them on the way
-abbrev words : lts.Start reads.Pre reads.Post → List (List ℕ)
+abbrev words : Start → List (List ℕ)
 words c = words_of c.args.line.now
 
-fit : (c : goal.Else-not-shaped) → shaped 4 (words c.before.before.before) ≡ true
+fit : (c : Else-not-shaped) → shaped 4 (words c.before.before.before) ≡ true
 fit c = sym c.before.shaped.ensures ∙ not-false _ c.if-not-shaped.false-raw
 
-max-read : (c : goal.Else-not-says_max) → same (word (words c.before.before.before.before.before.before) 1) (109 ∷ 97 ∷ 120 ∷ []) ≡ true
+max-read : (c : Else-not-says_max) → same (word (words c.before.before.before.before.before.before) 1) (109 ∷ 97 ∷ 120 ∷ []) ≡ true
 max-read c = is-max c.before.before.word.ensures c.before.says_max.ensures (not-false _ c.if-not-says_max.false-raw)
 
-nodes-read : (c : goal.In-Given) → number_of (word (words c.before.before.before.before.before.before.before.before.before.before) 2) ≡ some c.before.in-Given.n
+nodes-read : (c : In-Given) → number_of (word (words c.before.before.before.before.before.before.before.before.before.before) 2) ≡ some c.before.in-Given.n
 nodes-read c = number_is c.before.before.before.number_at.ensures c.before.in-Given.is
 
 pub returns-then-not-shaped : goal.returns-then-not-shaped

@@ -7,25 +7,24 @@ use Rattle.packed.proofs.Columns.{part_length}
 use Rattle.paths.specs.Order.{page_numbers, LinedUp}
 use Rattle.memory.specs.Memory.{page_from, page_in}
 use Rattle.memory.proofs.Forgets.{Paged, paged-none, paged-more}
-use Rattle.memory.proofs.pages.begin.Lts as lts
-use Rattle.memory.proofs.pages.begin.Reads as reads
 use Rattle.memory.proofs.pages.begin.Goals as goal
+use Rattle.memory.proofs.pages.begin.Goals.{After-line_up, In-loop-t, Start}
 
 pub loop-t-init : goal.loop-t-init
 loop-t-init c = paged-none _ _
 
 -- the function's entry, seen from a turn; and the turn, seen from behind the call of `line_up`
-abbrev entry : goal.In-loop-t → lts.Start reads.Pre reads.Post goal.the-invariant-loop-t goal.the-decreases-loop-t
+abbrev entry : In-loop-t → Start
 entry c = c.before.before.before
 
-abbrev turn : lts.After-line_up reads.Pre reads.Post goal.the-invariant-loop-t goal.the-decreases-loop-t → goal.In-loop-t
+abbrev turn : After-line_up → In-loop-t
 turn c = c.before.before
 
 -- there is room for the page of t
-room : (c : goal.In-loop-t) → page_from c.before.loop-t.t + page_numbers ≤ length c.before.loop-t.memory
+room : (c : In-loop-t) → page_from c.before.loop-t.t + page_numbers ≤ length c.before.loop-t.memory
 room c = omega (arith, (entry c).requires, c.loop-t-test.true, c.before.loop-t.invariant.size)
 
-size : (c : goal.In-loop-t) → length (page_in c.before.loop-t.t c.before.loop-t.memory) ≡ page_numbers
+size : (c : In-loop-t) → length (page_in c.before.loop-t.t c.before.loop-t.memory) ≡ page_numbers
 size c = part_length (page_from c.before.loop-t.t) page_numbers c.before.loop-t.memory (room c)
 
 pub slice_bounds-line_up-end : goal.slice_bounds-line_up-end

@@ -1,12 +1,11 @@
 -- `memory::pages::forget` meets its contract. Assumes nothing.
 use borrow.Author.Rules.{rules}
 use Rattle.memory.proofs.Forgets.{forgotten-all}
-use Rattle.memory.proofs.pages.forget.Lts as lts
-use Rattle.memory.proofs.pages.forget.Reads as reads
 use Rattle.memory.proofs.pages.forget.Goals as goal
+use Rattle.memory.proofs.pages.forget.Goals.{After-clear_pages, After-fill}
 
 -- from the second call back to the first
-abbrev fill-at : lts.After-clear_pages reads.Pre reads.Post → lts.After-fill reads.Pre reads.Post
+abbrev fill-at : After-clear_pages → After-fill
 fill-at c = c.before.before.before.before
 
 pub returns : goal.returns

@@ -13,10 +13,9 @@ use Rattle.memory.specs.Memory.{memory_numbers, bounds_in}
 use Rattle.memory.specs.Raised.{Raising, RaisedAt, RaisedIn, AllRaised}
 use Rattle.memory.proofs.Leasts.{least_first, least-less, least_other, least-same}
 use Rattle.memory.proofs.Raises.{raised-in-none, raised-in-more, raised-in-bound, raised-in-other}
-use Rattle.memory.proofs.raise.raise.Lts as lts
-use Rattle.memory.proofs.raise.raise.Reads as reads
 use Rattle.memory.proofs.raise.raise.Invariants.{Passed}
 use Rattle.memory.proofs.raise.raise.Goals as goal
+use Rattle.memory.proofs.raise.raise.Goals.{After-raise_at-bound, After-slice_known-in-loop-i-1, At-loop-i, In-loop-i, Start}
 
 module _ {s : Shape} {net ix l : List ℕ} {t : ℕ} {old : List ℕ} (few : s.commodities ≤ most_commodities) (places : memory_numbers ≤ length old) where
   module _ {mid : List ℕ} {i b : ℕ} (P : Passed s net ix l t old mid i b) (among : i < s.commodities) where
@@ -66,19 +65,19 @@ module _ {s : Shape} {net ix l : List ℕ} {t : ℕ} {old : List ℕ} (few : s.c
       }
 
 -- the function's entry, seen from a turn; and the turn, seen from behind the raising
-abbrev entry : lts.At-loop reads.Pre reads.Post goal.the-invariant-loop-i goal.the-decreases-loop-i → lts.Start reads.Pre reads.Post goal.the-invariant-loop-i goal.the-decreases-loop-i
+abbrev entry : At-loop-i → Start
 entry c = c.before.before.before.before.before
 
-abbrev turn : lts.After-raise_at reads.Pre reads.Post goal.the-invariant-loop-i goal.the-decreases-loop-i → lts.In-loop reads.Pre reads.Post goal.the-invariant-loop-i goal.the-decreases-loop-i
+abbrev turn : After-raise_at-bound → In-loop-i
 turn c = c.before.before
 
-abbrev raised_at : goal.After-slice_known-in-loop-i-1 → lts.After-raise_at reads.Pre reads.Post goal.the-invariant-loop-i goal.the-decreases-loop-i
+abbrev raised_at : After-slice_known-in-loop-i-1 → After-raise_at-bound
 raised_at c = c.before.before
 
-few-of : (s : lts.Start reads.Pre reads.Post goal.the-invariant-loop-i goal.the-decreases-loop-i) → s.args.s.commodities ≤ most_commodities
+few-of : (s : Start) → s.args.s.commodities ≤ most_commodities
 few-of s = s.requires.raising.packed.few-commodities
 
-b-few : (c : lts.In-loop reads.Pre reads.Post goal.the-invariant-loop-i goal.the-decreases-loop-i) → c.before.loop-i.b < most_commodities
+b-few : (c : In-loop-i) → c.before.loop-i.b < most_commodities
 b-few c =
     let s = entry c.before in
     omega (arith, leader (few-of s) s.requires.raising.places c.before.loop-i.invariant c.loop-i-test.true, few-of s)
@@ -103,13 +102,13 @@ raise_at-bound-requires c =
     )
 
 -- the memory behind the raising has as many numbers, and the leader's bound is read in it
-abbrev memory-at : lts.After-raise_at reads.Pre reads.Post goal.the-invariant-loop-i goal.the-decreases-loop-i → List ℕ
+abbrev memory-at : After-raise_at-bound → List ℕ
 memory-at c = c.raise_at-bound.new.1.1.1.1.1.1.0
 
-numbers : (c : lts.After-raise_at reads.Pre reads.Post goal.the-invariant-loop-i goal.the-decreases-loop-i) → length (memory-at c) ≡ length (entry (turn c).before).args.memory.now
+numbers : (c : After-raise_at-bound) → length (memory-at c) ≡ length (entry (turn c).before).args.memory.now
 numbers c = c.raise_at-bound.auto.1.1.1.1.1.1.0 ∙ (turn c).before.loop-i.invariant.raised.numbers
 
-read : (c : lts.After-raise_at reads.Pre reads.Post goal.the-invariant-loop-i goal.the-decreases-loop-i) → let b = (turn c).before.loop-i.b in
+read : (c : After-raise_at-bound) → let b = (turn c).before.loop-i.b in
     get_or (memory-at c) (0 + b) 0 ≡ get_or (bounds_in (entry (turn c).before).args.s (memory-at c)) b 0
 read c =
     let s = entry (turn c).before in

@@ -13,26 +13,25 @@ use Rattle.paths.specs.Order.{distance_numbers}
 use Rattle.paths.specs.Through.{through}
 use Rattle.memory.specs.Memory.{page_from, distances_in}
 use Rattle.memory.specs.Raised.{told_by, Greater}
-use Rattle.memory.proofs.raise.raise_at.Lts as lts
-use Rattle.memory.proofs.raise.raise_at.Reads as reads
 use Rattle.memory.proofs.raise.raise_at.Goals as goal
+use Rattle.memory.proofs.raise.raise_at.Goals.{After-shared_slice_known-5-1, After-told-x, Start}
 
 -- the function's entry, seen from behind the reading of the ends, and from behind the call of `told`
-abbrev entry : goal.After-shared_slice_known-5-1 → lts.Start reads.Pre reads.Post
+abbrev entry : After-shared_slice_known-5-1 → Start
 entry c = c.before.before.before.before.before.before.before.before
 
-abbrev first : goal.After-told-x → lts.Start reads.Pre reads.Post
+abbrev first : After-told-x → Start
 first c = entry c.before
 
-few : (s : lts.Start reads.Pre reads.Post) → s.args.i < most_commodities
+few : (s : Start) → s.args.i < most_commodities
 few s = omega (arith, s.requires.among, s.requires.raising.packed.few-commodities)
 
 -- the two ends, as they are read
-from : (s : lts.Start reads.Pre reads.Post) → get_or s.args.net.now (sources_from + s.args.i) 0 ≡ source (net_in s.args.s s.args.net.now) s.args.i
+from : (s : Start) → get_or s.args.net.now (sources_from + s.args.i) 0 ≡ source (net_in s.args.s s.args.net.now) s.args.i
 unfolding net_in
 from s = sym (part_at sources_from s.args.s.commodities s.args.net.now s.args.i s.requires.among)
 
-to : (s : lts.Start reads.Pre reads.Post) → get_or s.args.net.now (sinks_from + s.args.i) 0 ≡ sink (net_in s.args.s s.args.net.now) s.args.i
+to : (s : Start) → get_or s.args.net.now (sinks_from + s.args.i) 0 ≡ sink (net_in s.args.s s.args.net.now) s.args.i
 unfolding net_in
 to s = sym (part_at sinks_from s.args.s.commodities s.args.net.now s.args.i s.requires.among)
 
@@ -50,7 +49,7 @@ told-x-requires c =
     }
 
 -- what is told, of the commodity's own ends
-tells : (c : goal.After-told-x) → let s = first c in let n = net_in s.args.s s.args.net.now in
+tells : (c : After-told-x) → let s = first c in let n = net_in s.args.s s.args.net.now in
     c.told-x.result ≡
     told_by (through s.args.ix.now s.args.lengths.now) (distances_in s.args.t s.args.memory.now) (source n s.args.i) (sink n s.args.i)
 tells c = rw (← from (first c), ← to (first c)) c.told-x.ensures

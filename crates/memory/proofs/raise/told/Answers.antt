@@ -1,12 +1,11 @@
 -- `memory::raise::told` meets its contract: where the first entry is the less, nothing is left of the difference. Assumes nothing.
 use mathlib.Core.Path.{◌≡◌}
 use native.Mathlib.Omega.{arith}
-use Rattle.memory.proofs.raise.told.Lts as lts
-use Rattle.memory.proofs.raise.told.Reads as reads
 use Rattle.memory.proofs.raise.told.Goals as goal
+use Rattle.memory.proofs.raise.told.Goals.{After-through-own, Start}
 
 -- the function's entry, seen from behind the reading of the entries
-abbrev entry : goal.After-through-own → lts.Start reads.Pre reads.Post
+abbrev entry : After-through-own → Start
 entry c = c.before.before.before.before
 
 pub through-own-requires : goal.through-own-requires

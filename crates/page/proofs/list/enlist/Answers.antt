@@ -8,13 +8,14 @@ use borrow.Author.Rules.{rules}
 use Rattle.paths.proofs.Enlisting.{met-came, met-stayed}
 use Rattle.paths.proofs.Worklists.{worklist-within}
 use Rattle.page.proofs.list.enlist.Goals as goal
+use Rattle.page.proofs.list.enlist.Goals.{Joined-come, Start}
 
 -- the function's entry
-abbrev entry : goal.Joined-come → goal.Start
+abbrev entry : Joined-come → Start
 entry c = c.before.before
 
 -- the flag that is written is 0 or 1, and no less than the one that was there
-rises : (c : goal.Joined-come) → let was = get_or (entry c).args.listed.now (entry c).args.v 0 in (was ≤ c.if-come.flag) × (c.if-come.flag ≤ 1)
+rises : (c : Joined-come) → let was = get_or (entry c).args.listed.now (entry c).args.v 0 in (was ≤ c.if-come.flag) × (c.if-come.flag ≤ 1)
 rises c =
     let s = entry c in
     let was = s.requires.worklist.flags s.args.v s.requires.node.1 in

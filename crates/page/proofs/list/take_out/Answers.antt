@@ -7,11 +7,12 @@ use borrow.Author.Rules.{rules}
 use Rattle.paths.specs.Order.{order_from, node_at}
 use Rattle.paths.proofs.TakingOut.{taken_out}
 use Rattle.page.proofs.list.take_out.Goals as goal
+use Rattle.page.proofs.list.take_out.Goals.{Start}
 
-place : (s : goal.Start) → order_from + s.args.at < length s.args.page.now
+place : (s : Start) → order_from + s.args.at < length s.args.page.now
 place s = omega (arith, s.requires.arranged.room, s.requires.waits.place)
 
-flag : (s : goal.Start) → node_at s.args.page.now s.args.at < length s.args.listed.now
+flag : (s : Start) → node_at s.args.page.now s.args.at < length s.args.listed.now
 flag s = omega (arith, s.requires.arranged.nodes s.args.at s.requires.waits.place, s.requires.worklist.room)
 
 pub overflow_add-v : goal.overflow_add-v

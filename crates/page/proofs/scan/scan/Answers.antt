@@ -10,16 +10,17 @@ use lib.ListN.{length, get_or}
 use borrow.Author.Count.{below_more}
 use Rattle.paths.specs.Order.{order_from, node_at}
 use Rattle.page.proofs.scan.scan.Goals as goal
+use Rattle.page.proofs.scan.scan.Goals.{In-loop-p, Start}
 
 -- the function's entry, seen from a turn
-abbrev entry : goal.In-loop-p → goal.Start
+abbrev entry : In-loop-p → Start
 entry c = c.before.before
 
 -- the place of a turn is on the page, and its node has a flag
-place : (t : goal.In-loop-p) → order_from + t.before.loop-p.p < length (entry t).args.page.now
+place : (t : In-loop-p) → order_from + t.before.loop-p.p < length (entry t).args.page.now
 place t = omega (arith, (entry t).requires.arranged.room, t.loop-p-test.true)
 
-node : (t : goal.In-loop-p) → node_at (entry t).args.page.now t.before.loop-p.p < length (entry t).args.listed.now
+node : (t : In-loop-p) → node_at (entry t).args.page.now t.before.loop-p.p < length (entry t).args.listed.now
 node t = omega (arith, (entry t).requires.arranged.nodes t.before.loop-p.p t.loop-p-test.true, (entry t).requires.room)
 
 positive : (x : ℕ) → (x ≡ 0 → ⊥) → 1 ≤ x

@@ -5,14 +5,13 @@ use borrow.Author.Rules.{rules}
 use Rattle.network.specs.Network.{Network}
 use Rattle.network.specs.Verdict.{verdict, item_conditions}
 use Rattle.records.proofs.Shaped.{packs, completing, copied_is}
-use Rattle.records.proofs.judge.check_copy.Lts as lts
-use Rattle.records.proofs.judge.check_copy.Reads as reads
 use Rattle.records.proofs.judge.check_copy.Goals as goal
+use Rattle.records.proofs.judge.check_copy.Goals.{After-complete, After-shape-s, Start}
 
-abbrev entry : lts.After-shape reads.Pre reads.Post → lts.Start reads.Pre reads.Post
+abbrev entry : After-shape-s → Start
 entry c = c.before.before.before
 
-abbrev shape_at : lts.After-complete reads.Pre reads.Post → lts.After-shape reads.Pre reads.Post
+abbrev shape_at : After-complete → After-shape-s
 shape_at c = c.before.before
 
 pub shape-s-requires : goal.shape-s-requires

@@ -3,14 +3,13 @@ use mathlib.Core.Path.{◌∙◌}
 use native.Mathlib.Omega.{arith}
 use borrow.Author.Rules.{rules}
 use Rattle.records.proofs.Completed.{completed}
-use Rattle.records.proofs.judge.complete.Lts as lts
-use Rattle.records.proofs.judge.complete.Reads as reads
 use Rattle.records.proofs.judge.complete.Goals as goal
+use Rattle.records.proofs.judge.complete.Goals.{After-put_limits, After-put_pairs, Start}
 
-abbrev entry : lts.After-put_limits reads.Pre reads.Post → lts.Start reads.Pre reads.Post
+abbrev entry : After-put_limits → Start
 entry c = c.before.before.before.before.before
 
-abbrev limits-at : lts.After-put_pairs reads.Pre reads.Post → lts.After-put_limits reads.Pre reads.Post
+abbrev limits-at : After-put_pairs → After-put_limits
 limits-at c = c.before.before.before.before
 
 pub put_limits-requires : goal.put_limits-requires

@@ -9,14 +9,13 @@ use Rattle.packed.specs.Packed.{net_in}
 use Rattle.records.specs.Parts.{network_copied}
 use Rattle.records.proofs.Judged.{lends, replied-same}
 use Rattle.records.proofs.Shaped.{checking, packs, completing, copied_is, counted, shape-counts, shape-room}
-use Rattle.records.proofs.judge.deliver.Lts as lts
-use Rattle.records.proofs.judge.deliver.Reads as reads
 use Rattle.records.proofs.judge.deliver.Goals as goal
+use Rattle.records.proofs.judge.deliver.Goals.{After-complete, After-shape-s, Start}
 
-abbrev entry : lts.After-shape reads.Pre reads.Post → lts.Start reads.Pre reads.Post
+abbrev entry : After-shape-s → Start
 entry c = c.before.before.before.before
 
-abbrev shape_at : lts.After-complete reads.Pre reads.Post → lts.After-shape reads.Pre reads.Post
+abbrev shape_at : After-complete → After-shape-s
 shape_at c = c.before.before
 
 pub shape-s-requires : goal.shape-s-requires
@@ -30,7 +29,7 @@ complete-requires c =
     completing s.args.pairs.now s.args.limits.now c.before.shape-s.ensures (checking s.requires.sizes) s.args.arcs (omega (arith, s.good.1.1.1.0))
 
 -- the network in the slice is the call's
-held : (c : lts.After-complete reads.Pre reads.Post) →
+held : (c : After-complete) →
     let s = (entry (shape_at c)).args in
     net_in (shape_at c).shape-s.result c.complete.new.1.1.1.0 ≡ network_copied s.n s.m s.arcs s.pairs.now (take s.n s.limits.now)
 held c =

@@ -8,12 +8,11 @@ use lib.Seq.{length-take-le}
 use borrow.Author.Rules.{rules}
 use Rattle.packed.proofs.Columns.{part_length, arcs-is, commodities-is}
 use Rattle.records.proofs.Judged.{placed, replied-accepted}
-use Rattle.records.proofs.judge.deliver_in.Lts as lts
-use Rattle.records.proofs.judge.deliver_in.Reads as reads
 use Rattle.records.proofs.judge.deliver_in.Goals as goal
+use Rattle.records.proofs.judge.deliver_in.Goals.{After-copy, After-solve-answer, Start}
 
 -- what is lent of each table
-module _ (s : lts.Start reads.Pre reads.Post) where
+module _ (s : Start) where
   abbrev r : ℕ
   r = s.args.s.resources
 
@@ -30,10 +29,10 @@ module _ (s : lts.Start reads.Pre reads.Post) where
   bests = length-take-le _ s.args.lengths.now s.requires.room.for-lengths
 
 -- from the copy back to the solver, and from there to the function's entry
-abbrev entry : lts.After-solve reads.Pre reads.Post → lts.Start reads.Pre reads.Post
+abbrev entry : After-solve-answer → Start
 entry c = c.before.before.before.before.before.before
 
-abbrev solve-at : lts.After-copy reads.Pre reads.Post → lts.After-solve reads.Pre reads.Post
+abbrev solve-at : After-copy → After-solve-answer
 solve-at c = c.before.before.before.before.before.before
 
 pub slice_bounds-solve-end-2 : goal.slice_bounds-solve-end-2
@@ -46,7 +45,7 @@ solve-answer-requires c =
     record { lent = s.requires.lent; flows = rw (commodities-is p, arcs-is p) (flows s); places = omega (arith, length-replicate {A = ℕ} 768 0) }
 
 -- the kept lengths are as many as the resources
-kept-many : (c : lts.After-solve reads.Pre reads.Post) → 512 + r (entry c) ≤ length c.solve-answer.new.1.1.1.1.0
+kept-many : (c : After-solve-answer) → 512 + r (entry c) ≤ length c.solve-answer.new.1.1.1.1.0
 kept-many c = omega (arith, few (entry c), c.solve-answer.auto.1.1.1.1.0, length-replicate {A = ℕ} 768 0)
 
 pub slice_bounds-copy-end-3 : goal.slice_bounds-copy-end-3

@@ -4,11 +4,10 @@ use borrow.Author.Rules.{rules}
 use Rattle.packed.specs.Packed.{limits_from}
 use Rattle.packed.proofs.Columns.{part_length}
 use Rattle.records.proofs.Completed.{limits-room, limits-many, put-limits-length, limited}
-use Rattle.records.proofs.judge.put_limits.Lts as lts
-use Rattle.records.proofs.judge.put_limits.Reads as reads
 use Rattle.records.proofs.judge.put_limits.Goals as goal
+use Rattle.records.proofs.judge.put_limits.Goals.{After-copy-arg-1, Start}
 
-abbrev entry : goal.After-copy-arg-1 → lts.Start reads.Pre reads.Post
+abbrev entry : After-copy-arg-1 → Start
 entry c = c.before.before.before
 
 pub slice_bounds-copy-end : goal.slice_bounds-copy-end

@@ -4,11 +4,10 @@ use native.Mathlib.Omega.{arith}
 use borrow.Author.Rules.{rules}
 use Rattle.packed.proofs.Columns.{part_length}
 use Rattle.records.proofs.Paired.{sinks-column, paired-length, paired}
-use Rattle.records.proofs.judge.put_pairs.Lts as lts
-use Rattle.records.proofs.judge.put_pairs.Reads as reads
 use Rattle.records.proofs.judge.put_pairs.Goals as goal
+use Rattle.records.proofs.judge.put_pairs.Goals.{After-halve, Start}
 
-abbrev entry : lts.After-halve reads.Pre reads.Post → lts.Start reads.Pre reads.Post
+abbrev entry : After-halve → Start
 entry c = c.before.before.before.before
 
 pub halve-requires : goal.halve-requires

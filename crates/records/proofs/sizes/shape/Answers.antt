@@ -4,14 +4,13 @@ use mathlib.Core.Logic.{⊎_elim}
 use native.Mathlib.Omega.{arith}
 use Rattle.network.proofs.Given.{given-most}
 use Rattle.records.specs.Parts.{limits_read}
-use Rattle.records.proofs.sizes.shape.Lts as lts
-use Rattle.records.proofs.sizes.shape.Reads as reads
 use Rattle.records.proofs.sizes.shape.Goals as goal
+use Rattle.records.proofs.sizes.shape.Goals.{Joined-n-all, Start}
 
-abbrev entry : goal.Joined-n-all → lts.Start reads.Pre reads.Post
+abbrev entry : Joined-n-all → Start
 entry c = c.before.before
 
-read : (c : goal.Joined-n-all) → c.if-n-all.c ≡ limits_read (entry c).args.n (entry c).args.limits.now
+read : (c : Joined-n-all) → c.if-n-all.c ≡ limits_read (entry c).args.n (entry c).args.limits.now
 read c = ⊎_elim (λ w. omega (arith, w.0.taken, w.1)) (λ w. omega (arith, w.0.left, w.1)) c.if-n-all.branch
 
 pub count_given-requires : goal.count_given-requires

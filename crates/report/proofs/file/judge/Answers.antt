@@ -6,18 +6,17 @@ use Rattle.report.specs.Listing.{verdict_held}
 use Rattle.report.proofs.Judged.{judged, sound, counted}
 use Rattle.report.proofs.Written.{shown-refused, shown-accepted}
 use borrow.Author.Rules.{rules}
-use Rattle.report.proofs.file.judge.Lts as lts
-use Rattle.report.proofs.file.judge.Reads as reads
 use Rattle.report.proofs.file.judge.Goals as goal
+use Rattle.report.proofs.file.judge.Goals.{After-check_items-items, Start}
 
 -- the network at entry
-abbrev net : (s : lts.Start reads.Pre reads.Post) → Network
+abbrev net : (s : Start) → Network
 net s = net_in s.args.s s.args.net.now
 
-abbrev entry : lts.After-check_items reads.Pre reads.Post → lts.Start reads.Pre reads.Post
+abbrev entry : After-check_items-items → Start
 entry c = c.before.before.before
 
-of-items : (c : lts.After-check_items reads.Pre reads.Post) → verdict_held (net (entry c)) ≡ c.check_items-items.result
+of-items : (c : After-check_items-items) → verdict_held (net (entry c)) ≡ c.check_items-items.result
 of-items c = judged (net (entry c)) (entry c).requires.held ∙ sym c.check_items-items.ensures
 
 pub returns-in-Refused : goal.returns-in-Refused

@@ -12,15 +12,14 @@ use Rattle.rows.specs.Row.{delimited, header}
 use Rattle.report.specs.Shown.{network_of_file}
 use Rattle.report.proofs.Written.{listed-refused, listed-held}
 use borrow.Author.Rules.{rules}
-use Rattle.report.proofs.file.listing.Lts as lts
-use Rattle.report.proofs.file.listing.Reads as reads
 use Rattle.report.proofs.file.listing.Goals as goal
+use Rattle.report.proofs.file.listing.Goals.{After-pack, After-put-at, After-read-file}
 
 -- from each call back to the one before it
-abbrev read_at : lts.After-put reads.Pre reads.Post → lts.After-read reads.Pre reads.Post
+abbrev read_at : After-put-at → After-read-file
 read_at c = c.before.before.before
 
-abbrev put-at : lts.After-pack reads.Pre reads.Post → lts.After-put reads.Pre reads.Post
+abbrev put-at : After-pack → After-put-at
 put-at c = c.before.before.before.before
 
 pub returns-in-Refused : goal.returns-in-Refused
@@ -35,7 +34,7 @@ pack-requires c =
     record { few = w.few; of-tails = w.tails; of-heads = w.heads; of-capacities = w.capacities; places = omega (arith, length-replicate {A = ℕ} net_numbers 0) }
 
 -- the file holds the network that is packed
-held : (c : lts.After-pack reads.Pre reads.Post) → parsed (read_at (put-at c)).before.before.args.text.now ≡ holds (network_of_file (read_at (put-at c)).read-file.result)
+held : (c : After-pack) → parsed (read_at (put-at c)).before.before.args.text.now ≡ holds (network_of_file (read_at (put-at c)).read-file.result)
 held c = accepted-holds _ (read_at (put-at c)).read-file.ensures.result c.before.before.in_default.is
 
 pub judge-requires : goal.judge-requires

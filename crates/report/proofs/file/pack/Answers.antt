@@ -12,12 +12,11 @@ use Rattle.packed.proofs.Columns.{part_length, put-length}
 use Rattle.report.specs.Shown.{shape_of}
 use Rattle.report.proofs.Packing.{sink-place, filled-length, packed-length, packed}
 use borrow.Author.Rules.{rules}
-use Rattle.report.proofs.file.pack.Lts as lts
-use Rattle.report.proofs.file.pack.Reads as reads
 use Rattle.report.proofs.file.pack.Goals as goal
+use Rattle.report.proofs.file.pack.Goals.{After-clear, After-copy, After-copy-2, After-copy-3, Start}
 
 -- the file's columns are as long as its arcs are many
-module _ (s : lts.Start reads.Pre reads.Post) where
+module _ (s : Start) where
   abbrev m : ℕ
   m = s.args.file.arcs
 
@@ -31,32 +30,32 @@ module _ (s : lts.Start reads.Pre reads.Post) where
   capacities-many = length-take-le _ _ (omega (arith, s.requires.few, s.requires.of-capacities))
 
 -- from each copy back to the one before it, and from the first to the function's entry
-abbrev entry : lts.After-copy reads.Pre reads.Post → lts.Start reads.Pre reads.Post
+abbrev entry : After-copy → Start
 entry c = c.before.before.before.before.before
 
-abbrev tails-at : lts.After-copy2 reads.Pre reads.Post → lts.After-copy reads.Pre reads.Post
+abbrev tails-at : After-copy-2 → After-copy
 tails-at c = c.before.before.before.before.before.before
 
-abbrev heads-at : lts.After-copy3 reads.Pre reads.Post → lts.After-copy2 reads.Pre reads.Post
+abbrev heads-at : After-copy-3 → After-copy-2
 heads-at c = c.before.before.before.before.before.before
 
 -- the slice after each
-abbrev tailed : lts.After-copy reads.Pre reads.Post → List ℕ
+abbrev tailed : After-copy → List ℕ
 tailed c = put tails_from (m (entry c)) (entry c).args.net.now c.copy.new.1.0
 
-abbrev headed : lts.After-copy2 reads.Pre reads.Post → List ℕ
+abbrev headed : After-copy-2 → List ℕ
 headed c = put heads_from (m (entry (tails-at c))) (tailed (tails-at c)) c.copy-2.new.1.0
 
-abbrev arced : lts.After-copy3 reads.Pre reads.Post → List ℕ
+abbrev arced : After-copy-3 → List ℕ
 arced c = put capacities_from (m (entry (tails-at (heads-at c)))) (headed (heads-at c)) c.copy-3.new.1.0
 
-tailed-long : (c : lts.After-copy reads.Pre reads.Post) → net_numbers ≤ length (tailed c)
+tailed-long : (c : After-copy) → net_numbers ≤ length (tailed c)
 tailed-long c =
     let s = entry c in
     let e = put-length tails_from (m s) s.args.net.now c.copy.new.1.0 (omega (arith, s.requires.few, s.requires.places)) (ap length c.copy.ensures ∙ tails-many s) in
     omega (arith, e, s.requires.places)
 
-headed-long : (c : lts.After-copy2 reads.Pre reads.Post) → net_numbers ≤ length (headed c)
+headed-long : (c : After-copy-2) → net_numbers ≤ length (headed c)
 headed-long c =
     let t = tails-at c in let s = entry t in
     let e = put-length heads_from (m s) (tailed t) c.copy-2.new.1.0 (omega (arith, s.requires.few, tailed-long t)) (ap length c.copy-2.ensures ∙ heads-many s) in
@@ -94,14 +93,14 @@ bounds-net-800 c =
     f.copy-3.ensures s.args.file.source s.args.file.sink (tails-many s) (heads-many s) (capacities-many s)
 
 -- before the marks: the slice is as long as at first
-room : (f : lts.After-copy3 reads.Pre reads.Post) → let h = heads-at f in let s = entry (tails-at h) in (m s ≤ most_arcs) × (net_numbers ≤ length (set (set (arced f) 768 s.args.file.source) 800 s.args.file.sink))
+room : (f : After-copy-3) → let h = heads-at f in let s = entry (tails-at h) in (m s ≤ most_arcs) × (net_numbers ≤ length (set (set (arced f) 768 s.args.file.source) 800 s.args.file.sink))
 room f =
     let h = heads-at f in let t = tails-at h in let s = entry t in
     let e = filled-length (shape_of s.args.file) s.requires.few s.args.net.now s.requires.places t.copy.ensures h.copy-2.ensures
     f.copy-3.ensures s.args.file.source s.args.file.sink (tails-many s) (heads-many s) (capacities-many s) in
     (s.requires.few, omega (arith, e, s.requires.places))
 
-abbrev copied_at : lts.After-clear reads.Pre reads.Post → lts.After-copy3 reads.Pre reads.Post
+abbrev copied_at : After-clear → After-copy-3
 copied_at c = c.before.before.before.before
 
 pub shape_of-net : goal.shape_of-net

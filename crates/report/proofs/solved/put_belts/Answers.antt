@@ -12,25 +12,24 @@ use Rattle.signed.specs.Signed.{size}
 use Rattle.rows.proofs.Puts.{put-length}
 use Rattle.report.specs.Shown.{belt_of}
 use Rattle.report.proofs.Rowed.{Rowed, none-rowed, one-rowed, all-rowed, belt-length}
-use Rattle.report.proofs.solved.put_belts.Lts as lts
-use Rattle.report.proofs.solved.put_belts.Reads as reads
 use Rattle.report.proofs.solved.put_belts.Goals as goal
+use Rattle.report.proofs.solved.put_belts.Goals.{After-size-arg-1, After-size-load, At-loop-e, In-loop-e, Start}
 
 -- from the loop's beginning to the function's entry, and from behind the reading of an amount to the turn
-abbrev entry : lts.At-loop reads.Pre reads.Post goal.the-invariant-loop-e goal.the-decreases-loop-e → lts.Start reads.Pre reads.Post goal.the-invariant-loop-e goal.the-decreases-loop-e
+abbrev entry : At-loop-e → Start
 entry c = c.before.before.before.before
 
-abbrev turn : goal.After-size-arg-1 → goal.In-loop-e
+abbrev turn : After-size-arg-1 → In-loop-e
 turn c = c.before
 
-abbrev amount : goal.In-loop-e → ℤ
+abbrev amount : In-loop-e → ℤ
 amount c = get_or (entry c.before).args.flow.now c.before.loop-e.e (pos 0)
 
 -- a signed local holds bits, which stand for the amount
-reads : (c : goal.After-size-arg-1) → to_z w64 (of_z w64 (amount (turn c))) ≡ amount (turn c)
+reads : (c : After-size-arg-1) → to_z w64 (of_z w64 (amount (turn c))) ≡ amount (turn c)
 reads c = to_z-of_z w64 (amount (turn c)) (record { sfits = c.size-arg-1.given })
 
-load : (c : lts.After-size reads.Pre reads.Post goal.the-invariant-loop-e goal.the-decreases-loop-e) → c.size-load.result ≡ size (amount (turn c.before))
+load : (c : After-size-load) → c.size-load.result ≡ size (amount (turn c.before))
 load c = c.size-load.ensures ∙ ap (λ x. size x) (reads c.before)
 
 pub loop-e-init : goal.loop-e-init

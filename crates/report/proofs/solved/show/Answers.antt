@@ -8,12 +8,11 @@ use lib.Seq.{length-take-le}
 use borrow.Author.Rules.{rules}
 use Rattle.bounds.specs.Bounds.{most_arcs}
 use Rattle.packed.specs.Packed.{table_numbers}
-use Rattle.report.proofs.solved.show.Lts as lts
-use Rattle.report.proofs.solved.show.Reads as reads
 use Rattle.report.proofs.solved.show.Goals as goal
+use Rattle.report.proofs.solved.show.Goals.{Start}
 
 -- 256 amounts are enough for the arcs
-room : (s : lts.Start reads.Pre reads.Post) → s.args.s.arcs ≤ length (replicate most_arcs (pos 0))
+room : (s : Start) → s.args.s.arcs ≤ length (replicate most_arcs (pos 0))
 room s = omega (arith, s.requires.lent.packed.few-arcs, length-replicate most_arcs (pos 0))
 
 pub slice_bounds-show_in-end : goal.slice_bounds-show_in-end

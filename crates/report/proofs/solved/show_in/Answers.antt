@@ -6,18 +6,17 @@ use Rattle.rows.proofs.Lengths.{answer-length}
 use Rattle.rows.proofs.Puts.{put-within}
 use Rattle.report.proofs.Showing.{one-row, total-small, belted, shown}
 use borrow.Author.Rules.{rules}
-use Rattle.report.proofs.solved.show_in.Lts as lts
-use Rattle.report.proofs.solved.show_in.Reads as reads
 use Rattle.report.proofs.solved.show_in.Goals as goal
+use Rattle.report.proofs.solved.show_in.Goals.{After-put_answer-next, After-put_belts, After-solve-a, Start}
 
 -- from each call back to the one before it, and from the first to the function's entry
-abbrev entry : lts.After-solve reads.Pre reads.Post → lts.Start reads.Pre reads.Post
+abbrev entry : After-solve-a → Start
 entry c = c.before.before.before.before.before.before
 
-abbrev solve-at : lts.After-put_answer reads.Pre reads.Post → lts.After-solve reads.Pre reads.Post
+abbrev solve-at : After-put_answer-next → After-solve-a
 solve-at c = c.before.before.before.before.before
 
-abbrev answer_at : lts.After-put_belts reads.Pre reads.Post → lts.After-put_answer reads.Pre reads.Post
+abbrev answer_at : After-put_belts → After-put_answer-next
 answer_at c = c.before.before.before.before.before.before.before
 
 pub solve-a-requires : goal.solve-a-requires

@@ -7,31 +7,30 @@ use Rattle.rows.specs.Row.{delimited, row}
 use Rattle.rows.proofs.Digits.{decimal-short}
 use Rattle.rows.proofs.Puts.{put_next}
 use borrow.Author.Rules.{rules}
-use Rattle.rows.proofs.rows.put_belt.Lts as lts
-use Rattle.rows.proofs.rows.put_belt.Reads as reads
 use Rattle.rows.proofs.rows.put_belt.Goals as goal
+use Rattle.rows.proofs.rows.put_belt.Goals.{After-put-next, After-put-next-2, After-put-next-3, After-put_fraction, After-put_number-next, After-put_number-next-2, Start}
 
 -- from each call back to the one before it, and from the first to the function's entry
-abbrev entry : lts.After-put reads.Pre reads.Post → lts.Start reads.Pre reads.Post
+abbrev entry : After-put-next → Start
 entry c = c.before.before.before.before
 
-abbrev kind_at : lts.After-put_number reads.Pre reads.Post → lts.After-put reads.Pre reads.Post
+abbrev kind_at : After-put_number-next → After-put-next
 kind_at c = c.before.before.before.before
 
-abbrev tail_at : lts.After-put2 reads.Pre reads.Post → lts.After-put_number reads.Pre reads.Post
+abbrev tail_at : After-put-next-2 → After-put_number-next
 tail_at c = c.before.before.before.before.before
 
-abbrev comma-at : lts.After-put_number2 reads.Pre reads.Post → lts.After-put2 reads.Pre reads.Post
+abbrev comma-at : After-put_number-next-2 → After-put-next-2
 comma-at c = c.before.before.before.before
 
-abbrev head_at : lts.After-put3 reads.Pre reads.Post → lts.After-put_number2 reads.Pre reads.Post
+abbrev head_at : After-put-next-3 → After-put_number-next-2
 head_at c = c.before.before.before.before.before
 
-abbrev last-at : lts.After-put_fraction reads.Pre reads.Post → lts.After-put3 reads.Pre reads.Post
+abbrev last-at : After-put_fraction → After-put-next-3
 last-at c = c.before.before.before.before
 
 -- the two nodes take few digits
-short : (s : lts.Start reads.Pre reads.Post) → length (decimal s.args.tail) + length (decimal s.args.head) ≤ 40
+short : (s : Start) → length (decimal s.args.tail) + length (decimal s.args.head) ≤ 40
 short s = omega (arith, decimal-short s.args.tail, decimal-short s.args.head)
 
 pub put_number-next-requires : goal.put_number-next-requires

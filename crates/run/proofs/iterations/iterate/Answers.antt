@@ -26,18 +26,17 @@ use Rattle.run.proofs.Iterated.{iterated}
 use Rattle.run.proofs.Longer.{memory-next}
 use Rattle.run.proofs.Noted.{kept-ready}
 use Rattle.run.proofs.Ready.{ready}
-use Rattle.run.proofs.iterations.iterate.Lts as lts
-use Rattle.run.proofs.iterations.iterate.Reads as reads
 use Rattle.run.proofs.iterations.iterate.Goals as goal
+use Rattle.run.proofs.iterations.iterate.Goals.{After-choose-c, After-keep, After-step-r, Start}
 
 -- the network and the state at entry
-abbrev net : lts.Start reads.Pre reads.Post → Network
+abbrev net : Start → Network
 net s = net_in s.args.s s.args.net.now
 
-abbrev state : lts.Start reads.Pre reads.Post → State
+abbrev state : Start → State
 state s = state_in s.args.s s.args.flow.now s.args.tables.now s.args.p
 
-reached : (s : lts.Start reads.Pre reads.Post) → Reached (net s) s.args.q (state s)
+reached : (s : Start) → Reached (net s) s.args.q (state s)
 reached s =
     underway-reached (net s) s.args.q s.requires.room.lent.sound s.requires.iterating.chooses (state s) s.requires.iterating.underway
 
@@ -47,27 +46,27 @@ choose-c-requires c =
     choosing s.requires.room (state s) (reached s) refl s.requires.iterating.memory-of
 
 -- the function's entry, seen from behind the search; what was found, and what its path uses
-abbrev entry : lts.After-choose reads.Pre reads.Post → lts.Start reads.Pre reads.Post
+abbrev entry : After-choose-c → Start
 entry c = c.before.before.before.before.before.before.before.before.before.before
 
-abbrev path : lts.After-choose reads.Pre reads.Post → List ℕ
+abbrev path : After-choose-c → List ℕ
 path c = c.choose-c.new.1.1.1.1.1.0
 
-abbrev used : lts.After-choose reads.Pre reads.Post → List ℕ
+abbrev used : After-choose-c → List ℕ
 used c = take c.choose-c.result.used (path c)
 
-abbrev chosen : lts.After-choose reads.Pre reads.Post → Choice
+abbrev chosen : After-choose-c → Choice
 chosen c = chosen_in c.choose-c.result (used c)
 
-picked : (c : lts.After-choose reads.Pre reads.Post) → Picked (net (entry c)) (state (entry c)).lengths c.choose-c.result (path c)
+picked : (c : After-choose-c) → Picked (net (entry c)) (state (entry c)).lengths c.choose-c.result (path c)
 picked c =
     let s = entry c in
     picks (net s) s.requires.iterating.chooses (state s).lengths c.choose-c.result (path c) c.choose-c.ensures.chose
 
-room : (c : lts.After-choose reads.Pre reads.Post) → c.choose-c.result.used ≤ length (path c)
+room : (c : After-choose-c) → c.choose-c.result.used ≤ length (path c)
 room c = omega (arith, (picked c).few-used, c.choose-c.auto.1.1.1.1.1.0, (entry c).requires.room.path)
 
-is-chosen : (c : lts.After-choose reads.Pre reads.Post) → choice (net (entry c)) (state (entry c)).lengths ≡ some (chosen c)
+is-chosen : (c : After-choose-c) → choice (net (entry c)) (state (entry c)).lengths ≡ some (chosen c)
 is-chosen c = selected-chosen (net (entry c)) (state (entry c)).lengths c.choose-c.result (path c) (picked c) (room c)
 
 pub slice_bounds-step-end-2 : goal.slice_bounds-step-end-2
@@ -98,10 +97,10 @@ step-r-requires c =
     }
 
 -- behind the step: the search, and from the end of the function the step
-abbrev choose-at : lts.After-step reads.Pre reads.Post → lts.After-choose reads.Pre reads.Post
+abbrev choose-at : After-step-r → After-choose-c
 choose-at c = c.before.before.before.before.before.before.before.before.before
 
-abbrev step-at : lts.After-keep reads.Pre reads.Post → lts.After-step reads.Pre reads.Post
+abbrev step-at : After-keep → After-step-r
 step-at c = c.before.before.before.before.before
 
 pub keep-requires : goal.keep-requires
@@ -111,7 +110,7 @@ keep-requires c =
     ((entry f).requires.room.lent.packed.few-nodes, f.choose-c.ensures.memory-of.places)
 
 -- what was kept, of the network's nodes
-kept : (c : lts.After-keep reads.Pre reads.Post) → let f = choose-at (step-at c) in let s = entry f in
+kept : (c : After-keep) → let f = choose-at (step-at c) in let s = entry f in
     Kept (step-at c).step-r.result.halved (net s).nodes f.choose-c.last.1.1.1.1.0 c.keep.new.1.1.0
 unfolding net_in
 kept c = c.keep.ensures

@@ -16,12 +16,11 @@ use Rattle.run.proofs.Begun.{begin-noted, begin-running}
 use Rattle.run.proofs.Onward.{onward-less, onward-last, onward-running, onward-noted}
 use Rattle.run.proofs.Running.{left, Running}
 use Rattle.run.proofs.Same.{Same}
-use Rattle.run.proofs.runs.run.Lts as lts
-use Rattle.run.proofs.runs.run.Reads as reads
 use Rattle.run.proofs.runs.run.Goals as goal
+use Rattle.run.proofs.runs.run.Goals.{After-iterate-p, At-loop-p, Else-p, Start, Then-p}
 
 -- the network at entry
-abbrev net : lts.Start reads.Pre reads.Post goal.the-invariant-loop-p goal.the-decreases-loop-p → Network
+abbrev net : Start → Network
 net s = net_in s.args.s s.args.net.now
 
 -- The table of L has a row for this many resources. It has one for this many arcs too, so that a
@@ -47,7 +46,7 @@ loop-p-init c =
     )
 
 -- from the loop's beginning to the function's entry
-abbrev entry : lts.At-loop reads.Pre reads.Post goal.the-invariant-loop-p goal.the-decreases-loop-p → lts.Start reads.Pre reads.Post goal.the-invariant-loop-p goal.the-decreases-loop-p
+abbrev entry : At-loop-p → Start
 entry c = c.before.before.before.before.before.before.before.before
 
 pub iterate-p-requires : goal.iterate-p-requires
@@ -66,21 +65,21 @@ iterate-p-requires c =
     )
 
 -- behind an iteration: the loop's beginning, and the states before and after it
-abbrev turn : lts.After-iterate reads.Pre reads.Post goal.the-invariant-loop-p goal.the-decreases-loop-p → lts.At-loop reads.Pre reads.Post goal.the-invariant-loop-p goal.the-decreases-loop-p
+abbrev turn : After-iterate-p → At-loop-p
 turn c = c.before.before.before.before.before
 
-abbrev old : lts.After-iterate reads.Pre reads.Post goal.the-invariant-loop-p goal.the-decreases-loop-p → State
+abbrev old : After-iterate-p → State
 old c = let l = (turn c).loop-p in state_in (entry (turn c)).args.s l.flow-1 l.tables-1 l.p
 
-abbrev new : lts.After-iterate reads.Pre reads.Post goal.the-invariant-loop-p goal.the-decreases-loop-p → State
+abbrev new : After-iterate-p → State
 new c =
     let l = c.iterate-p.new.1.1.1.1.1 in
     state_in (entry (turn c)).args.s l.0 l.1.0 c.iterate-p.result
 
-iterated : (c : lts.After-iterate reads.Pre reads.Post goal.the-invariant-loop-p goal.the-decreases-loop-p) → let s = entry (turn c) in Iterated (net s) s.args.q (old c) (new c) c.iterate-p.result
+iterated : (c : After-iterate-p) → let s = entry (turn c) in Iterated (net s) s.args.q (old c) (new c) c.iterate-p.result
 iterated c = c.iterate-p.ensures.iterated
 
-sizes : (c : lts.After-iterate reads.Pre reads.Post goal.the-invariant-loop-p goal.the-decreases-loop-p) →
+sizes : (c : After-iterate-p) →
     let z = (entry (turn c)).args in
     let l = c.iterate-p.new.1.1.1.1.1 in
     Same z.flow-1.now z.tables-1.now z.memory-1.now z.path-1.now l.0 l.1.0 l.1.1.0 l.1.1.1.0
@@ -95,10 +94,10 @@ sizes c =
     }
 
 -- the iteration, seen from where the run goes on and from where it ends
-abbrev going-at : goal.Else-p → lts.After-iterate reads.Pre reads.Post goal.the-invariant-loop-p goal.the-decreases-loop-p
+abbrev going-at : Else-p → After-iterate-p
 going-at c = c.before.before.before.before.before.before.before.before
 
-abbrev ended_at : goal.Then-p → lts.After-iterate reads.Pre reads.Post goal.the-invariant-loop-p goal.the-decreases-loop-p
+abbrev ended_at : Then-p → After-iterate-p
 ended_at c = c.before.before.before.before.before.before.before.before
 
 pub loop-p-smaller : goal.loop-p-smaller

@@ -17,23 +17,22 @@ use Rattle.paths.specs.Relax.{Relaxing, Relaxed}
 use Rattle.paths.proofs.Relaxing.{takes-not, taken-relaxed, relaxed-end}
 use Rattle.paths.proofs.Rooms.{relaxing}
 use Rattle.paths.proofs.Spreading.{searching-still, searching-met}
-use Rattle.search.proofs.relax.reach.Lts as lts
-use Rattle.search.proofs.relax.reach.Reads as reads
 use Rattle.search.proofs.relax.reach.Goals as goal
+use Rattle.search.proofs.relax.reach.Goals.{After-passed_by, After-relax-nearer, Start}
 
 -- the function's entry, seen from behind the look before, and that from behind the call of `relax`
-abbrev entry : lts.After-passed_by reads.Pre reads.Post → lts.Start reads.Pre reads.Post
+abbrev entry : After-passed_by → Start
 entry c = c.before.before.before.before.before.before.before.before.before.before
 
-abbrev looked-at : lts.After-relax reads.Pre reads.Post → lts.After-passed_by reads.Pre reads.Post
+abbrev looked-at : After-relax-nearer → After-passed_by
 looked-at c = c.before.before.before
 
 -- the place is in the index, and its arc leads to v
-place : (s : lts.Start reads.Pre reads.Post) → ends_from + s.args.p < length s.args.into.now
+place : (s : Start) → ends_from + s.args.p < length s.args.into.now
 place s = let P = s.requires in omega (arith, P.below, P.index.arcs.within s.args.v P.node, P.index.arcs.numbers)
 
 arc :
-    (s : lts.Start reads.Pre reads.Post) →
+    (s : Start) →
     leads (net_in s.args.s s.args.net.now) (end_at s.args.into.now s.args.p) (arc_at s.args.into.now s.args.p) ≡
     some s.args.v
 arc s =
@@ -59,15 +58,15 @@ pub bounds-into-p-2 : goal.bounds-into-p-2
 bounds-into-p-2 c = place c.before.before.before.before.before.before.before
 
 -- the arc can be crossed, and the way over it is as the definition says
-crossed : (s : lts.Start reads.Pre reads.Post) → let n = net_in s.args.s s.args.net.now in let i = s.args.into.now in
+crossed : (s : Start) → let n = net_in s.args.s s.args.net.now in let i = s.args.into.now in
     Relaxing s.args.lengths.now s.args.dist.now (node_length n s.args.lengths.now s.args.v) (end_at i s.args.p) (arc_at i s.args.p) s.args.v
 crossed s = relaxing _ _ _ s.requires.searching.fit s.requires.searching.labels.capped (arc s)
 
-way : (s : lts.Start reads.Pre reads.Post) → let n = net_in s.args.s s.args.net.now in let i = s.args.into.now in let l = s.args.lengths.now in
+way : (s : Start) → let n = net_in s.args.s s.args.net.now in let i = s.args.into.now in let l = s.args.lengths.now in
     most_nodes * get_or l (arc_at i s.args.p) 0 + s.args.onward ≡ via l s.args.dist.now (node_length n l s.args.v) (arc_at i s.args.p) s.args.v
 way s = omega (arith, s.requires.own)
 
-relaxes : (c : lts.After-relax reads.Pre reads.Post) → let s = entry (looked-at c) in let n = net_in s.args.s s.args.net.now in let i = s.args.into.now in
+relaxes : (c : After-relax-nearer) → let s = entry (looked-at c) in let n = net_in s.args.s s.args.net.now in let i = s.args.into.now in
     Relaxed s.args.lengths.now (node_length n s.args.lengths.now s.args.v) (end_at i s.args.p) (arc_at i s.args.p) s.args.v s.args.dist.now c.relax-nearer.result
     c.relax-nearer.new.1.1.0
 relaxes c = taken-relaxed (way (entry (looked-at c))) c.relax-nearer.ensures

@@ -14,25 +14,24 @@ use Rattle.paths.specs.Far.{far}
 use Rattle.paths.specs.Searching.{Passed, Spread}
 use Rattle.paths.proofs.NodeLengths.{through-is, node-small}
 use Rattle.paths.proofs.Turning.{spread_none, spread-more, spread-all}
-use Rattle.search.proofs.relax.relax_into.Lts as lts
-use Rattle.search.proofs.relax.relax_into.Reads as reads
 use Rattle.search.proofs.relax.relax_into.Goals as goal
+use Rattle.search.proofs.relax.relax_into.Goals.{After-reach-count, After-through-x, At-loop-p, In-loop-p, Start}
 
 -- the function's entry, seen from behind the call of `through`; that, seen from a turn; and the turn, seen from behind the call of `reach`
-abbrev first : goal.After-through-x → lts.Start reads.Pre reads.Post goal.the-invariant-loop-p goal.the-decreases-loop-p
+abbrev first : After-through-x → Start
 first c = c.before.before.before.before.before.before
 
-abbrev through-at : lts.At-loop reads.Pre reads.Post goal.the-invariant-loop-p goal.the-decreases-loop-p → goal.After-through-x
+abbrev through-at : At-loop-p → After-through-x
 through-at c = c.before.before.before.before.before
 
-abbrev entry : lts.At-loop reads.Pre reads.Post goal.the-invariant-loop-p goal.the-decreases-loop-p → lts.Start reads.Pre reads.Post goal.the-invariant-loop-p goal.the-decreases-loop-p
+abbrev entry : At-loop-p → Start
 entry c = first (through-at c)
 
-abbrev turn : lts.After-reach reads.Pre reads.Post goal.the-invariant-loop-p goal.the-decreases-loop-p → lts.In-loop reads.Pre reads.Post goal.the-invariant-loop-p goal.the-decreases-loop-p
+abbrev turn : After-reach-count → In-loop-p
 turn c = c.before.before.before
 
 -- the index has an entry for the next node
-next : (s : lts.Start reads.Pre reads.Post goal.the-invariant-loop-p goal.the-decreases-loop-p) → s.args.v + 1 < length s.args.into.now
+next : (s : Start) → s.args.v + 1 < length s.args.into.now
 next s = omega (arith, s.requires.index.arcs.numbers, s.requires.index.arcs.nodes, s.requires.node)
 
 pub through-x-requires : goal.through-x-requires
@@ -41,22 +40,22 @@ through-x-requires c =
     omega (arith, s.requires.index.arcs.numbers, s.requires.index.arcs.nodes, s.requires.node)
 
 -- the length of v is read by the index; it is small, and so is v's entry
-own : (c : goal.After-through-x) → let s = first c in
+own : (c : After-through-x) → let s = first c in
     c.through-x.result ≡ node_length (net_in s.args.s s.args.net.now) s.args.lengths.now s.args.v
 own c =
     let s = first c in
     c.through-x.ensures ∙
     through-is (net_in s.args.s s.args.net.now) s.args.lengths.now s.args.into.now s.requires.index.places s.requires.searching.fit.lengths s.args.v s.requires.node
 
-small : (c : goal.After-through-x) → c.through-x.result < 2 ^ 40
+small : (c : After-through-x) → c.through-x.result < 2 ^ 40
 small c =
     let s = first c in
     omega (arith, own c, node-small (net_in s.args.s s.args.net.now) s.args.lengths.now s.requires.searching.fit.small s.args.v s.requires.node)
 
-entry-small : (s : lts.Start reads.Pre reads.Post goal.the-invariant-loop-p goal.the-decreases-loop-p) → get_or s.args.dist.now s.args.v 0 ≤ far
+entry-small : (s : Start) → get_or s.args.dist.now s.args.v 0 ≤ far
 entry-small s = s.requires.searching.labels.capped s.args.v s.requires.node
 
-room : (s : lts.Start reads.Pre reads.Post goal.the-invariant-loop-p goal.the-decreases-loop-p) → s.args.v < length s.args.dist.now
+room : (s : Start) → s.args.v < length s.args.dist.now
 room s = omega (arith, s.requires.node, s.requires.searching.fit.room)
 
 pub offset_bounds-into-v : goal.offset_bounds-into-v

@@ -10,15 +10,14 @@ use Rattle.network.specs.Verdict.{outside}
 use Rattle.network.proofs.First.{decides, passes, none_left}
 use Rattle.numbers.specs.Numbers.{items}
 use Rattle.site.specs.Site.{list_conditions}
-use Rattle.site.proofs.list.check_list.Lts as lts
-use Rattle.site.proofs.list.check_list.Reads as reads
 use Rattle.site.proofs.list.check_list.Goals as goal
+use Rattle.site.proofs.list.check_list.Goals.{After-count, After-outside}
 
 -- the tests, as the code and as the contract say them
-listed : (c : lts.After-outside reads.Pre reads.Post) → c.outside.result ≡ outside 1 most_networks (items floor_numbers c.before.before.before.before.args.floors.now)
+listed : (c : After-outside) → c.outside.result ≡ outside 1 most_networks (items floor_numbers c.before.before.before.before.args.floors.now)
 listed c = c.outside.ensures ∙ ap (outside 1 most_networks) c.before.items-k.ensures
 
-needed : (c : goal.After-count) → 8 * c.before.before.before.items-k.result ≡ 8 * items floor_numbers c.before.before.before.before.before.before.args.floors.now
+needed : (c : After-count) → 8 * c.before.before.before.items-k.result ≡ 8 * items floor_numbers c.before.before.before.before.before.before.args.floors.now
 needed c = ap (λ k. 8 * k) c.before.before.before.items-k.ensures
 
 pub returns-then-outside : goal.returns-then-outside

@@ -10,17 +10,16 @@ use Rattle.numbers.specs.Numbers.{count}
 use Rattle.numbers.proofs.Columns.{member_below}
 use Rattle.site.specs.Parts.{begins}
 use Rattle.site.proofs.Begins.{begins-most, begins-more}
-use Rattle.site.proofs.parts.begins.Lts as lts
-use Rattle.site.proofs.parts.begins.Reads as reads
 use Rattle.site.proofs.parts.begins.Goals as goal
+use Rattle.site.proofs.parts.begins.Goals.{In-loop-f, Start}
 
 pub loop-f-init : goal.loop-f-init
 unfolding begins
 loop-f-init c = (omega arith, refl)
 
 -- floor f's size is in the list
-module _ (c : goal.In-loop-f) where
-  abbrev first : lts.Start reads.Pre reads.Post goal.the-invariant-loop-f goal.the-decreases-loop-f
+module _ (c : In-loop-f) where
+  abbrev first : Start
   first = c.before.before.before
 
   place : floor_numbers * c.before.loop-f.f + first.args.j < count first.args.floors.now

@@ -9,34 +9,33 @@ use Rattle.numbers.proofs.Columns.{member_below}
 use Rattle.site.specs.Parts.{begins, numbers_in}
 use Rattle.site.specs.declared.parts.Span.{Span}
 use Rattle.site.proofs.Begins.{begins-most}
-use Rattle.site.proofs.parts.part_of.Lts as lts
-use Rattle.site.proofs.parts.part_of.Reads as reads
 use Rattle.site.proofs.parts.part_of.Goals as goal
+use Rattle.site.proofs.parts.part_of.Goals.{After-begins-from, After-count-room, After-fit-size, Start}
 
-abbrev entry : goal.After-count-room → lts.Start reads.Pre reads.Post
+abbrev entry : After-count-room → Start
 entry c = c.before.before.before
 
 -- the part's size is in the list
-place : (c : goal.After-begins-from) → let s = entry c.before in floor_numbers * s.args.i + s.args.j < count s.args.floors.now
+place : (c : After-begins-from) → let s = entry c.before in floor_numbers * s.args.i + s.args.j < count s.args.floors.now
 place c = let s = entry c.before in member_below s.args.floors.now floor_numbers s.args.j s.args.i s.requires.0 s.requires.1
 
 -- where it begins, and how many numbers it has
-from_is : (c : goal.After-begins-from) → let s = entry c.before in c.begins-from.result ≡ begins s.args.floors.now s.args.j (count s.args.s.now) s.args.i
+from_is : (c : After-begins-from) → let s = entry c.before in c.begins-from.result ≡ begins s.args.floors.now s.args.j (count s.args.s.now) s.args.i
 from_is c = let s = entry c.before in c.begins-from.ensures ∙ ap (λ n. begins s.args.floors.now s.args.j n s.args.i) c.before.count-room.ensures
 
-within : (c : goal.After-begins-from) → c.begins-from.result ≤ c.before.count-room.result
+within : (c : After-begins-from) → c.begins-from.result ≤ c.before.count-room.result
 within c =
     let s = entry c.before in
     omega (arith, from_is c, c.before.count-room.ensures, begins-most s.args.floors.now s.args.j (count s.args.s.now) s.args.i)
 
 size_is :
-    (c : goal.After-fit-size) →
+    (c : After-fit-size) →
     let s = entry c.before.before.before in c.fit-size.result ≡ numbers_in s.args.floors.now s.args.j (count s.args.s.now) s.args.i
 size_is c =
     let b = c.before.before in
     c.fit-size.ensures ∙ ap₂ min c.before.read.ensures (ap₂ ◌-◌ b.before.count-room.ensures (from_is b))
 
-small : (c : goal.After-fit-size) → c.before.before.begins-from.result + c.fit-size.result ≤ c.before.before.before.count-room.result
+small : (c : After-fit-size) → c.before.before.begins-from.result + c.fit-size.result ≤ c.before.before.before.count-room.result
 small c = omega (arith, within c.before.before, c.fit-size.ensures)
 
 abbrev span : ℕ → ℕ → Span

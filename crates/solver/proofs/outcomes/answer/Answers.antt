@@ -2,11 +2,10 @@
 use borrow.Author.Rules.{rules}
 use mathlib.Core.Path.{refl}
 use native.Mathlib.Omega.{arith}
-use Rattle.solver.proofs.outcomes.answer.Lts as lts
-use Rattle.solver.proofs.outcomes.answer.Reads as reads
 use Rattle.solver.proofs.outcomes.answer.Goals as goal
+use Rattle.solver.proofs.outcomes.answer.Goals.{After-fullest-b, Start}
 
-abbrev entry : goal.After-fullest-b → lts.Start reads.Pre reads.Post
+abbrev entry : After-fullest-b → Start
 entry c = c.before.before.before.before
 
 pub fullest-b-requires : goal.fullest-b-requires

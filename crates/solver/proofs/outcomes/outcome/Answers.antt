@@ -21,15 +21,14 @@ use Rattle.run.proofs.Chosen.{choosing}
 use Rattle.tables.specs.Calls.{Ranking}
 use Rattle.solver.specs.Solved.{answer_of}
 use Rattle.solver.proofs.Solving.{solved-none, solved-some, ranking}
-use Rattle.solver.proofs.outcomes.outcome.Lts as lts
-use Rattle.solver.proofs.outcomes.outcome.Reads as reads
 use Rattle.solver.proofs.outcomes.outcome.Goals as goal
+use Rattle.solver.proofs.outcomes.outcome.Goals.{After-answer, After-choose-first, After-run-p, Else-first-ge-FAR_LENGTH, Start}
 
 -- the network at entry; the lengths are those of the definition's start
-abbrev net : lts.Start reads.Pre reads.Post → Network
+abbrev net : Start → Network
 net s = net_in s.args.s s.args.net.now
 
-first : (s : lts.Start reads.Pre reads.Post) → lengths_in s.args.s s.args.tables.now ≡ (initial (net s)).lengths
+first : (s : Start) → lengths_in s.args.s s.args.tables.now ≡ (initial (net s)).lengths
 first s = ap (λ t. t.lengths) s.requires.cleared.state
 
 pub choose-first-requires : goal.choose-first-requires
@@ -38,10 +37,10 @@ choose-first-requires c =
     choosing s.requires.room (initial (net s)) (reached-start (net s) s.args.q s.requires.room.lent.sound) (first s) s.requires.cleared.memory-of
 
 -- the function's entry, seen from behind the search; what the search says of the network's choice by these lengths
-abbrev entry : lts.After-choose reads.Pre reads.Post → lts.Start reads.Pre reads.Post
+abbrev entry : After-choose-first → Start
 entry c = c.before.before.before.before.before.before.before.before.before.before
 
-chose : (c : lts.After-choose reads.Pre reads.Post) → Chose (net (entry c)) (initial (net (entry c))).lengths c.choose-first.result c.choose-first.new.1.1.1.1.1.0
+chose : (c : After-choose-first) → Chose (net (entry c)) (initial (net (entry c))).lengths c.choose-first.result c.choose-first.new.1.1.1.1.1.0
 chose c = rw (← (first (entry c))) c.choose-first.ensures.chose
 
 pub returns-then-first-ge-FAR_LENGTH : goal.returns-then-first-ge-FAR_LENGTH
@@ -57,13 +56,13 @@ returns-then-first-ge-FAR_LENGTH c =
     (ap (λ t. t.best_lengths) start))
 
 -- something is chosen by the first lengths, so by any
-abbrev search-at : lts.Else1 reads.Pre reads.Post → lts.After-choose reads.Pre reads.Post
+abbrev search-at : Else-first-ge-FAR_LENGTH → After-choose-first
 search-at c = c.before.before.before.before.before.before
 
-picked : (c : lts.Else1 reads.Pre reads.Post) → let f = search-at c in Picked (net (entry f)) (initial (net (entry f))).lengths f.choose-first.result f.choose-first.last.1.1.1.1.1.0
+picked : (c : Else-first-ge-FAR_LENGTH) → let f = search-at c in Picked (net (entry f)) (initial (net (entry f))).lengths f.choose-first.result f.choose-first.last.1.1.1.1.1.0
 picked c = (chose (search-at c)).something c.if-first-ge-FAR_LENGTH.false
 
-chooses : (c : lts.Else1 reads.Pre reads.Post) → Chooses (net (entry (search-at c)))
+chooses : (c : Else-first-ge-FAR_LENGTH) → Chooses (net (entry (search-at c)))
 chooses c = let s = entry (search-at c) in always (net s) (initial (net s)).lengths _ (picked c).chosen
 
 pub run-p-requires : goal.run-p-requires
@@ -76,27 +75,27 @@ run-p-requires c =
     )
 
 -- behind the run: the entry, and the tables of the arcs
-abbrev choice-at : lts.After-run reads.Pre reads.Post → lts.Else1 reads.Pre reads.Post
+abbrev choice-at : After-run-p → Else-first-ge-FAR_LENGTH
 choice-at c = c.before.before.before.before.before
 
-abbrev start_of : lts.After-run reads.Pre reads.Post → lts.Start reads.Pre reads.Post
+abbrev start_of : After-run-p → Start
 start_of c = entry (search-at (choice-at c))
 
-abbrev tables : lts.After-run reads.Pre reads.Post → List ℕ
+abbrev tables : After-run-p → List ℕ
 tables c = c.run-p.new.1.1.1.1.1.0
 
-room : (c : lts.After-run reads.Pre reads.Post) → table_numbers ≤ length (tables c)
+room : (c : After-run-p) → table_numbers ≤ length (tables c)
 room c = omega (arith, c.run-p.auto.1.1.1.1.1.0, (start_of c).requires.room.tables)
 
-few : (c : lts.After-run reads.Pre reads.Post) → (start_of c).args.s.resources ≤ most_arcs
+few : (c : After-run-p) → (start_of c).args.s.resources ≤ most_arcs
 few c = let a = (start_of c).requires.room.lent in omega (arith, a.counted, a.sound.counts.of-resources)
 
-loaded : (c : lts.After-run reads.Pre reads.Post) → length (loads_in (start_of c).args.s (tables c)) ≡ resources (net (start_of c))
+loaded : (c : After-run-p) → length (loads_in (start_of c).args.s (tables c)) ≡ resources (net (start_of c))
 loaded c =
     part_length loads_from (start_of c).args.s.resources (tables c) (omega (arith, few c, room c)) ∙ (start_of c).requires.room.lent.counted
 
 -- The part of the slice of indexes that is lent has the capacities of the resources.
-caps-are : (c : lts.After-run reads.Pre reads.Post) → let s = start_of c in part resource_capacities_from s.args.s.resources s.args.indexes.now ≡ resource_capacities (net s)
+caps-are : (c : After-run-p) → let s = start_of c in part resource_capacities_from s.args.s.resources s.args.indexes.now ≡ resource_capacities (net s)
 caps-are c = let s = start_of c in ap (λ n. part resource_capacities_from n s.args.indexes.now) s.requires.room.lent.counted ∙ s.requires.room.indexed.capacities
 
 -- The end of that part is within the slice.
@@ -118,7 +117,7 @@ answer-requires c =
           (ranking (net s) s.args.q s.requires.room.lent.sound (chooses (choice-at f)) (loads_in s.args.s (tables f)) (ap (λ t. t.loads) f.run-p.ensures) (loaded f));
     }
 
-abbrev run_at : goal.After-answer → lts.After-run reads.Pre reads.Post
+abbrev run_at : After-answer → After-run-p
 run_at c = c.before.before.before.before.before.before.before.before.before.before
 
 pub returns : goal.returns

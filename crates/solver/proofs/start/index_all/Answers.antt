@@ -5,15 +5,14 @@ use Rattle.packed.proofs.Columns.{part_length}
 use Rattle.index.specs.Index.{index_numbers}
 use Rattle.choice.specs.Calls.{resource_capacities_from}
 use Rattle.solver.proofs.Indexes.{space, indexed}
-use Rattle.solver.proofs.start.index_all.Lts as lts
-use Rattle.solver.proofs.start.index_all.Reads as reads
 use Rattle.solver.proofs.start.index_all.Goals as goal
+use Rattle.solver.proofs.start.index_all.Goals.{After-index_into, After-index_out, Start}
 
 -- from each call back to the one before it, and from the first to the function's entry
-abbrev entry : lts.After-index_into reads.Pre reads.Post → lts.Start reads.Pre reads.Post
+abbrev entry : After-index_into → Start
 entry c = c.before.before.before.before
 
-abbrev into-at : lts.After-index_out reads.Pre reads.Post → lts.After-index_into reads.Pre reads.Post
+abbrev into-at : After-index_out → After-index_into
 into-at c = c.before.before.before.before
 
 pub resource_capacities-requires : goal.resource_capacities-requires

@@ -15,33 +15,32 @@ use Rattle.lengths.specs.Calls.{Startable}
 use Rattle.step.specs.Progress.{state_of, begun}
 use Rattle.step.proofs.Tabled.{Tabled, tabled, part-size, with-lengths, with-loads, with-kept, in-slice}
 use Rattle.solver.proofs.Solving.{initial-is, weight_is}
-use Rattle.solver.proofs.start.prepare.Lts as lts
-use Rattle.solver.proofs.start.prepare.Reads as reads
 use Rattle.solver.proofs.start.prepare.Goals as goal
+use Rattle.solver.proofs.start.prepare.Goals.{After-begin, After-clear, After-clear-2, After-clear_flow, After-forget, After-start-weight, Start}
 
 -- from each call back to the one before it, and from the first to the function's entry
-abbrev entry : lts.After-start reads.Pre reads.Post → lts.Start reads.Pre reads.Post
+abbrev entry : After-start-weight → Start
 entry c = c.before.before.before.before.before.before
 
-abbrev start-at : lts.After-clear reads.Pre reads.Post → lts.After-start reads.Pre reads.Post
+abbrev start-at : After-clear → After-start-weight
 start-at c = c.before.before.before.before
 
-abbrev loads-at : lts.After-clear2 reads.Pre reads.Post → lts.After-clear reads.Pre reads.Post
+abbrev loads-at : After-clear-2 → After-clear
 loads-at c = c.before.before.before.before
 
-abbrev kept_at : lts.After-clear_flow reads.Pre reads.Post → lts.After-clear2 reads.Pre reads.Post
+abbrev kept_at : After-clear_flow → After-clear-2
 kept_at c = c.before.before.before.before
 
-abbrev flow-at : lts.After-begin reads.Pre reads.Post → lts.After-clear_flow reads.Pre reads.Post
+abbrev flow-at : After-begin → After-clear_flow
 flow-at c = c.before.before.before
 
-abbrev begin-at : lts.After-forget reads.Pre reads.Post → lts.After-begin reads.Pre reads.Post
+abbrev begin-at : After-forget → After-begin
 begin-at c = c.before.before.before.before
 
-abbrev m : lts.Start reads.Pre reads.Post → ℕ
+abbrev m : Start → ℕ
 m s = s.args.s.resources
 
-few : (s : lts.Start reads.Pre reads.Post) → m s ≤ most_arcs
+few : (s : Start) → m s ≤ most_arcs
 few s = let a = s.requires.lent in omega (arith, a.counted, a.sound.counts.of-resources)
 
 pub start-weight-requires : goal.start-weight-requires
@@ -61,17 +60,17 @@ start-weight-requires c =
     })
 
 -- the tables of the resources after each call that changes them
-started : (c : lts.After-start reads.Pre reads.Post) → let s = entry c in let T = s.args.tables.now in
+started : (c : After-start-weight) → let s = entry c in let T = s.args.tables.now in
     Tabled (m s) (put lengths_from (m s) T c.start-weight.new.1.0) c.start-weight.new.1.0 (part loads_from (m s) T) (part kept_from (m s) T)
 started c =
     let s = entry c in
     with-lengths (tabled (m s) s.args.tables.now (few s) s.requires.tabled) c.start-weight.new.1.0 c.start-weight.auto.1.0
 
-unloaded : (c : lts.After-clear reads.Pre reads.Post) → let f = start-at c in let s = entry f in let T = s.args.tables.now in
+unloaded : (c : After-clear) → let f = start-at c in let s = entry f in let T = s.args.tables.now in
     Tabled (m s) (put loads_from (m s) (put lengths_from (m s) T f.start-weight.last.1.0) c.clear.new.0) f.start-weight.last.1.0 c.clear.new.0 (part kept_from (m s) T)
 unloaded c = with-loads (started (start-at c)) c.clear.new.0 c.clear.auto.0
 
-cleared : (c : lts.After-clear2 reads.Pre reads.Post) → let g = loads-at c in let f = start-at g in let s = entry f in let T = s.args.tables.now in
+cleared : (c : After-clear-2) → let g = loads-at c in let f = start-at g in let s = entry f in let T = s.args.tables.now in
     Tabled (m s) (put kept_from (m s) (put loads_from (m s) (put lengths_from (m s) T f.start-weight.last.1.0) g.clear.last.0) c.clear-2.new.0) f.start-weight.last.1.0
     g.clear.last.0 c.clear-2.new.0
 cleared c = with-kept (unloaded (loads-at c)) c.clear-2.new.0 c.clear-2.auto.0

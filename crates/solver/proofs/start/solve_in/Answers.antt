@@ -5,21 +5,20 @@ use native.Mathlib.Omega.{arith}
 use Rattle.network.proofs.Sounds.{sound-ends}
 use Rattle.packed.specs.Packed.{part, net_in}
 use Rattle.choice.specs.Calls.{resource_capacities_from}
-use Rattle.solver.proofs.start.solve_in.Lts as lts
-use Rattle.solver.proofs.start.solve_in.Reads as reads
 use Rattle.solver.proofs.start.solve_in.Goals as goal
+use Rattle.solver.proofs.start.solve_in.Goals.{After-index_all, After-outcome, After-prepare-weight, After-slice_known-10-1, Start}
 
 -- from each call back to the one before it, from the first to the function's entry, and from the end of the function to the last
-abbrev entry : lts.After-index_all reads.Pre reads.Post → lts.Start reads.Pre reads.Post
+abbrev entry : After-index_all → Start
 entry c = c.before.before.before.before.before.before.before
 
-abbrev index_at : lts.After-prepare reads.Pre reads.Post → lts.After-index_all reads.Pre reads.Post
+abbrev index_at : After-prepare-weight → After-index_all
 index_at c = c.before.before.before.before.before.before.before.before
 
-abbrev prepare-at : lts.After-outcome reads.Pre reads.Post → lts.After-prepare reads.Pre reads.Post
+abbrev prepare-at : After-outcome → After-prepare-weight
 prepare-at c = c.before.before.before.before.before.before.before.before.before.before.before
 
-abbrev outcome-at : goal.After-slice_known-10-1 → lts.After-outcome reads.Pre reads.Post
+abbrev outcome-at : After-slice_known-10-1 → After-outcome
 outcome-at c = c.before.before.before.before.before.before.before
 
 pub index_all-requires : goal.index_all-requires

@@ -7,15 +7,14 @@ use lib.ListN.{get_or}
 use mir.Syntax.{w64}
 use mir.ValLaws.{to_z-of_z}
 use Rattle.tables.proofs.Crossings.{from_tail, from-head}
-use Rattle.tables.proofs.draws.cross.Lts as lts
-use Rattle.tables.proofs.draws.cross.Reads as reads
 use Rattle.tables.proofs.draws.cross.Goals as goal
+use Rattle.tables.proofs.draws.cross.Goals.{After-shared_slice_known-2-1, Start}
 
-abbrev entry : lts.After-shared_slice_known2 reads.Pre reads.Post → lts.Start reads.Pre reads.Post
+abbrev entry : After-shared_slice_known-2-1 → Start
 entry c = c.before.before.before
 
 -- the amount that is read
-abbrev amount : lts.Start reads.Pre reads.Post → ℤ
+abbrev amount : Start → ℤ
 amount s = get_or s.args.flow.now (s.args.base + s.args.e) (pos 0)
 
 -- A signed local holds bits, which stand for the amount.

@@ -5,18 +5,17 @@ use Prim.Native.Nat.{◌-◌, ◌<◌}
 use native.Mathlib.Omega.{arith}
 use lib.ListN.{length, get_or}
 use Rattle.tables.proofs.Lowered.{Lowered, lower-first, lower-more, lower-all}
-use Rattle.tables.proofs.draws.draw.Lts as lts
-use Rattle.tables.proofs.draws.draw.Reads as reads
 use Rattle.tables.proofs.draws.draw.Goals as goal
+use Rattle.tables.proofs.draws.draw.Goals.{In-loop-j, Start}
 
 -- the arc at the first place and that at the present one are among the arcs
-first : (c : lts.Start reads.Pre reads.Post goal.the-invariant-loop-j goal.the-decreases-loop-j) → get_or c.args.path.now 0 0 < length c.args.capacities.now
+first : (c : Start) → get_or c.args.path.now 0 0 < length c.args.capacities.now
 first c = c.requires.1 0 c.requires.0
 
-abbrev entry : goal.In-loop-j → lts.Start reads.Pre reads.Post goal.the-invariant-loop-j goal.the-decreases-loop-j
+abbrev entry : In-loop-j → Start
 entry c = c.before.before.before.before
 
-place : (c : goal.In-loop-j) → get_or (entry c).args.path.now c.before.loop-j.j 0 < length (entry c).args.capacities.now
+place : (c : In-loop-j) → get_or (entry c).args.path.now c.before.loop-j.j 0 < length (entry c).args.capacities.now
 place c = (entry c).requires.1 c.before.loop-j.j (omega arith)
 
 pub offset_bounds-capacities-first : goal.offset_bounds-capacities-first

@@ -11,19 +11,18 @@ use Rattle.network.specs.Network.{arcs}
 use Rattle.packed.specs.Packed.{net_in, sources_from, net_numbers}
 use Rattle.packed.proofs.Columns.{part_at, arcs-is, commodities-is}
 use Rattle.tables.proofs.Pushed.{Underway, push-none, push-more, push-all}
-use Rattle.tables.proofs.draws.push.Lts as lts
-use Rattle.tables.proofs.draws.push.Reads as reads
 use Rattle.tables.proofs.draws.push.Goals as goal
+use Rattle.tables.proofs.draws.push.Goals.{At-loop-j, In-loop-j, Start}
 
 -- from the loop back to the function's entry
-abbrev entry : lts.At-loop reads.Pre reads.Post goal.the-invariant-loop-j goal.the-decreases-loop-j → lts.Start reads.Pre reads.Post goal.the-invariant-loop-j goal.the-decreases-loop-j
+abbrev entry : At-loop-j → Start
 entry c = c.before.before.before.before.before
 
 -- the place of the arc whose turn it is
-abbrev arc : (c : lts.In-loop reads.Pre reads.Post goal.the-invariant-loop-j goal.the-decreases-loop-j) → ℕ
+abbrev arc : (c : In-loop-j) → ℕ
 arc c = get_or (entry c.before).args.path.now c.before.loop-j.j 0
 
-place : (c : lts.In-loop reads.Pre reads.Post goal.the-invariant-loop-j goal.the-decreases-loop-j) → let s = entry c.before in
+place : (c : In-loop-j) → let s = entry c.before in
     (arc c < s.args.s.arcs) × (s.args.commodity * s.args.s.arcs + arc c < length s.args.flow.now)
 place c =
     let s = entry c.before in
@@ -70,7 +69,7 @@ returns c =
     (sym (part_at sources_from a.s.commodities a.net.now a.commodity (omega (arith, s.requires.pushing.listed, commodities-is s.requires.packed))))
 
 -- the commodity's place in its column
-listed : (s : lts.Start reads.Pre reads.Post goal.the-invariant-loop-j goal.the-decreases-loop-j) → (s.args.commodity < most_commodities) × (net_numbers ≤ length s.args.net.now)
+listed : (s : Start) → (s.args.commodity < most_commodities) × (net_numbers ≤ length s.args.net.now)
 listed s = (omega (arith, s.requires.pushing.listed, commodities-is s.requires.packed, s.requires.packed.few-commodities), s.requires.packed.places)
 
 pub overflow_add-v : goal.overflow_add-v

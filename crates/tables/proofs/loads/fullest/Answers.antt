@@ -7,13 +7,14 @@ use native.Mathlib.Omega.{arith}
 use lib.ListN.{length, get_or}
 use Rattle.tables.proofs.Fuller.{Ranked, rank-first, rank-fuller, rank-other, rank-all}
 use Rattle.tables.proofs.loads.fullest.Goals as goal
+use Rattle.tables.proofs.loads.fullest.Goals.{In-loop-e}
 
 -- the load of arc i times the capacity of arc j
-abbrev product : goal.In-loop-e → ℕ → ℕ → ℕ
+abbrev product : In-loop-e → ℕ → ℕ → ℕ
 product c i j = get_or c.before.before.args.loads.now i 0 * get_or c.before.before.args.capacities.now j 0
 
 -- the two products that are compared
-small : (c : goal.In-loop-e) →
+small : (c : In-loop-e) →
     let b = c.before.loop-e.b in
     let e = c.before.loop-e.e in
     (product c b e ≤ 2 ^ 32 * 1000) × (product c e b ≤ 2 ^ 32 * 1000)

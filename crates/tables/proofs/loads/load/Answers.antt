@@ -10,21 +10,22 @@ use borrow.Author.Tests.{le-leb, lt-leb}
 use lib.ListN.{length, get_or}
 use Rattle.tables.proofs.Loadings.{Raised, raise-none, raise-more, raise-all, next_place, next-load, next-limit}
 use Rattle.tables.proofs.loads.load.Goals as goal
+use Rattle.tables.proofs.loads.load.Goals.{In-loop-j, Start}
 
-abbrev entry : goal.In-loop-j → goal.Start
+abbrev entry : In-loop-j → Start
 entry c = c.before.before
 
 -- the arc at the present place, which is among the arcs; its load, and what that is compared with
-abbrev arc : goal.In-loop-j → ℕ
+abbrev arc : In-loop-j → ℕ
 arc c = get_or (entry c).args.path.now c.before.loop-j.j 0
 
-place : (c : goal.In-loop-j) → arc c < length (entry c).args.loads.now
+place : (c : In-loop-j) → arc c < length (entry c).args.loads.now
 place c = next_place (entry c).requires c.before.loop-j.invariant c.loop-j-test.true
 
-amount : (c : goal.In-loop-j) → get_or c.before.loop-j.loads (arc c) 0 < 2 ^ 32 + 128 * 1000
+amount : (c : In-loop-j) → get_or c.before.loop-j.loads (arc c) 0 < 2 ^ 32 + 128 * 1000
 amount c = next-load (entry c).requires c.before.loop-j.invariant c.loop-j-test.true
 
-limit : (c : goal.In-loop-j) → (entry c).args.threshold * get_or (entry c).args.capacities.now (arc c) 0 ≤ 2 ^ 20 * 1000
+limit : (c : In-loop-j) → (entry c).args.threshold * get_or (entry c).args.capacities.now (arc c) 0 ≤ 2 ^ 20 * 1000
 limit c = next-limit (entry c).requires c.before.loop-j.invariant c.loop-j-test.true
 
 pub loop-j-init : goal.loop-j-init

@@ -9,12 +9,11 @@ use Rattle.arith.specs.Sum.{sum}
 use Rattle.numbers.specs.Numbers.{count, items}
 use Rattle.numbers.proofs.Columns.{member_below}
 use Rattle.whole.proofs.Leaves.{over, leaves-sum, one_more, sum-next}
-use Rattle.whole.proofs.sent.leaves.Lts as lts
-use Rattle.whole.proofs.sent.leaves.Reads as reads
 use Rattle.whole.proofs.sent.leaves.Goals as goal
+use Rattle.whole.proofs.sent.leaves.Goals.{After-at-backward, At-loop-e, In-loop-e, Start}
 
 -- from the loop to the function's entry
-abbrev entry : lts.At-loop reads.Pre reads.Post goal.the-invariant-loop-e goal.the-decreases-loop-e → lts.Start reads.Pre reads.Post goal.the-invariant-loop-e goal.the-decreases-loop-e
+abbrev entry : At-loop-e → Start
 entry c = c.before.before.before.before
 
 pub loop-e-init : goal.loop-e-init
@@ -22,7 +21,7 @@ unfolding sum
 loop-e-init c = (search rules, refl)
 
 -- arc e, and its numbers' places
-module _ (c : goal.In-loop-e) where
+module _ (c : In-loop-e) where
   inside : c.before.loop-e.e < items 4 (entry c.before).args.belts.now
   inside = omega (arith, c.before.before.items-m.ensures, c.loop-e-test.true)
 
@@ -37,7 +36,7 @@ module _ (c : goal.In-loop-e) where
 
 -- what is added is what leaves over it
 added :
-    (c : goal.After-at-backward) →
+    (c : After-at-backward) →
     let l = c.before.before.before.before.before.before.before.before in
     let s = entry l in
     c.before.before.before.at-forward.result + c.at-backward.result ≡ over s.args.belts.now s.args.flow.now s.args.from s.args.v l.loop-e.e
@@ -50,7 +49,7 @@ added c =
     rw (a.at-forward.ensures, c.at-backward.ensures, f.ahead.ensures, b.back.ensures, h.read.ensures, t.read-in-loop-e.ensures, h.before.read-amount.ensures) refl
 
 most :
-    (c : goal.After-at-backward) →
+    (c : After-at-backward) →
     c.before.before.before.before.before.before.before.before.loop-e.total + (c.before.before.before.at-forward.result + c.at-backward.result) < 2 ^ 64
 most c =
     let i = c.before.before.before.before.before.before.before in

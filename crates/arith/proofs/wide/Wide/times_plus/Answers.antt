@@ -6,15 +6,14 @@ use native.Mathlib.Omega.{arith}
 use lib.ListN.{get_or}
 use Rattle.arith.specs.Limbs.{width}
 use Rattle.arith.proofs.Carries.{Carried, turn, turn-fits, carried-start, carried_step, carried-end}
-use Rattle.arith.proofs.wide.Wide.times_plus.Lts as lts
-use Rattle.arith.proofs.wide.Wide.times_plus.Reads as reads
+use Rattle.arith.proofs.wide.Wide.times_plus.Goals.{At-loop-i}
 use Rattle.arith.proofs.wide.Wide.times_plus.Goals as goal
 
 pub loop-i-init : goal.loop-i-init
 loop-i-init c = (omega arith, carried-start _ _ _)
 
 -- The turn's number fits, and so do its parts.
-fits : (c : lts.At-loop reads.Pre reads.Post goal.the-invariant-loop-i goal.the-decreases-loop-i) → turn (get_or c.args.self.limbs c.loop-i.i 0) c.args.k (get_or c.args.other.limbs c.loop-i.i 0) c.loop-i.carry < 2 ^ 64
+fits : (c : At-loop-i) → turn (get_or c.args.self.limbs c.loop-i.i 0) c.args.k (get_or c.args.other.limbs c.loop-i.i 0) c.loop-i.carry < 2 ^ 64
 fits c =
     let p = c.requires in
     turn-fits _ _ _ _ (p.0.below c.loop-i.i) p.2 (p.1.below c.loop-i.i) c.loop-i.invariant.1.small
