@@ -12,7 +12,7 @@ use Rattle.network.proofs.Given.{given-most, given-zero, given-one}
 use Rattle.numbers.specs.Numbers.{number_at, column}
 use Rattle.numbers.proofs.Columns.{get_or-column}
 use Rattle.decode.proofs.count_given.Goals as goal
-use Rattle.decode.proofs.count_given.Goals.{Joined-read-ne0}
+use Rattle.decode.proofs.count_given.Goals.{At-loop-i, Joined-read-ne0}
 
 pub loop-i-init : goal.loop-i-init
 unfolding given
@@ -20,34 +20,30 @@ loop-i-init c = (omega arith, refl)
 
 pub overflow_add-r : goal.overflow_add-r
 overflow_add-r c =
-    let turn = c.before.before.before in
-    omega (arith, turn.loop-i.invariant.1, given-most (column turn.before.before.args.limits.now 1 0 turn.before.before.args.c) turn.loop-i.i)
+    omega (arith, c.loop-i.invariant.1, given-most (column c.args.limits.now 1 0 c.args.c) c.loop-i.i)
 
 -- the number read is the one to count
 present : (c : Joined-read-ne0) →
-    let turn = c.before.before.before in
-    get_or (column turn.before.before.args.limits.now 1 0 turn.before.before.args.c) turn.loop-i.i 0 ≡ c.before.read.result
+    get_or (column c.args.limits.now 1 0 c.args.c) c.loop-i.i 0 ≡ c.read.result
 present c =
-    let turn = c.before.before.before in
-    let e : 1 * turn.loop-i.i + 0 ≡ turn.loop-i.i = omega arith in
-    let bytes = turn.before.before.args.limits.now in
-    get_or-column bytes 1 0 turn.before.before.args.c turn.loop-i.i (omega arith) ∙ (ap (number_at bytes) e ∙ sym c.before.read.ensures)
+    let (goal.at.Joined-read-ne0 c).At-loop-i = (goal.at.Joined-read-ne0 c).At-loop-i in
+    let e : 1 * c.loop-i.i + 0 ≡ c.loop-i.i = omega arith in
+    let bytes = c.args.limits.now in
+    get_or-column bytes 1 0 c.args.c c.loop-i.i (omega arith) ∙ (ap (number_at bytes) e ∙ sym c.read.ensures)
 
 pub loop-i-preserved : goal.loop-i-preserved
 loop-i-preserved c =
-    let turn = c.before.before.before in
-    let xs = column turn.before.before.args.limits.now 1 0 turn.before.before.args.c in
-    let i = turn.loop-i.i in
+    let xs = column c.args.limits.now 1 0 c.args.c in
+    let i = c.loop-i.i in
     let e = present c in (
       omega arith,
       ⊎_elim
-          (λ w. w.1 ∙ (ap (λ r. r + 1) turn.loop-i.invariant.1 ∙ sym (given-one xs i (λ z. w.0.taken (sym e ∙ z)))))
-          (λ w. w.1 ∙ (turn.loop-i.invariant.1 ∙ sym (given-zero xs i (e ∙ w.0.left))))
+          (λ w. w.1 ∙ (ap (λ r. r + 1) c.loop-i.invariant.1 ∙ sym (given-one xs i (λ z. w.0.taken (sym e ∙ z)))))
+          (λ w. w.1 ∙ (c.loop-i.invariant.1 ∙ sym (given-zero xs i (e ∙ w.0.left))))
           c.if-read-ne0.branch,
     )
 
 pub returns : goal.returns
 returns c =
-    let turn = c.before in
-    turn.loop-i.invariant.1 ∙
-    ap (given (column turn.before.before.args.limits.now 1 0 turn.before.before.args.c)) (le_antisymm turn.loop-i.invariant.0 c.loop-i-test.false)
+    c.loop-i.invariant.1 ∙
+    ap (given (column c.args.limits.now 1 0 c.args.c)) (le_antisymm c.loop-i.invariant.0 c.loop-i-test.false)

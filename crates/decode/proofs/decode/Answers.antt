@@ -5,7 +5,4 @@ use Rattle.decode.proofs.decode.Goals as goal
 
 pub returns : goal.returns
 returns c =
-    let limits = c.before.before in let belts = limits.before.before.before.before in
-    let pairs = belts.before.before.before.before in
-    let s = pairs.before.before.before.before.before.before in
-    decoded s.requires pairs.read_pairs.ensures belts.read_belts.ensures limits.read_limits.ensures
+    decoded c.requires c.read_pairs.ensures c.read_belts.ensures c.read_limits.ensures

@@ -8,14 +8,11 @@ use Rattle.network.proofs.Given.{given-most}
 use Rattle.numbers.specs.Numbers.{count, items, column}
 use Rattle.decode.proofs.Shapes.{counts}
 use Rattle.decode.proofs.shape.Goals as goal
-use Rattle.decode.proofs.shape.Goals.{Joined-n-all, Start}
+use Rattle.decode.proofs.shape.Goals.{Joined-n-all}
 
-abbrev entry : Joined-n-all → Start
-entry c = c.before.before.before.before.before.before.before
-
-read : (c : Joined-n-all) → c.if-n-all.c ≡ min (entry c).args.n (count (entry c).args.limits.now)
+read : (c : Joined-n-all) → c.if-n-all.c ≡ min c.args.n (count c.args.limits.now)
 read c =
-    let all = c.before.count-all.ensures in
+    let all = c.count-all.ensures in
     ⊎_elim (λ w. omega (arith, all, w.0.taken, w.1)) (λ w. omega (arith, all, w.0.left, w.1)) c.if-n-all.branch
 
 pub count_given-requires : goal.count_given-requires
@@ -23,26 +20,25 @@ count_given-requires c = omega (arith, read c)
 
 pub overflow_add-r : goal.overflow_add-r
 overflow_add-r c =
-    let args = (entry c.before).args in
+    let args = c.args in
     omega (
       arith,
-      c.before.before.before.before.items-m.ensures,
+      c.items-m.ensures,
       c.count_given.ensures,
-      read c.before,
-      given-most (column args.limits.now 1 0 c.before.if-n-all.c) c.before.if-n-all.c,
+      read (goal.at.overflow_add-r c).Joined-n-all,
+      given-most (column args.limits.now 1 0 c.if-n-all.c) c.if-n-all.c,
     )
 
 pub returns : goal.returns
 returns c =
-    let args = (entry c.before).args in
-    let k = c.before.before.before in
+    let args = c.args in
     record {
       nodes = refl;
-      arcs = k.before.items-m.ensures;
-      commodities = k.items-k.ensures;
-      given = read c.before;
+      arcs = c.items-m.ensures;
+      commodities = c.items-k.ensures;
+      given = read (goal.at.returns c).Joined-n-all;
       counted =
-          ap (λ m. m + c.count_given.result) k.before.items-m.ensures ∙
+          ap (λ m. m + c.count_given.result) c.items-m.ensures ∙
           (ap (λ r. items 4 args.belts.now + r) c.count_given.ensures ∙
-          counts args.n args.belts.now args.pairs.now args.limits.now c.before.if-n-all.c (read c.before));
+          counts args.n args.belts.now args.pairs.now args.limits.now c.if-n-all.c (read (goal.at.returns c).Joined-n-all));
     }

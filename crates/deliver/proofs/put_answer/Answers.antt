@@ -5,4 +5,4 @@ use Rattle.deliver.proofs.put_answer.Goals as goal
 
 pub returns : goal.returns
 unfolding numbers_of
-returns c = c.before.before.write_all.ensures
+returns c = c.write_all.ensures

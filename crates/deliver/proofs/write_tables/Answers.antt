@@ -15,20 +15,19 @@ few : (s : Start) → s.args.s.commodities * s.args.s.arcs ≤ 8192
 few s = mul-le-mul s.requires.lent.packed.few-commodities s.requires.lent.packed.few-arcs
 
 pub slice_bounds-flows-end : goal.slice_bounds-flows-end
-slice_bounds-flows-end c = few c.before.before.before.before
+slice_bounds-flows-end c = few (goal.at.slice_bounds-flows-end c).Start
 
 pub slice_bounds-write_tables_in-end : goal.slice_bounds-write_tables_in-end
 slice_bounds-write_tables_in-end c =
-    sym (length-take-le _ (replicate 8192 (pos 0)) (rw (length-replicate 8192 (pos 0)) (few c.before.before.before.before.before)))
+    sym (length-take-le _ (replicate 8192 (pos 0)) (rw (length-replicate 8192 (pos 0)) (few (goal.at.slice_bounds-write_tables_in-end c).Start)))
 
 pub write_tables_in-requires : goal.write_tables_in-requires
 write_tables_in-requires c =
-    let s = c.before.before.before.before.before.before.before.before in
-    let p = s.requires.lent.packed in (
+    let p = c.requires.lent.packed in (
       record {
-        lent = s.requires.lent;
-        flows = length-take-le _ (replicate 8192 (pos 0)) (few s) ∙ sym (ap₂ ◌*◌ (commodities-is p) (arcs-is p));
+        lent = c.requires.lent;
+        flows = length-take-le _ (replicate 8192 (pos 0)) (few (goal.at.write_tables_in-requires c).Start) ∙ sym (ap₂ ◌*◌ (commodities-is p) (arcs-is p));
         places = search rules;
       },
-      s.requires.room,
+      c.requires.room,
     )

@@ -11,53 +11,48 @@ use Rattle.packed.specs.Packed.{net_in}
 use Rattle.packed.proofs.Columns.{arcs-is, capacities-length}
 use Rattle.index.proofs.Gathering.{Gathering, gathering-none, gathering-on, gathering-place, gathering-more, gathering-all}
 use Rattle.index.proofs.append_limits.Goals as goal
-use Rattle.index.proofs.append_limits.Goals.{After-limit-x, At-loop-v, In-loop-v, Start, Then-x-ne0}
-
--- the function's entry, seen from a turn
-abbrev entry : At-loop-v → Start
-entry c = c.before.before.before.before
+use Rattle.index.proofs.append_limits.Goals.{After-limit-x, In-loop-v, Start, Then-x-ne0}
 
 abbrev net : Start → Network
 net s = net_in s.args.s s.args.net.now
 
 -- the present node is one of the network's
-node : (c : In-loop-v) → c.before.loop-v.v ≤ (net (entry c.before)).nodes
+node : (c : In-loop-v) → c.loop-v.v ≤ (net (goal.at.In-loop-v c).Start).nodes
 unfolding net_in
 node c = c.loop-v-test.true
 
-read : (c : After-limit-x) → c.limit-x.result ≡ limit (net (entry c.before.before)) c.before.before.loop-v.v
+read : (c : After-limit-x) → c.limit-x.result ≡ limit (net (goal.at.After-limit-x c).Start) c.loop-v.v
 unfolding net_in
 read c = c.limit-x.ensures
 
 -- and if it is limited there is a place for it
-place : (c : Then-x-ne0) → let t = c.before.before in t.before.loop-v.end < length t.before.loop-v.table
+place : (c : Then-x-ne0) → c.loop-v.end < length c.loop-v.table
 place c =
-    let t = c.before.before in
-    gathering-place t.before.loop-v.invariant (node t) (λ z. c.if-x-ne0.true (read c.before ∙ z))
+    let (goal.at.Then-x-ne0 c).In-loop-v = (goal.at.Then-x-ne0 c).In-loop-v in
+    gathering-place c.loop-v.invariant (node (goal.at.Then-x-ne0 c).In-loop-v) (λ z. c.if-x-ne0.true (read (goal.at.Then-x-ne0 c).After-limit-x ∙ z))
 
 pub loop-v-init : goal.loop-v-init
 loop-v-init c =
-    let p = c.before.before.before.requires in
+    let p = c.requires in
     gathering-none (sym (arcs-is p.roomy.packed)) (capacities-length p.roomy.packed) p.capacities (p.roomy.whole ∙ p.roomy.counted)
 
 pub loop-v-preserved : goal.loop-v-preserved
 loop-v-preserved c =
-    let t = c.before.before in
-    let I = t.before.loop-v.invariant in
+    let I = c.loop-v.invariant in
     ⊎_elim
-    (λ w. rw (w.1, w.2) (gathering-more I (node t) (λ z. w.0.taken (read c.before ∙ z)) (read c.before)))
-    (λ w. rw (w.1, w.2) (gathering-on I (node t) (sym (read c.before) ∙ w.0.left)))
+    (λ w. rw (w.1, w.2) (gathering-more I (node (goal.at.loop-v-preserved c).In-loop-v) (λ z. w.0.taken (read (goal.at.loop-v-preserved c).After-limit-x ∙ z)) (read (goal.at.loop-v-preserved c).After-limit-x)))
+    (λ w. rw (w.1, w.2) (gathering-on I (node (goal.at.loop-v-preserved c).In-loop-v) (sym (read (goal.at.loop-v-preserved c).After-limit-x) ∙ w.0.left)))
     c.if-x-ne0.branch
 
 pub shape_of-table : goal.shape_of-table
 shape_of-table c =
-    let p = (entry c.before).requires in
-    c.before.loop-v.invariant.size ∙ sym (p.roomy.whole ∙ p.roomy.counted)
+    let p = c.requires in
+    c.loop-v.invariant.size ∙ sym (p.roomy.whole ∙ p.roomy.counted)
 
 pub returns : goal.returns
 unfolding net_in
 returns c =
-    let I = c.before.loop-v.invariant in
+    let I = c.loop-v.invariant in
     gathering-all I (omega (arith, I.within, c.loop-v-test.false))
 
 pub offset_bounds-table-end : goal.offset_bounds-table-end

@@ -22,29 +22,28 @@ one_more {from} {old} {new} {e} C b r =
 whole : (from new : List ℕ) {e : ℕ} → length from ≡ e → take e new ≡ take e from → take (length from) new ≡ from
 whole from new q h = rw q (h ∙ rw (← q) (take-length from))
 
-place : (c : In-loop-i) → c.before.loop-i.i < length c.before.loop-i.table
-place c = omega (arith, c.before.loop-i.invariant.size, c.before.before.requires, c.loop-i-test.true)
+place : (c : In-loop-i) → c.loop-i.i < length c.loop-i.table
+place c = omega (arith, c.loop-i.invariant.size, c.requires, c.loop-i-test.true)
 
 pub loop-i-init : goal.loop-i-init
 loop-i-init c = record { within = omega arith; first = refl; size = refl }
 
 pub loop-i-preserved : goal.loop-i-preserved
 loop-i-preserved c =
-    let t = c.before in
-    one_more t.before.loop-i.invariant t.loop-i-test.true (place t)
+    one_more c.loop-i.invariant c.loop-i-test.true (place (goal.at.loop-i-preserved c).In-loop-i)
 
 pub shape_of-table : goal.shape_of-table
-shape_of-table c = c.before.loop-i.invariant.size
+shape_of-table c = c.loop-i.invariant.size
 
 pub returns : goal.returns
 returns c =
-    let I = c.before.loop-i.invariant in
-    let from = c.before.before.args.capacities.now in
-    let q : length from ≡ c.before.loop-i.i = omega (arith, c.loop-i-test.false, I.within) in
-    whole from c.before.loop-i.table q I.first
+    let I = c.loop-i.invariant in
+    let from = c.args.capacities.now in
+    let q : length from ≡ c.loop-i.i = omega (arith, c.loop-i-test.false, I.within) in
+    whole from c.loop-i.table q I.first
 
 pub offset_bounds-table-i : goal.offset_bounds-table-i
-offset_bounds-table-i c = omega (arith, place c.before)
+offset_bounds-table-i c = omega (arith, place (goal.at.offset_bounds-table-i c).In-loop-i)
 
 pub bounds-table-i : goal.bounds-table-i
-bounds-table-i c = place c.before
+bounds-table-i c = place (goal.at.bounds-table-i c).In-loop-i

@@ -16,7 +16,7 @@ among xs zero n = absurd (n refl)
 among xs (suc v) n = let q : suc v - 1 ≡ v = omega arith in rw q refl
 
 pub returns-then-v-limits : goal.returns-then-v-limits
-returns-then-v-limits c = past c.before.before.args.limits.now _ c.if-v-limits.true
+returns-then-v-limits c = past c.args.limits.now _ c.if-v-limits.true
 
 pub returns : goal.returns
-returns c = among c.before.before.before.args.limits.now _ c.before.before.if-v-eq0.false
+returns c = among c.args.limits.now _ c.if-v-eq0.false

@@ -13,68 +13,61 @@ use Rattle.index.specs.Index.{places_from}
 use Rattle.index.proofs.Limits.{place-most}
 use Rattle.index.proofs.Locating.{Locating, locating-none, locating-none-limited, locating-limited, locating-all}
 use Rattle.index.proofs.place_nodes.Goals as goal
-use Rattle.index.proofs.place_nodes.Goals.{After-limit, At-loop-v, In-loop-v, Joined-limit-ne0, Start}
-
--- the function's entry, seen from a turn
-abbrev entry : At-loop-v → Start
-entry c = c.before.before.before.before
+use Rattle.index.proofs.place_nodes.Goals.{After-limit, In-loop-v, Joined-limit-ne0, Start}
 
 abbrev net : Start → Network
 net s = net_in s.args.s s.args.net.now
 
 -- the present node is one of the network's, and has a place
-node : (c : In-loop-v) → c.before.loop-v.v ≤ (net (entry c.before)).nodes
+node : (c : In-loop-v) → c.loop-v.v ≤ (net (goal.at.In-loop-v c).Start).nodes
 unfolding net_in
 node c = c.loop-v-test.true
 
-place : (c : In-loop-v) → places_from + c.before.loop-v.v < length (entry c.before).args.ix.now
-place c = let p = (entry c.before).requires in omega (arith, node c, p.nodes, p.numbers)
+place : (c : In-loop-v) → places_from + c.loop-v.v < length c.args.ix.now
+place c = let p = c.requires in omega (arith, node c, p.nodes, p.numbers)
 
-read : (c : After-limit) → c.limit.result ≡ limit (net (entry c.before.before)) c.before.before.loop-v.v
+read : (c : After-limit) → c.limit.result ≡ limit (net (goal.at.After-limit c).Start) c.loop-v.v
 unfolding net_in
 read c = c.limit.ensures
 
 pub loop-v-init : goal.loop-v-init
-loop-v-init c = locating-none (sym (arcs-is c.before.before.before.requires.packed))
+loop-v-init c = locating-none (sym (arcs-is c.requires.packed))
 
-good : (c : Joined-limit-ne0) → places_from + c.before.before.before.loop-v.v < 1155
-good c = omega (arith, node c.before.before, (entry c.before.before.before).requires.nodes)
+good : (c : Joined-limit-ne0) → places_from + c.loop-v.v < 1155
+good c = omega (arith, node (goal.at.Joined-limit-ne0 c).In-loop-v, c.requires.nodes)
 
 pub overflow_add-next : goal.overflow_add-next
 overflow_add-next c =
-    let t = c.before.before in
-    let s = entry t.before in
-    let p = s.requires in
+    let p = c.requires in
     omega (
       arith,
-      t.before.loop-v.invariant.next-is,
-      place-most (net s) t.before.loop-v.v,
+      c.loop-v.invariant.next-is,
+      place-most (net (goal.at.overflow_add-next c).Start) c.loop-v.v,
       arcs-is p.packed,
       p.packed.few-arcs,
-      node t,
+      node (goal.at.overflow_add-next c).In-loop-v,
       p.nodes,
     )
 
 pub bounds-ix-v : goal.bounds-ix-v
-bounds-ix-v c = let t = c.before.before in omega (arith, place t, t.before.loop-v.invariant.size)
+bounds-ix-v c = omega (arith, place (goal.at.bounds-ix-v c).In-loop-v, c.loop-v.invariant.size)
 
 pub loop-v-preserved : goal.loop-v-preserved
 loop-v-preserved c =
-    let t = c.before.before in
-    let I = t.before.loop-v.invariant in
-    let b = place t in
-    let n = node t in
+    let I = c.loop-v.invariant in
+    let b = place (goal.at.loop-v-preserved c).In-loop-v in
+    let n = node (goal.at.loop-v-preserved c).In-loop-v in
     ⊎_elim
-    (λ w. rw (w.1, w.2) (locating-limited I b n (λ z. w.0.taken (read c.before ∙ z))))
-    (λ w. rw (w.1, w.2) (locating-none-limited I b n (sym (read c.before) ∙ w.0.left) (entry t.before).requires.counted))
+    (λ w. rw (w.1, w.2) (locating-limited I b n (λ z. w.0.taken (read (goal.at.loop-v-preserved c).After-limit ∙ z))))
+    (λ w. rw (w.1, w.2) (locating-none-limited I b n (sym (read (goal.at.loop-v-preserved c).After-limit) ∙ w.0.left) c.requires.counted))
     c.if-limit-ne0.branch
 
 pub shape_of-ix : goal.shape_of-ix
-shape_of-ix c = c.before.loop-v.invariant.size
+shape_of-ix c = c.loop-v.invariant.size
 
 pub returns : goal.returns
 unfolding net_in
-returns c = locating-all c.before.loop-v.invariant c.loop-v-test.false
+returns c = locating-all c.loop-v.invariant c.loop-v-test.false
 
 pub overflow_add-ix : goal.overflow_add-ix
 overflow_add-ix c = omega (arith, good c)

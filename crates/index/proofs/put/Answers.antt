@@ -8,10 +8,10 @@ use Rattle.index.specs.Indexing.{placed}
 use Rattle.index.proofs.put.Goals as goal
 
 pub bounds-ix-p-2 : goal.bounds-ix-p-2
-bounds-ix-p-2 c = simp length-set (omega (arith, c.before.requires))
+bounds-ix-p-2 c = simp length-set (omega (arith, c.requires))
 
 pub bounds-ix-v-2 : goal.bounds-ix-v-2
-bounds-ix-v-2 c = simp length-set (omega (arith, c.before.requires))
+bounds-ix-v-2 c = simp length-set (omega (arith, c.requires))
 
 pub returns : goal.returns
 unfolding placed

@@ -12,15 +12,13 @@ use Rattle.index.proofs.resource_capacities.Goals as goal
 pub copy-requires : goal.copy-requires
 unfolding net_in
 copy-requires c =
-    let s = c.before.before.before.before in
-    omega (arith, capacities-length s.requires.packed, arcs-le (net_in s.args.s s.args.net.now), s.requires.whole, s.requires.counted)
+    omega (arith, capacities-length c.requires.packed, arcs-le (net_in c.args.s c.args.net.now), c.requires.whole, c.requires.counted)
 
 pub append_limits-requires : goal.append_limits-requires
 unfolding net_in
 append_limits-requires c =
-    let C = c.before.before.before in
-    let p = C.before.before.before.before.before.requires in
+    let p = c.requires in
     record {
-      roomy = record { packed = p.packed; counted = p.counted; whole = C.copy.auto.1.0 ∙ p.whole };
-      capacities = ap (λ n. take n C.copy.new.1.0) (sym (capacities-length p.packed ∙ arcs-is p.packed)) ∙ C.copy.ensures;
+      roomy = record { packed = p.packed; counted = p.counted; whole = c.copy.auto.1.0 ∙ p.whole };
+      capacities = ap (λ n. take n c.copy.new.1.0) (sym (capacities-length p.packed ∙ arcs-is p.packed)) ∙ c.copy.ensures;
     }

@@ -9,38 +9,29 @@ use borrow.Author.Rules.{rules}
 use Rattle.index.specs.Indexing.{Side, side, Building}
 use Rattle.index.proofs.Opening.{building-next}
 use Rattle.index.proofs.row.Goals as goal
-use Rattle.index.proofs.row.Goals.{At-loop-e, Start}
-
--- the function's entry, seen from a turn
-abbrev entry : At-loop-e → Start
-entry c = c.before.before.before.before.before.before
 
 pub loop-e-init : goal.loop-e-init
 loop-e-init c =
-    let s = c.before.before.before.before.before in
-    record { building = building-next s.requires.building s.requires.columns s.requires.node; within = omega arith; size = refl }
+    record { building = building-next c.requires.building c.requires.columns c.requires.node; within = omega arith; size = refl }
 
 pub add-requires : goal.add-requires
 add-requires c =
-    let t = c.before in
-    let s = entry t.before in
-    record { building = t.before.loop-e.invariant.building; seeing = record { columns = s.requires.columns; arc = t.loop-e-test.true } }
+    record { building = c.loop-e.invariant.building; seeing = record { columns = c.requires.columns; arc = c.loop-e-test.true } }
 
 pub loop-e-preserved : goal.loop-e-preserved
 loop-e-preserved c =
-    let A = c.before.before.add in
-    let t = c.before.before.before.before in
+    let A = c.add in
     record {
       building = A.ensures;
-      within = omega (arith, t.loop-e-test.true);
-      size = A.auto.1.1.1.1.1.0 ∙ t.before.loop-e.invariant.size;
+      within = omega (arith, c.loop-e-test.true);
+      size = A.auto.1.1.1.1.1.0 ∙ c.loop-e.invariant.size;
     }
 
 pub shape_of-ix : goal.shape_of-ix
-shape_of-ix c = c.before.loop-e.invariant.size ∙ simp length-set
+shape_of-ix c = c.loop-e.invariant.size ∙ simp length-set
 
 pub returns : goal.returns
 returns c =
-    let I = c.before.loop-e.invariant in
-    let q : c.before.loop-e.e ≡ length (entry c.before).args.here.now = omega (arith, c.loop-e-test.false, I.within) in
+    let I = c.loop-e.invariant in
+    let q : c.loop-e.e ≡ length c.args.here.now = omega (arith, c.loop-e-test.false, I.within) in
     rw q at I.building

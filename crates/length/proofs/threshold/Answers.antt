@@ -9,13 +9,13 @@ use Rattle.length.proofs.Bounds.{threshold-most}
 use Rattle.length.proofs.threshold.Goals as goal
 use Rattle.length.proofs.threshold.Goals.{After-level}
 
-product : (c : After-level) → c.before.args.q * c.level.result ≡ threshold c.before.args.m c.before.args.q
+product : (c : After-level) → c.args.q * c.level.result ≡ threshold c.args.m c.args.q
 unfolding threshold
-product c = ap (λ (x : ℕ). c.before.args.q * x) c.level.ensures
+product c = ap (λ (x : ℕ). c.args.q * x) c.level.ensures
 
 pub overflow_mul-result : goal.overflow_mul-result
 overflow_mul-result c =
-    let a = c.before.args in
+    let a = c.args in
     omega (arith, product c, threshold-most a.m a.q (omega arith) (omega arith) (omega arith) (omega arith))
 
 pub returns : goal.returns

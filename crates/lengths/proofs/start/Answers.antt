@@ -13,42 +13,33 @@ use Rattle.lengths.specs.Results.{first_lengths}
 use Rattle.lengths.proofs.Weighable.{first-weighable}
 use Rattle.lengths.proofs.Weighed.{Weighing, weigh-none, weigh-more, weigh-all, weighing-most}
 use Rattle.lengths.proofs.start.Goals as goal
-use Rattle.lengths.proofs.start.Goals.{After-start-first, In-loop-e, Start}
-
-abbrev entry : In-loop-e → Start
-entry c = c.before.before.before.before
+use Rattle.lengths.proofs.start.Goals.{After-start-first}
 
 pub start-first-requires : goal.start-first-requires
-start-first-requires c = let p = (entry c.before).requires.sizes in (p.least _ (omega arith), p.most _ (omega arith))
-
--- behind the start of an arc: the loop's test
-abbrev turn : After-start-first → In-loop-e
-turn c = c.before.before
+start-first-requires c = let p = c.requires.sizes in (p.least _ (omega arith), p.most _ (omega arith))
 
 -- the arc's part of D
 part : (c : After-start-first) →
-    get_or (entry (turn c)).args.capacities.now (turn c).before.loop-e.e 0 * c.start-first.result.value ≤ most_capacity * 2 ^ 40
+    get_or c.args.capacities.now c.loop-e.e 0 * c.start-first.result.value ≤ most_capacity * 2 ^ 40
 unfolding mark
 part c =
-    let capacity = get_or (entry (turn c)).args.capacities.now (turn c).before.loop-e.e 0 in
-    let p = (entry (turn c)).requires.sizes in
+    let capacity = get_or c.args.capacities.now c.loop-e.e 0 in
+    let p = c.requires.sizes in
     mul-le-mul {m₂ = 2 ^ 40} (p.most _ (omega arith)) (omega (arith, c.start-first.ensures.0, start_fits capacity (p.least _ (omega arith))))
 
 pub overflow_mul-d : goal.overflow_mul-d
 overflow_mul-d c = omega (arith, part c)
 
 pub overflow_add-d : goal.overflow_add-d
-overflow_add-d c = omega (arith, part c, weighing-most (first-weighable (entry (turn c)).requires) (turn c).before.loop-e.invariant (omega arith))
+overflow_add-d c = omega (arith, part c, weighing-most (first-weighable c.requires) c.loop-e.invariant (omega arith))
 
 pub loop-e-preserved : goal.loop-e-preserved
 loop-e-preserved c =
-    let t = turn c in
-    weigh-more _ t.before.loop-e.invariant (omega (arith, (entry t).requires.same)) (c.start-first.ensures.0 ∙ sym (map_at start (entry t).args.capacities.now t.before.loop-e.e t.loop-e-test.true))
+    weigh-more _ c.loop-e.invariant (omega (arith, c.requires.same)) (c.start-first.ensures.0 ∙ sym (map_at start c.args.capacities.now c.loop-e.e c.loop-e-test.true))
 
 pub returns : goal.returns
 returns c =
-    let s = c.before.before.before.before in
-    weigh-all c.before.loop-e.invariant (omega (arith, s.requires.same)) (length-map s.args.capacities.now start ∙ sym s.requires.same) s.requires.same
+    weigh-all c.loop-e.invariant (omega (arith, c.requires.same)) (length-map c.args.capacities.now start ∙ sym c.requires.same) c.requires.same
 
 pub loop-e-init : goal.loop-e-init
 loop-e-init c = weigh-none _ _ _

@@ -8,4 +8,4 @@ pub slice_bounds-out-end : goal.slice_bounds-out-end
 slice_bounds-out-end c = c.listing-k.ensures.within
 
 pub slice_bounds-write_all-end : goal.slice_bounds-write_all-end
-slice_bounds-write_all-end c = sym (length-take-le _ _ c.before.listing-k.ensures.within)
+slice_bounds-write_all-end c = sym (length-take-le _ _ c.listing-k.ensures.within)

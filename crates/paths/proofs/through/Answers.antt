@@ -6,4 +6,4 @@ use lib.ListN.{get_or-eq_default}
 use Rattle.paths.proofs.through.Goals as goal
 
 pub returns : goal.returns
-returns c = sym (get_or-eq_default c.before.before.args.lengths.now 0 c.if-r-lengths.false)
+returns c = sym (get_or-eq_default c.args.lengths.now 0 c.if-r-lengths.false)

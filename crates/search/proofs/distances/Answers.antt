@@ -7,6 +7,5 @@ use Rattle.search.proofs.distances.Goals as goal
 
 pub distances_in-requires : goal.distances_in-requires
 distances_in-requires c =
-    let s = c.before.before.before.before.before.before in
-    let n = s.requires.index.arcs.nodes in
-    (s.requires, worklist-zeros _ 65 (omega (arith, n)))
+    let n = c.requires.index.arcs.nodes in
+    (c.requires, worklist-zeros _ 65 (omega (arith, n)))

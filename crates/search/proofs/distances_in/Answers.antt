@@ -21,7 +21,7 @@ use Rattle.paths.proofs.Orders.{ordered-arranged, ordered-scanning, ordered-wait
 use Rattle.paths.proofs.Pages.{searched}
 use Rattle.paths.proofs.Searches.{searching-out}
 use Rattle.search.proofs.distances_in.Goals as goal
-use Rattle.search.proofs.distances_in.Goals.{After-enlist-size, After-relax_into-size, After-reset, After-scan-at, After-take_out-v, At-loop-size, In-loop-size, Joined-at-n, Start}
+use Rattle.search.proofs.distances_in.Goals.{After-scan-at, After-slice_known-4-1, At-loop-size, In-loop-size, Joined-at-n}
 
 begun :
     {net : Network} {into l new : List ℕ} {t : ℕ} (old : List ℕ) {flags listed : List ℕ} {size r : ℕ} → Seeking net into l t old →
@@ -30,154 +30,116 @@ begun :
 begun {net} {l = l} {t = t} old S s q E =
     rw q (searching-start net l old t S.sink.1 S.index.arcs.nodes S.ordered (rw (sym (ap length q) ∙ s) S.fit) E)
 
--- from each call back to the one before it, and from the first to the function's entry
-abbrev first : After-reset → Start
-first c = c.before.before.before.before.before.before.before
-
-abbrev reset-at : After-enlist-size → After-reset
-reset-at c = c.before.before.before.before
-
-abbrev enlist-at : At-loop-size → After-enlist-size
-enlist-at c = c.before.before.before
-
-abbrev entry : At-loop-size → Start
-entry c = first (reset-at (enlist-at c))
-
-abbrev turn : After-scan-at → In-loop-size
-turn c = c.before.before.before
-
-abbrev scan-at : Joined-at-n → After-scan-at
-scan-at c = c.before
-
-abbrev found_at : After-take_out-v → Joined-at-n
-found_at c = c.before.before.before.before
-
-abbrev take-out-at : After-relax_into-size → After-take_out-v
-take-out-at c = c.before.before.before.before.before
-
 -- the page is as large as it was lent, so the order has room
-whole : (c : At-loop-size) → length c.loop-size.page ≡ length (entry c).args.page.now
-whole c = c.loop-size.invariant.pages ∙ (reset-at (enlist-at c)).reset.auto.1.1.0
+whole : (c : At-loop-size) → length c.loop-size.page ≡ length c.args.page.now
+whole c = c.loop-size.invariant.pages ∙ c.reset.auto.1.1.0
 
-room : (c : At-loop-size) → order_from + (net_in (entry c).args.s (entry c).args.net.now).nodes ≤ length c.loop-size.page
-room c = let S = (entry c).requires.seeking in omega (arith, whole c, S.room, S.index.arcs.nodes)
+room : (c : At-loop-size) → order_from + (net_in c.args.s c.args.net.now).nodes ≤ length c.loop-size.page
+room c = let S = c.requires.seeking in omega (arith, whole c, S.room, S.index.arcs.nodes)
 
 pub reset-requires : goal.reset-requires
 unfolding net_in
-reset-requires c = let S = c.before.before.before.before.before.before.requires.seeking in (S.fit.room, S.sink.1)
+reset-requires c = let S = c.requires.seeking in (S.fit.room, S.sink.1)
 
 pub enlist-size-requires : goal.enlist-size-requires
 unfolding net_in
-enlist-size-requires c = let s = first c.before.before.before in (s.requires.empty, s.requires.seeking.sink)
+enlist-size-requires c = (c.requires.empty, c.requires.seeking.sink)
 
 pub loop-size-init : goal.loop-size-init
 unfolding net_in
 loop-size-init c =
-    let E = c.before.before in
-    let R = reset-at E in
-    let s = first R in
     record {
-      searching = begun s.args.page.now s.requires.seeking R.reset.auto.1.1.0 R.reset.ensures (E.enlist-size.ensures.came refl);
+      searching = begun c.args.page.now c.requires.seeking c.reset.auto.1.1.0 c.reset.ensures (c.enlist-size.ensures.came refl);
       pages = refl;
       flags = refl;
     }
 
-scanning : (c : In-loop-size) → let s = (entry c.before).args in
-    Scanning (net_in s.s s.net.now).nodes c.before.loop-size.page c.before.loop-size.listed
-scanning c = let S = c.before.loop-size.invariant.searching in ordered-scanning S.ordered S.worklist (room c.before)
+scanning : (c : In-loop-size) → let s = c.args in
+    Scanning (net_in s.s s.net.now).nodes c.loop-size.page c.loop-size.listed
+scanning c = let S = c.loop-size.invariant.searching in ordered-scanning S.ordered S.worklist (room (goal.at.In-loop-size c).At-loop-size)
 
 pub scan-at-requires : goal.scan-at-requires
 unfolding net_in
-scan-at-requires c = scanning c.before.before
+scan-at-requires c = scanning (goal.at.scan-at-requires c).After-slice_known-4-1
 
 pub scan-at-requires-then-at-n : goal.scan-at-requires-then-at-n
 unfolding net_in
-scan-at-requires-then-at-n c = scanning (turn c.before.before.before.before)
+scan-at-requires-then-at-n c = scanning (goal.at.scan-at-requires-then-at-n c).In-loop-size
 
 at_place : {n at p : ℕ} {page listed : List ℕ} → at ≡ p → Waits n page listed p → Waits n page listed at
 at_place q W = rw q W
 
 -- the place found, by the first look or, from the first place on, by the second
-waits : (c : Joined-at-n) → let t = turn (scan-at c) in let s = (entry t.before).args in
-    Waits (net_in s.s s.net.now).nodes t.before.loop-size.page t.before.loop-size.listed c.if-at-n.at
+waits : (c : Joined-at-n) → let s = c.args in
+    Waits (net_in s.s s.net.now).nodes c.loop-size.page c.loop-size.listed c.if-at-n.at
 unfolding net_in
 waits c =
-    let t = turn (scan-at c) in
-    let S = t.before.loop-size.invariant.searching in
+    let (goal.at.Joined-at-n c).In-loop-size = (goal.at.Joined-at-n c).In-loop-size in
+    let S = c.loop-size.invariant.searching in
     ⊎_elim
-    (λ w. at_place w.6 (ordered-waits S.ordered S.worklist (omega (arith, t.loop-size-test.true)) w.4.ensures))
-    (λ w. at_place w.2 (record { place = w.0.left; flag = (scan-at c).scan-at.ensures.flag w.0.left }))
+    (λ w. at_place w.6 (ordered-waits S.ordered S.worklist (omega (arith, c.loop-size-test.true)) w.4.ensures))
+    (λ w. at_place w.2 (record { place = w.0.left; flag = c.scan-at.ensures.flag w.0.left }))
     c.if-at-n.branch
 
 pub overflow_add-from : goal.overflow_add-from
 unfolding net_in
-overflow_add-from c = let J = c.before in let t = turn (scan-at J) in omega (arith, (waits J).place, (entry t.before).requires.seeking.index.arcs.nodes)
+overflow_add-from c = omega (arith, (waits (goal.at.overflow_add-from c).Joined-at-n).place, c.requires.seeking.index.arcs.nodes)
 
 pub take_out-v-requires : goal.take_out-v-requires
 unfolding net_in
 take_out-v-requires c =
-    let J = c.before.before.before in
-    let t = turn (scan-at J) in
-    let S = t.before.loop-size.invariant.searching in
-    record { arranged = ordered-arranged S.ordered (room t.before); worklist = S.worklist; waits = waits J }
+    let S = c.loop-size.invariant.searching in
+    record { arranged = ordered-arranged S.ordered (room (goal.at.take_out-v-requires c).At-loop-size); worklist = S.worklist; waits = waits (goal.at.take_out-v-requires c).After-scan-at }
 
 pub overflow_sub-size : goal.overflow_sub-size
-overflow_sub-size c = omega (arith, (turn (scan-at (found_at c.before.before.before.before))).loop-size-test.true)
+overflow_sub-size c = omega (arith, c.loop-size-test.true)
 
 pub relax_into-size-requires : goal.relax_into-size-requires
 unfolding net_in
 relax_into-size-requires c =
-    let T = c.before.before.before.before in
-    let t = turn (scan-at (found_at T)) in
-    let s = entry t.before in
     record {
-      searching = searching-out s.args.into.now t.before.loop-size.invariant.searching T.take_out-v.ensures;
-      index = s.requires.seeking.index;
-      node = T.take_out-v.ensures.node.1;
+      searching = searching-out c.args.into.now c.loop-size.invariant.searching c.take_out-v.ensures;
+      index = c.requires.seeking.index;
+      node = c.take_out-v.ensures.node.1;
     }
 
 pub loop-size-smaller : goal.loop-size-smaller
 loop-size-smaller c =
-    let R = c.before.before.before.before in
-    omega (arith, R.relax_into-size.ensures.weight, (turn (scan-at (found_at (take-out-at R)))).loop-size-test.true)
+    omega (arith, c.relax_into-size.ensures.weight, c.loop-size-test.true)
 
 pub loop-size-preserved : goal.loop-size-preserved
 loop-size-preserved c =
-    let R = c.before.before.before.before in
-    let T = take-out-at R in
-    let I = (turn (scan-at (found_at T))).before.loop-size.invariant in
-    let k = R.relax_into-size.auto.1.1.1.1.1.1 in
+    let I = c.loop-size.invariant in
+    let k = c.relax_into-size.auto.1.1.1.1.1.1 in
     record {
-      searching = R.relax_into-size.ensures.searching;
+      searching = c.relax_into-size.ensures.searching;
       pages = k.0 ∙ I.pages;
-      flags = k.1.0 ∙ (T.take_out-v.auto.1.1.1.0 ∙ I.flags);
+      flags = k.1.0 ∙ (c.take_out-v.auto.1.1.1.0 ∙ I.flags);
     }
 
 pub sort-requires : goal.sort-requires
 unfolding net_in
-sort-requires c = let a = c.before.before.before in ordered-arranged a.loop-size.invariant.searching.ordered (room a)
+sort-requires c = ordered-arranged c.loop-size.invariant.searching.ordered (room (goal.at.sort-requires c).At-loop-size)
 
 pub shape_of-page-then-rounds-eq-MOST_ROUNDS : goal.shape_of-page-then-rounds-eq-MOST_ROUNDS
-shape_of-page-then-rounds-eq-MOST_ROUNDS c = c.before.before.sort.auto.1.0 ∙ whole c.before.before.before.before.before.before
+shape_of-page-then-rounds-eq-MOST_ROUNDS c = c.sort.auto.1.0 ∙ whole (goal.at.shape_of-page-then-rounds-eq-MOST_ROUNDS c).At-loop-size
 
 pub shape_of-listed-then-rounds-eq-MOST_ROUNDS : goal.shape_of-listed-then-rounds-eq-MOST_ROUNDS
-shape_of-listed-then-rounds-eq-MOST_ROUNDS c = let a = c.before.before.before.before.before.before in a.loop-size.invariant.flags ∙ (enlist-at a).enlist-size.auto.1.1.1.0
+shape_of-listed-then-rounds-eq-MOST_ROUNDS c = c.loop-size.invariant.flags ∙ c.enlist-size.auto.1.1.1.0
 
 pub returns-then-rounds-eq-MOST_ROUNDS : goal.returns-then-rounds-eq-MOST_ROUNDS
 unfolding net_in
 returns-then-rounds-eq-MOST_ROUNDS c =
-    let x = c.before.before.before.before.before in
-    let S = (entry x.before).requires.seeking in
-    searched S.index.arcs.nodes S.sink x.before.loop-size.invariant.searching x.loop-size-test.false c.before.before.sort.ensures
+    let S = c.requires.seeking in
+    searched S.index.arcs.nodes S.sink c.loop-size.invariant.searching c.loop-size-test.false c.sort.ensures
 
 pub shape_of-page-else-rounds-eq-MOST_ROUNDS : goal.shape_of-page-else-rounds-eq-MOST_ROUNDS
-shape_of-page-else-rounds-eq-MOST_ROUNDS c = whole c.before.before
+shape_of-page-else-rounds-eq-MOST_ROUNDS c = whole (goal.at.shape_of-page-else-rounds-eq-MOST_ROUNDS c).At-loop-size
 
 pub shape_of-listed-else-rounds-eq-MOST_ROUNDS : goal.shape_of-listed-else-rounds-eq-MOST_ROUNDS
-shape_of-listed-else-rounds-eq-MOST_ROUNDS c = let a = c.before.before in a.loop-size.invariant.flags ∙ (enlist-at a).enlist-size.auto.1.1.1.0
+shape_of-listed-else-rounds-eq-MOST_ROUNDS c = c.loop-size.invariant.flags ∙ c.enlist-size.auto.1.1.1.0
 
 pub returns-else-rounds-eq-MOST_ROUNDS : goal.returns-else-rounds-eq-MOST_ROUNDS
 returns-else-rounds-eq-MOST_ROUNDS c =
-    let x = c.before in
-    let S = (entry x.before).requires.seeking in
-    searched S.index.arcs.nodes S.sink x.before.loop-size.invariant.searching x.loop-size-test.false (rearranged-none _ _)
+    let S = c.requires.seeking in
+    searched S.index.arcs.nodes S.sink c.loop-size.invariant.searching c.loop-size-test.false (rearranged-none _ _)

@@ -6,4 +6,4 @@ use borrow.Author.Rules.{rules}
 use Rattle.search.proofs.reset.Goals as goal
 
 pub returns : goal.returns
-returns c = ap (λ d. set d c.before.before.before.before.before.args.sink 0) c.before.before.fill.ensures
+returns c = ap (λ d. set d c.args.sink 0) c.fill.ensures

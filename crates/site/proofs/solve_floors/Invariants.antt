@@ -15,10 +15,10 @@ use Rattle.site.proofs.solve_floors.Given as goal
 
 -- as long as they were, table by table
 pub record AsLong (old new : Slices) : Type 0 where
-  pub flow : length new.flow-1 ≡ length old.flow-1
-  pub lengths : length new.lengths-1 ≡ length old.lengths-1
+  pub flow : length new.flow ≡ length old.flow
+  pub lengths : length new.lengths ≡ length old.lengths
   pub answers : length new.answer ≡ length old.answer
-  pub counts : length new.counts-1 ≡ length old.counts-1
+  pub counts : length new.counts ≡ length old.counts
 
 abbrev pub invariant-loop-i : goal.invariant-loop-i
 invariant-loop-i l =

@@ -5,7 +5,7 @@ use Rattle.solver.proofs.solve.Goals as goal
 
 pub solve_in-requires : goal.solve_in-requires
 solve_in-requires c =
-    let p = c.before.before.before.before.before.before.before.requires in
+    let p = c.requires in
     record {
       lent = p.lent;
       flows = p.flows;

@@ -4,7 +4,7 @@ use mathlib.Core.Path.{refl}
 use Rattle.step.proofs.count.Goals as goal
 
 pub returns-then-better : goal.returns-then-better
-returns-then-better c = rw c.before.if-better.true refl
+returns-then-better c = rw c.if-better.true refl
 
 pub returns-else-better : goal.returns-else-better
-returns-else-better c = rw c.before.if-better.false refl
+returns-else-better c = rw c.if-better.false refl

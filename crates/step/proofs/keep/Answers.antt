@@ -4,7 +4,7 @@ use Rattle.step.specs.Progress.{keeping}
 use Rattle.step.proofs.keep.Goals as goal
 
 pub returns-then-better : goal.returns-then-better
-returns-then-better c = rw c.before.before.before.before.if-better.true c.before.before.copy_within.ensures
+returns-then-better c = rw c.if-better.true c.copy_within.ensures
 
 pub returns-else-better : goal.returns-else-better
 returns-else-better c = rw c.if-better.false

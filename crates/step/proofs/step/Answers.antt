@@ -21,29 +21,7 @@ use Rattle.step.proofs.Parts.{pushing, loading, lengthening}
 use Rattle.step.proofs.Stepped.{put-together}
 use Rattle.step.proofs.Tabled.{Tabled, tabled, with-lengths, with-loads, with-keeping, in-slice}
 use Rattle.step.proofs.step.Goals as goal
-use Rattle.step.proofs.step.Goals.{After-count, After-draw-g, After-keep, After-lengthen-grown, After-less_product-better, After-load-ended, After-push, Start}
-
--- from each call back to the one before it, and from the first to the function's entry
-abbrev entry : After-draw-g → Start
-entry c = c.before.before.before.before.before
-
-abbrev compare-at : After-keep → After-less_product-better
-compare-at c = c.before.before
-
-abbrev draw-at : After-keep → After-draw-g
-draw-at c = (compare-at c).before
-
-abbrev keep_at : After-push → After-keep
-keep_at c = c.before.before.before.before.before
-
-abbrev push_at : After-load-ended → After-push
-push_at c = c.before.before.before
-
-abbrev load_at : After-lengthen-grown → After-load-ended
-load_at c = c.before.before.before.before
-
-abbrev lengthen-at : After-count → After-lengthen-grown
-lengthen-at c = c.before.before.before
+use Rattle.step.proofs.step.Goals.{After-draw-g, After-keep, After-lengthen-grown, After-load-ended, Start}
 
 -- the network, what the path uses, and the choice
 abbrev net-of : Start → Network
@@ -63,67 +41,57 @@ abbrev Y : Start → List ℕ
 Y s = part loads_from (m s) s.args.tables.now
 
 abbrev K : After-keep → List ℕ
-K c = let s = entry (draw-at c) in cond (compare-at c).less_product-better.result (L s) (part kept_from (m s) s.args.tables.now)
+K c = cond c.less_product-better.result (L (goal.at.After-keep c).Start) (part kept_from (m (goal.at.After-keep c).Start) c.args.tables.now)
 
-kept : (c : After-keep) → let s = entry (draw-at c) in Tabled (m s) c.keep.new.1.1.0 (L s) (Y s) (K c)
+kept : (c : After-keep) → Tabled (m (goal.at.After-keep c).Start) c.keep.new.1.1.0 (L (goal.at.After-keep c).Start) (Y (goal.at.After-keep c).Start) (K c)
 kept c =
-    let s = entry (draw-at c) in
-    with-keeping (tabled (m s) s.args.tables.now s.requires.few s.requires.places) (compare-at c).less_product-better.result c.keep.ensures
-
-abbrev start_of : After-load-ended → Start
-start_of c = entry (draw-at (keep_at (push_at c)))
+    let (goal.at.After-keep c).Start = (goal.at.After-keep c).Start in
+    with-keeping (tabled (m (goal.at.After-keep c).Start) c.args.tables.now c.requires.few c.requires.places) c.less_product-better.result c.keep.ensures
 
 -- The slices of the capacities and of the path hold what the definitions say, so that the draw is the method's.
-drawn : (f : After-draw-g) → f.draw-g.result ≡ draw (resource_capacities (net-of (entry f))) (used_by (net-of (entry f)) (chosen (entry f)))
-drawn f = let s = entry f in f.draw-g.ensures ∙ ap₂ draw s.requires.caps-are s.requires.path-is
+drawn : (f : After-draw-g) → f.draw-g.result ≡ draw (resource_capacities (net-of (goal.at.After-draw-g f).Start)) (used_by (net-of (goal.at.After-draw-g f).Start) (chosen (goal.at.After-draw-g f).Start))
+drawn f = f.draw-g.ensures ∙ ap₂ draw f.requires.caps-are f.requires.path-is
 
-loaded : (c : After-load-ended) → let k = keep_at (push_at c) in let s = start_of c in
-    Tabled (m s) (put loads_from (m s) k.keep.last.1.1.0 c.load-ended.new.0) (L s) c.load-ended.new.0 (K k)
-loaded c = with-loads (kept (keep_at (push_at c))) c.load-ended.new.0 c.load-ended.auto.0
+loaded : (c : After-load-ended) → Tabled (m (goal.at.After-load-ended c).Start) (put loads_from (m (goal.at.After-load-ended c).Start) c.keep.last.1.1.0 c.load-ended.new.0) (L (goal.at.After-load-ended c).Start) c.load-ended.new.0 (K (goal.at.After-load-ended c).After-keep)
+loaded c = with-loads (kept (goal.at.After-load-ended c).After-keep) c.load-ended.new.0 c.load-ended.auto.0
 
-lengthened : (c : After-lengthen-grown) → let k = keep_at (push_at (load_at c)) in let s = start_of (load_at c) in
-    Tabled (m s) (put lengths_from (m s) (put loads_from (m s) k.keep.last.1.1.0 (load_at c).load-ended.new.0) c.lengthen-grown.new.0) c.lengthen-grown.new.0 (load_at c).load-ended.new.0 (K k)
-lengthened c = with-lengths (loaded (load_at c)) c.lengthen-grown.new.0 c.lengthen-grown.auto.0
+lengthened : (c : After-lengthen-grown) → Tabled (m (goal.at.After-lengthen-grown c).Start) (put lengths_from (m (goal.at.After-lengthen-grown c).Start) (put loads_from (m (goal.at.After-lengthen-grown c).Start) c.keep.last.1.1.0 c.load-ended.new.0) c.lengthen-grown.new.0) c.lengthen-grown.new.0 c.load-ended.new.0 (K (goal.at.After-lengthen-grown c).After-keep)
+lengthened c = with-lengths (loaded (goal.at.After-lengthen-grown c).After-load-ended) c.lengthen-grown.new.0 c.lengthen-grown.auto.0
 
 pub draw-g-requires : goal.draw-g-requires
-draw-g-requires c = let p = c.before.before.before.before.requires in rw (p.caps-are, p.path-is) (p.stepping.some-arc, p.stepping.growing.places)
+draw-g-requires c = let p = c.requires in rw (p.caps-are, p.path-is) (p.stepping.some-arc, p.stepping.growing.places)
 
 pub slice_bounds-push-end : goal.slice_bounds-push-end
-slice_bounds-push-end c = sym (length-take-le _ _ (entry (draw-at c.before.before.before.before)).requires.arcs-first)
+slice_bounds-push-end c = sym (length-take-le _ _ c.requires.arcs-first)
 
 pub push-requires : goal.push-requires
 push-requires c =
-    let f = draw-at c.before.before.before.before in let s = entry f in
-    (s.requires.packed, pushing s.requires.stepping s.requires.kept (drawn f))
+    (c.requires.packed, pushing c.requires.stepping c.requires.kept (drawn (goal.at.push-requires c).After-draw-g))
 
 pub load-ended-requires : goal.load-ended-requires
 load-ended-requires c =
-    let k = keep_at c.before.before in let s = entry (draw-at k) in
-    subst₂ (λ x y. Loading (part loads_from (m s) k.keep.last.1.1.0) x s.args.threshold y (draw-at k).draw-g.result) (sym s.requires.caps-are) (sym s.requires.path-is)
-    (loading s.requires.stepping s.requires.kept (drawn (draw-at k)) (kept k).loads)
+    subst₂ (λ x y. Loading (part loads_from (m (goal.at.load-ended-requires c).Start) c.keep.last.1.1.0) x c.args.threshold y c.draw-g.result) (sym c.requires.caps-are) (sym c.requires.path-is)
+    (loading c.requires.stepping c.requires.kept (drawn (goal.at.load-ended-requires c).After-draw-g) (kept (goal.at.load-ended-requires c).After-keep).loads)
 
 pub lengthen-grown-requires : goal.lengthen-grown-requires
 lengthen-grown-requires c =
-    let f = c.before.before.before in let s = start_of f in
-    let k = keep_at (push_at f) in
-    subst₂ (λ x y. Lengthening (part lengths_from (m s) (put loads_from (m s) k.keep.last.1.1.0 f.load-ended.new.0)) x s.args.q (draw-at k).draw-g.result y s.args.p.weight) (sym s.requires.caps-are) (sym s.requires.path-is)
-    (lengthening s.requires.stepping s.requires.kept (drawn (draw-at k)) (loaded f).lengths)
+    subst₂ (λ x y. Lengthening (part lengths_from (m (goal.at.lengthen-grown-requires c).Start) (put loads_from (m (goal.at.lengthen-grown-requires c).Start) c.keep.last.1.1.0 c.load-ended.new.0)) x c.args.q c.draw-g.result y c.args.p.weight) (sym c.requires.caps-are) (sym c.requires.path-is)
+    (lengthening c.requires.stepping c.requires.kept (drawn (goal.at.lengthen-grown-requires c).After-draw-g) (loaded (goal.at.lengthen-grown-requires c).After-load-ended).lengths)
 
 pub count-requires : goal.count-requires
 count-requires c =
-    let f = load_at c.before.before in let p = (start_of f).requires.stepping in
-    omega (arith, p.total, p.count, drawn (draw-at (keep_at (push_at f))), p.loads.small)
+    let p = c.requires.stepping in
+    omega (arith, p.total, p.count, drawn (goal.at.count-requires c).After-draw-g, p.loads.small)
 
 pub returns : goal.returns
 returns c =
-    let long = lengthen-at c in let load = load_at long in let push = push_at load in
-    let keep = keep_at push in let s = start_of load in let z = s.args in
-    in-slice (lengthened long)
-    (λ L' Y' K'. Stepped (net-of s) z.q z.threshold (chosen s) (state_in z.s z.flow-1.now z.tables-1.now z.p) (state_of L' push.push.last.0 Y' K' c.count.result) c.count.result)
-    (put-together (net-of s) z.q z.threshold (chosen s) (L s) z.flow-1.now (Y s) (part kept_from (m s) z.tables-1.now) z.p
-    s.requires.stepping.growing.same s.requires.kept.weight s.requires.stepping.alpha (drawn (draw-at keep))
-    (compare-at keep).less_product-better.ensures refl push.push.ensures (kept keep).loads
-    (subst₂ (λ x y. Loaded (part loads_from (m s) keep.keep.last.1.1.0) x z.threshold y (draw-at keep).draw-g.result load.load-ended.last.0 load.load-ended.result) s.requires.caps-are s.requires.path-is load.load-ended.ensures)
-    (loaded load).lengths
-    (subst₂ (λ x y. Lengthened (part lengths_from (m s) (put loads_from (m s) keep.keep.last.1.1.0 load.load-ended.last.0)) x z.q (draw-at keep).draw-g.result y long.lengthen-grown.last.0 long.lengthen-grown.result) s.requires.caps-are s.requires.path-is long.lengthen-grown.ensures)
+    let z = c.args in
+    in-slice (lengthened (goal.at.returns c).After-lengthen-grown)
+    (λ L' Y' K'. Stepped (net-of (goal.at.returns c).Start) z.q z.threshold (chosen (goal.at.returns c).Start) (state_in z.s z.flow.now z.tables.now z.p) (state_of L' c.push.last.0 Y' K' c.count.result) c.count.result)
+    (put-together (net-of (goal.at.returns c).Start) z.q z.threshold (chosen (goal.at.returns c).Start) (L (goal.at.returns c).Start) z.flow.now (Y (goal.at.returns c).Start) (part kept_from (m (goal.at.returns c).Start) z.tables.now) z.p
+    c.requires.stepping.growing.same c.requires.kept.weight c.requires.stepping.alpha (drawn (goal.at.returns c).After-draw-g)
+    c.less_product-better.ensures refl c.push.ensures (kept (goal.at.returns c).After-keep).loads
+    (subst₂ (λ x y. Loaded (part loads_from (m (goal.at.returns c).Start) c.keep.last.1.1.0) x z.threshold y c.draw-g.result c.load-ended.last.0 c.load-ended.result) c.requires.caps-are c.requires.path-is c.load-ended.ensures)
+    (loaded (goal.at.returns c).After-load-ended).lengths
+    (subst₂ (λ x y. Lengthened (part lengths_from (m (goal.at.returns c).Start) (put loads_from (m (goal.at.returns c).Start) c.keep.last.1.1.0 c.load-ended.last.0)) x z.q c.draw-g.result y c.lengthen-grown.last.0 c.lengthen-grown.result) c.requires.caps-are c.requires.path-is c.lengthen-grown.ensures)
     c.count.ensures)

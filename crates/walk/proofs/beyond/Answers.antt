@@ -27,12 +27,10 @@ to s = sym (part_at heads_from s.args.s.arcs s.args.net.now s.args.e s.requires.
 
 pub returns-then-tail-v : goal.returns-then-tail-v
 returns-then-tail-v c =
-    let s = c.before.before.before in
-    let ahead : forward (net s) s.args.v s.args.e ≡ true = eq-eqb _ _ (sym (from s) ∙ c.before.if-tail-v.true) in
-    rw ahead (to s)
+    let ahead : forward (net (goal.at.returns-then-tail-v c).Start) c.args.v c.args.e ≡ true = eq-eqb _ _ (sym (from (goal.at.returns-then-tail-v c).Start) ∙ c.if-tail-v.true) in
+    rw ahead (to (goal.at.returns-then-tail-v c).Start)
 
 pub returns : goal.returns
 returns c =
-    let s = c.before.before in
-    let back : forward (net s) s.args.v s.args.e ≡ false = ne_eqb _ _ (λ q. c.if-tail-v.false (from s ∙ q)) in
-    rw back (from s)
+    let back : forward (net (goal.at.returns c).Start) c.args.v c.args.e ≡ false = ne_eqb _ _ (λ q. c.if-tail-v.false (from (goal.at.returns c).Start ∙ q)) in
+    rw back (from (goal.at.returns c).Start)

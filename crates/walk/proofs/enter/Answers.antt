@@ -7,10 +7,10 @@ use Rattle.walk.proofs.enter.Goals as goal
 
 pub returns-then-r-s : goal.returns-then-r-s
 returns-then-r-s c =
-    let p = c.before.before.requires in
+    let p = c.requires in
     entered-limited _ _ (p.index.places _ p.node) p.place (omega (arith, p.counted, c.if-r-s.true))
 
 pub returns : goal.returns
 returns c =
-    let p = c.before.before.requires in
+    let p = c.requires in
     entered-none _ _ (p.index.places _ p.node) p.node (omega (arith, p.counted, c.if-r-s.false))

@@ -8,100 +8,81 @@ use Rattle.packed.specs.Packed.{net_in}
 use Rattle.paths.specs.Tight.{Tight}
 use Rattle.paths.proofs.Walking.{Walking, walking_start, walking-few, walking-end, walking_on, walking-stuck, walking-step, next-nearer}
 use Rattle.walk.proofs.walk.Goals as goal
-use Rattle.walk.proofs.walk.Goals.{After-tight-p, At-loop-v, Else-p-out, Start}
-
--- the function's entry, seen from a turn; the turn, seen from behind the search for its arc; and that, where there is an arc
-abbrev entry : At-loop-v → Start
-entry c = c.before.before.before.before.before.before
-
-abbrev turn : After-tight-p → At-loop-v
-turn c = c.before.before
-
-abbrev sought : Else-p-out → After-tight-p
-sought c = c.before.before
+use Rattle.walk.proofs.walk.Goals.{Else-p-out}
 
 -- the arc
 tight :
     (c : Else-p-out) →
-    let e = (entry (turn (sought c))).args in
-    Tight (net_in e.s e.net.now) e.out.now e.lengths.now e.dist.now (turn (sought c)).loop-v.v (sought c).tight-p.result
-tight c = (sought c).tight-p.ensures.found (omega (arith, c.if-p-out.false))
+    let e = c.args in
+    Tight (net_in e.s e.net.now) e.out.now e.lengths.now e.dist.now c.loop-v.v c.tight-p.result
+tight c = c.tight-p.ensures.found (omega (arith, c.if-p-out.false))
 
-place : (c : Else-p-out) → (turn (sought c)).loop-v.k < length (turn (sought c)).loop-v.path
+place : (c : Else-p-out) → c.loop-v.k < length c.loop-v.path
 place c =
-    let t = turn (sought c) in
-    omega (arith, walking-few (entry t).requires t.loop-v.invariant, t.loop-v.invariant.whole, (entry t).requires.places)
+    omega (arith, walking-few c.requires c.loop-v.invariant, c.loop-v.invariant.whole, c.requires.places)
 
 pub loop-v-init : goal.loop-v-init
-loop-v-init c = walking_start c.before.before.before.before.before.requires _ refl
+loop-v-init c = walking_start c.requires _ refl
 
 pub tight-p-requires : goal.tight-p-requires
-tight-p-requires c = walking_on (entry c.before).requires c.before.loop-v.invariant c.loop-v-test.true
+tight-p-requires c = walking_on c.requires c.loop-v.invariant c.loop-v-test.true
 
 pub overflow_add-v : goal.overflow_add-v
-overflow_add-v c = omega (arith, (entry (turn c)).requires.index.arcs.nodes, (turn c).loop-v.invariant.node)
+overflow_add-v c = omega (arith, c.requires.index.arcs.nodes, c.loop-v.invariant.node)
 
 pub offset_bounds-out-v : goal.offset_bounds-out-v
-offset_bounds-out-v c = omega (arith, (entry (turn c)).requires.index.arcs.nodes, (turn c).loop-v.invariant.node)
+offset_bounds-out-v c = omega (arith, c.requires.index.arcs.nodes, c.loop-v.invariant.node)
 
 pub bounds-out-v : goal.bounds-out-v
 bounds-out-v c =
-    let t = turn c.before in
-    omega (arith, (entry t).requires.index.arcs.numbers, (entry t).requires.index.arcs.nodes, t.loop-v.invariant.node)
+    omega (arith, c.requires.index.arcs.numbers, c.requires.index.arcs.nodes, c.loop-v.invariant.node)
 
 pub shape_of-path-then-p-out : goal.shape_of-path-then-p-out
-shape_of-path-then-p-out c = (turn c.before.before).loop-v.invariant.whole
+shape_of-path-then-p-out c = c.loop-v.invariant.whole
 
 pub returns-then-p-out : goal.returns-then-p-out
 returns-then-p-out c =
-    let a = c.before.before in
-    walking-stuck (entry (turn a)).requires (turn a).loop-v.invariant a.before.loop-v-test.true (a.tight-p.ensures.none c.if-p-out.true)
+    walking-stuck c.requires c.loop-v.invariant c.loop-v-test.true (c.tight-p.ensures.none c.if-p-out.true)
 
 pub overflow_add-path : goal.overflow_add-path
-overflow_add-path c = omega (arith, (entry (turn (sought c))).good, (tight c).place)
+overflow_add-path c = omega (arith, c.well_formed, (tight c).place)
 
 pub offset_bounds-out-p : goal.offset_bounds-out-p
-offset_bounds-out-p c = omega (arith, (entry (turn (sought c))).good, (tight c).place)
+offset_bounds-out-p c = omega (arith, c.well_formed, (tight c).place)
 
 pub bounds-out-p : goal.bounds-out-p
-bounds-out-p c = omega (arith, (tight c.before).place)
+bounds-out-p c = omega (arith, (tight (goal.at.bounds-out-p c).Else-p-out).place)
 
 pub offset_bounds-path-k : goal.offset_bounds-path-k
 offset_bounds-path-k c =
-    let t = turn (sought c.before) in
-    omega (arith, (entry t).good, t.loop-v.invariant.whole, place c.before)
+    omega (arith, c.well_formed, c.loop-v.invariant.whole, place (goal.at.offset_bounds-path-k c).Else-p-out)
 
 pub bounds-path-k : goal.bounds-path-k
-bounds-path-k c = place c.before
+bounds-path-k c = place (goal.at.bounds-path-k c).Else-p-out
 
 pub overflow_add-k : goal.overflow_add-k
 overflow_add-k c =
-    let t = turn (sought c.before) in
-    omega (arith, (entry t).good, t.loop-v.invariant.whole, place c.before)
+    omega (arith, c.well_formed, c.loop-v.invariant.whole, place (goal.at.overflow_add-k c).Else-p-out)
 
 pub overflow_add-v-in-loop-v : goal.overflow_add-v-in-loop-v
-overflow_add-v-in-loop-v c = omega (arith, (entry (turn (sought c.before))).good, (tight c.before).place)
+overflow_add-v-in-loop-v c = omega (arith, c.well_formed, (tight (goal.at.overflow_add-v-in-loop-v c).Else-p-out).place)
 
 pub offset_bounds-out-p-in-loop-v : goal.offset_bounds-out-p-in-loop-v
-offset_bounds-out-p-in-loop-v c = omega (arith, (entry (turn (sought c.before))).good, (tight c.before).place)
+offset_bounds-out-p-in-loop-v c = omega (arith, c.well_formed, (tight (goal.at.offset_bounds-out-p-in-loop-v c).Else-p-out).place)
 
 pub bounds-out-p-in-loop-v : goal.bounds-out-p-in-loop-v
-bounds-out-p-in-loop-v c = (tight c.before.before).place
+bounds-out-p-in-loop-v c = (tight (goal.at.bounds-out-p-in-loop-v c).Else-p-out).place
 
 pub loop-v-smaller : goal.loop-v-smaller
 loop-v-smaller c =
-    let e = c.before.before in
-    let a = sought e in
-    next-nearer (entry (turn a)).requires (turn a).loop-v.invariant a.before.loop-v-test.true (tight e)
+    next-nearer c.requires c.loop-v.invariant c.loop-v-test.true (tight (goal.at.loop-v-smaller c).Else-p-out)
 
 pub loop-v-preserved : goal.loop-v-preserved
 loop-v-preserved c =
-    let e = c.before.before in
-    let a = sought e in
-    walking-step (entry (turn a)).requires (turn a).loop-v.invariant a.before.loop-v-test.true (tight e)
+    walking-step c.requires c.loop-v.invariant c.loop-v-test.true (tight (goal.at.loop-v-preserved c).Else-p-out)
 
 pub shape_of-path : goal.shape_of-path
-shape_of-path c = c.before.loop-v.invariant.whole
+shape_of-path c = c.loop-v.invariant.whole
 
 pub returns : goal.returns
-returns c = walking-end (entry c.before).requires c.before.loop-v.invariant c.loop-v-test.false
+returns c = walking-end c.requires c.loop-v.invariant c.loop-v-test.false

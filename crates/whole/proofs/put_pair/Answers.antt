@@ -11,6 +11,4 @@ write-requires-2 c = omega arith
 
 pub returns : goal.returns
 returns c =
-    let w = c.before.before in
-    let s = w.before.before.before.before.before.before.before in
-    w.write-2.ensures ∙ ap (λ t. put_at t (2 * s.args.i + 1) (s.args.scaled % s.args.load)) w.before.before.before.before.write.ensures
+    c.write-2.ensures ∙ ap (λ t. put_at t (2 * c.args.i + 1) (c.args.scaled % c.args.load)) c.write.ensures

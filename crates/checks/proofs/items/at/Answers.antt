@@ -6,4 +6,4 @@ use borrow.Author.Rules.{rules}
 use Rattle.checks.proofs.items.at.Goals as goal
 
 pub returns-else-i-s : goal.returns-else-i-s
-returns-else-i-s c = sym (get_or-eq_default c.before.args.s.now 0 c.if-i-s.false)
+returns-else-i-s c = sym (get_or-eq_default c.args.s.now 0 c.if-i-s.false)

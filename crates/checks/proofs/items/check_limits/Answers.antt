@@ -19,7 +19,7 @@ use Rattle.checks.proofs.items.check_limits.Goals.{At-loop-v}
 
 -- the present limit, and its test as the definition has it
 abbrev present : At-loop-v → ℕ
-present c = get_or c.before.before.args.limits.now c.loop-v.v 0
+present c = get_or c.args.limits.now c.loop-v.v 0
 
 abbrev large : At-loop-v → Bool
 large c = ltb most_capacity (present c)
@@ -30,18 +30,16 @@ loop-v-init c = search-all _ _
 pub loop-v-preserved : goal.loop-v-preserved
 unfolding limit_conditions
 loop-v-preserved c =
-    let turn = c.before.before.before in
     search-goes-on _ _ _ (omega arith)
-    (passes {t = large turn} _ _ refl (le-ltb most_capacity (present turn) (omega (arith, c.if-at-gt-MOST_CAPACITY.false, c.before.at.ensures))) none_left) ∙
-    turn.loop-v.invariant
+    (passes {t = large (goal.at.loop-v-preserved c).At-loop-v} _ _ refl (le-ltb most_capacity (present (goal.at.loop-v-preserved c).At-loop-v) (omega (arith, c.if-at-gt-MOST_CAPACITY.false, c.at.ensures))) none_left) ∙
+    c.loop-v.invariant
 
 pub returns-then-v-limits : goal.returns-then-v-limits
-returns-then-v-limits c = search-ends _ _ _ c.if-v-limits.true ∙ c.before.loop-v.invariant
+returns-then-v-limits c = search-ends _ _ _ c.if-v-limits.true ∙ c.loop-v.invariant
 
 pub returns-then-at-gt-MOST_CAPACITY : goal.returns-then-at-gt-MOST_CAPACITY
 unfolding limit_conditions
 returns-then-at-gt-MOST_CAPACITY c =
-    let turn = c.before.before.before in
     search-stops _ _ _ (omega arith)
-    (decides {t = large turn} _ refl (lt-ltb most_capacity (present turn) (omega (arith, c.if-at-gt-MOST_CAPACITY.true, c.before.at.ensures)))) ∙
-    turn.loop-v.invariant
+    (decides {t = large (goal.at.returns-then-at-gt-MOST_CAPACITY c).At-loop-v} _ refl (lt-ltb most_capacity (present (goal.at.returns-then-at-gt-MOST_CAPACITY c).At-loop-v) (omega (arith, c.if-at-gt-MOST_CAPACITY.true, c.at.ensures)))) ∙
+    c.loop-v.invariant

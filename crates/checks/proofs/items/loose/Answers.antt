@@ -11,17 +11,17 @@ use Rattle.checks.proofs.items.loose.Goals.{Joined-outside}
 
 -- the first two tests, where their ways meet
 ends : (c : Joined-outside) →
-    c.if-outside.value ≡ outside 1 c.before.before.args.n c.before.before.args.a || outside 1 c.before.before.args.n c.before.before.args.b
+    c.if-outside.value ≡ outside 1 c.args.n c.args.a || outside 1 c.args.n c.args.b
 ends c =
     ⊎_elim
-    (λ w. or-stop _ c.before.outside.ensures w.0.taken w.1)
-    (λ w. or-on c.before.outside.ensures w.0.left (w.2 ∙ w.1.ensures))
+    (λ w. or-stop _ c.outside.ensures w.0.taken w.1)
+    (λ w. or-on c.outside.ensures w.0.left (w.2 ∙ w.1.ensures))
     c.if-outside.branch
 
 pub returns-then-outside-2 : goal.returns-then-outside-2
 unfolding loose
-returns-then-outside-2 c = simp (sym (ends c.before), c.if-outside-2.true)
+returns-then-outside-2 c = simp (sym (ends (goal.at.returns-then-outside-2 c).Joined-outside), c.if-outside-2.true)
 
 pub returns-else-outside-2 : goal.returns-else-outside-2
 unfolding loose
-returns-else-outside-2 c = simp (sym (ends c.before), c.if-outside-2.false)
+returns-else-outside-2 c = simp (sym (ends (goal.at.returns-else-outside-2 c).Joined-outside), c.if-outside-2.false)

@@ -9,14 +9,14 @@ use Rattle.checks.proofs.numbers.host_number.Goals as goal
 use Rattle.checks.proofs.numbers.host_number.Goals.{After-refusal_code-c}
 
 -- the number of the verdict, by its code
-numbered : (c : After-refusal_code-c) → c.refusal_code-c.result.number * 1000 + c.refusal_code-c.result.place ≡ host_number c.before.before.before.before.args.v
-numbered c = rw (c.refusal_code-c.ensures, c.before.before.in-Refused.is) refl
+numbered : (c : After-refusal_code-c) → c.refusal_code-c.result.number * 1000 + c.refusal_code-c.result.place ≡ host_number c.args.v
+numbered c = rw (c.refusal_code-c.ensures, c.in-Refused.is) refl
 
 pub overflow_mul-result : goal.overflow_mul-result
-overflow_mul-result c = omega (arith, numbered c.before)
+overflow_mul-result c = omega (arith, numbered (goal.at.overflow_mul-result c).After-refusal_code-c)
 
 pub overflow_add-result : goal.overflow_add-result
-overflow_add-result c = omega (arith, numbered c.before.before)
+overflow_add-result c = omega (arith, numbered (goal.at.overflow_add-result c).After-refusal_code-c)
 
 pub returns-in-Refused : goal.returns-in-Refused
-returns-in-Refused c = numbered c.before.before
+returns-in-Refused c = numbered (goal.at.returns-in-Refused c).After-refusal_code-c

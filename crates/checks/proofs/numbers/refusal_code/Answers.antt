@@ -20,16 +20,16 @@ pub returns-in-ShortTable : goal.returns-in-ShortTable
 returns-in-ShortTable c = sym (ap refusal_code c.in-ShortTable.is)
 
 pub returns-in-LooseArc : goal.returns-in-LooseArc
-returns-in-LooseArc c = sym (ap refusal_code c.before.in-LooseArc.is)
+returns-in-LooseArc c = sym (ap refusal_code c.in-LooseArc.is)
 
 pub returns-in-Capacity : goal.returns-in-Capacity
-returns-in-Capacity c = sym (ap refusal_code c.before.in-Capacity.is)
+returns-in-Capacity c = sym (ap refusal_code c.in-Capacity.is)
 
 pub returns-in-LooseCommodity : goal.returns-in-LooseCommodity
-returns-in-LooseCommodity c = sym (ap refusal_code c.before.in-LooseCommodity.is)
+returns-in-LooseCommodity c = sym (ap refusal_code c.in-LooseCommodity.is)
 
 pub returns-in-Layout : goal.returns-in-Layout
-returns-in-Layout c = sym (ap refusal_code c.before.in-Layout.is)
+returns-in-Layout c = sym (ap refusal_code c.in-Layout.is)
 
 pub returns-in-LongFile : goal.returns-in-LongFile
 returns-in-LongFile c = sym (ap refusal_code c.in-LongFile.is)
@@ -41,7 +41,7 @@ pub returns-in-Networks : goal.returns-in-Networks
 returns-in-Networks c = sym (ap refusal_code c.in-Networks.is)
 
 pub returns-in-Limit : goal.returns-in-Limit
-returns-in-Limit c = sym (ap refusal_code c.before.in-Limit.is)
+returns-in-Limit c = sym (ap refusal_code c.in-Limit.is)
 
 pub returns-in-Resources : goal.returns-in-Resources
 returns-in-Resources c = sym (ap refusal_code c.in-Resources.is)

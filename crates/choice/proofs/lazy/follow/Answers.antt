@@ -18,14 +18,7 @@ use Rattle.memory.specs.Memory.{page_from, distances_in, bounds_in, Page}
 use Rattle.memory.specs.Raised.{told_by, length_by}
 use Rattle.choice.proofs.Looks.{followed-walk, followed-none}
 use Rattle.choice.proofs.lazy.follow.Goals as goal
-use Rattle.choice.proofs.lazy.follow.Goals.{After-dist-1, After-out-1, After-told, Start}
-
--- the function's entry, seen from where the ends are read, and from behind the calls
-abbrev entry : After-out-1 → Start
-entry c = c.before.before.before.before.before.before
-
-abbrev first : After-dist-1 → Start
-first c = entry c.before.before.before
+use Rattle.choice.proofs.lazy.follow.Goals.{After-told, Start}
 
 abbrev net : Start → Network
 net s = net_in s.args.s s.args.net.now
@@ -75,89 +68,82 @@ own s =
     (s.requires.survey.fit.ends.sources s.args.i s.requires.known.least.among).1
 
 -- what is told is the length by the page, and the bound is read
-tells : (c : After-told) → let s = first c.before in c.told.result ≡ length_by (net s) s.args.lengths.now (dist s) s.args.i
+tells : (c : After-told) → c.told.result ≡ length_by (net (goal.at.After-told c).Start) c.args.lengths.now (dist (goal.at.After-told c).Start) c.args.i
 tells c =
-    let s = first c.before in
-    let told : c.told.result ≡ told_by (through (out s) s.args.lengths.now) (dist s) (source (net s) s.args.i) (sink (net s) s.args.i) =
-    rw (← from s, ← to s) c.told.ensures in
-    omega (arith, told, own s, (page s).feasible.sink)
+    let (goal.at.After-told c).Start = (goal.at.After-told c).Start in
+    let told : c.told.result ≡ told_by (through (out (goal.at.After-told c).Start) c.args.lengths.now) (dist (goal.at.After-told c).Start) (source (net (goal.at.After-told c).Start) c.args.i) (sink (net (goal.at.After-told c).Start) c.args.i) =
+    rw (← from (goal.at.After-told c).Start, ← to (goal.at.After-told c).Start) c.told.ensures in
+    omega (arith, told, own (goal.at.After-told c).Start, (page (goal.at.After-told c).Start).feasible.sink)
 
 bound : (s : Start) → get_or s.args.memory.now (0 + s.args.i) 0 ≡ get_or (bounds_in s.args.s s.args.memory.now) s.args.i 0
 bound s = sym (part_at 0 s.args.s.commodities s.args.memory.now s.args.i (among s))
 
 pub told-requires : goal.told-requires
 told-requires c =
-    let s = first c in
-    rw (from s, to s) (record {
-      from = omega (arith, size s, source-few s);
-      to = omega (arith, size s, sink-few s);
-      place = omega (arith, source-few s, s.requires.indexed.out.arcs.numbers);
-      small = omega (arith, own s, node-small (net s) s.args.lengths.now s.requires.survey.fit.small (source (net s) s.args.i) (s.requires.survey.fit.ends.sources s.args.i s.requires.known.least.among).1);
+    rw (from (goal.at.told-requires c).Start, to (goal.at.told-requires c).Start) (record {
+      from = omega (arith, size (goal.at.told-requires c).Start, source-few (goal.at.told-requires c).Start);
+      to = omega (arith, size (goal.at.told-requires c).Start, sink-few (goal.at.told-requires c).Start);
+      place = omega (arith, source-few (goal.at.told-requires c).Start, c.requires.indexed.out.arcs.numbers);
+      small = omega (arith, own (goal.at.told-requires c).Start, node-small (net (goal.at.told-requires c).Start) c.args.lengths.now c.requires.survey.fit.small (source (net (goal.at.told-requires c).Start) c.args.i) (c.requires.survey.fit.ends.sources c.args.i c.requires.known.least.among).1);
     })
 
 pub returns-then-told-memory : goal.returns-then-told-memory
 returns-then-told-memory c =
-    let t = c.before.before in
-    followed-none (λ q. c.if-told-memory.true (tells t ∙ (sym q ∙ sym (bound (first t.before)))))
+    followed-none (λ q. c.if-told-memory.true (tells (goal.at.returns-then-told-memory c).After-told ∙ (sym q ∙ sym (bound (goal.at.returns-then-told-memory c).Start))))
 
 pub walk-requires : goal.walk-requires
 walk-requires c =
-    let s = first c.before.before.before.before in
-    let p = s.requires in
+    let p = c.requires in
     let f = p.survey.fit in
-    rw (from s, to s) (record {
-      fit = rw (size s) f;
-      feasible = (page s).feasible;
-      capped = (page s).capped;
+    rw (from (goal.at.walk-requires c).Start, to (goal.at.walk-requires c).Start) (record {
+      fit = rw (size (goal.at.walk-requires c).Start) f;
+      feasible = (page (goal.at.walk-requires c).Start).feasible;
+      capped = (page (goal.at.walk-requires c).Start).capped;
       index = p.indexed.out;
-      source = f.ends.sources s.args.i p.known.least.among;
-      apart = f.ends.apart s.args.i p.known.least.among;
+      source = f.ends.sources c.args.i p.known.least.among;
+      apart = f.ends.apart c.args.i p.known.least.among;
       places = omega (arith, p.room, p.survey.few);
     })
 
 pub returns : goal.returns
 returns c =
-    let w = c.before.before in
-    let e = w.before.before in
-    let t = e.before.before in
-    let s = first t.before in
-    followed-walk (page s).feasible (sym (bound s) ∙ (sym e.if-told-memory.false ∙ tells t)) (rw (← from s, ← to s) w.walk.ensures)
+    followed-walk (page (goal.at.returns c).Start).feasible (sym (bound (goal.at.returns c).Start) ∙ (sym c.if-told-memory.false ∙ tells (goal.at.returns c).After-told)) (rw (← from (goal.at.returns c).Start, ← to (goal.at.returns c).Start) c.walk.ensures)
 
 pub overflow_add-source : goal.overflow_add-source
-overflow_add-source c = omega (arith, few (entry c))
+overflow_add-source c = omega (arith, few (goal.at.overflow_add-source c).Start)
 
 pub offset_bounds-net-i : goal.offset_bounds-net-i
-offset_bounds-net-i c = omega (arith, few (entry c))
+offset_bounds-net-i c = omega (arith, few (goal.at.offset_bounds-net-i c).Start)
 
 pub bounds-net-i : goal.bounds-net-i
-bounds-net-i c = omega (arith, few (entry c.before), (entry c.before).requires.packed.places)
+bounds-net-i c = omega (arith, few (goal.at.bounds-net-i c).Start, c.requires.packed.places)
 
 pub overflow_add-sink : goal.overflow_add-sink
-overflow_add-sink c = omega (arith, few (entry c.before))
+overflow_add-sink c = omega (arith, few (goal.at.overflow_add-sink c).Start)
 
 pub offset_bounds-net-i-2 : goal.offset_bounds-net-i-2
-offset_bounds-net-i-2 c = omega (arith, few (entry c.before))
+offset_bounds-net-i-2 c = omega (arith, few (goal.at.offset_bounds-net-i-2 c).Start)
 
 pub bounds-net-i-2 : goal.bounds-net-i-2
-bounds-net-i-2 c = omega (arith, few (entry c.before.before), (entry c.before.before).requires.packed.places)
+bounds-net-i-2 c = omega (arith, few (goal.at.bounds-net-i-2 c).Start, c.requires.packed.places)
 
 pub overflow_mul-at : goal.overflow_mul-at
-overflow_mul-at c = omega (arith, sink-read (entry c.before.before))
+overflow_mul-at c = omega (arith, sink-read (goal.at.overflow_mul-at c).Start)
 
 pub overflow_add-at : goal.overflow_add-at
-overflow_add-at c = omega (arith, sink-read (entry c.before.before))
+overflow_add-at c = omega (arith, sink-read (goal.at.overflow_add-at c).Start)
 
 pub overflow_add-dist : goal.overflow_add-dist
-overflow_add-dist c = omega (arith, sink-read (entry c.before.before))
+overflow_add-dist c = omega (arith, sink-read (goal.at.overflow_add-dist c).Start)
 
 pub offset_bounds-memory-at : goal.offset_bounds-memory-at
-offset_bounds-memory-at c = omega (arith, sink-read (entry c.before.before))
+offset_bounds-memory-at c = omega (arith, sink-read (goal.at.offset_bounds-memory-at c).Start)
 
 pub slice_bounds-dist-end : goal.slice_bounds-dist-end
-slice_bounds-dist-end c = omega (arith, sink-read (entry c.before.before), (entry c.before.before).requires.known.places)
+slice_bounds-dist-end c = omega (arith, sink-read (goal.at.slice_bounds-dist-end c).Start, c.requires.known.places)
 
 pub offset_bounds-memory-i : goal.offset_bounds-memory-i
-offset_bounds-memory-i c = omega (arith, few (first c.before))
+offset_bounds-memory-i c = omega (arith, few (goal.at.offset_bounds-memory-i c).Start)
 
 pub bounds-memory-i : goal.bounds-memory-i
-bounds-memory-i c = omega (arith, few (first c.before.before), (first c.before.before).requires.known.places)
+bounds-memory-i c = omega (arith, few (goal.at.bounds-memory-i c).Start, c.requires.known.places)

@@ -14,17 +14,7 @@ use Rattle.paths.proofs.NodeLengths.{through-is, node-small}
 use Rattle.memory.specs.Memory.{page_from, page_in}
 use Rattle.choice.proofs.Looks.{looked}
 use Rattle.choice.proofs.lazy.look.Goals as goal
-use Rattle.choice.proofs.lazy.look.Goals.{After-distances, After-raise, After-slice_known-1, Start}
-
--- the function's entry, seen from the calls; and the network
-abbrev entry : After-slice_known-1 → Start
-entry c = c.before.before.before.before
-
-abbrev first : After-distances → Start
-first c = entry c.before.before
-
-abbrev searched : After-raise → After-distances
-searched c = c.before.before.before.before
+use Rattle.choice.proofs.lazy.look.Goals.{After-distances, Start}
 
 abbrev net : Start → Network
 net s = net_in s.args.s s.args.net.now
@@ -40,48 +30,45 @@ page : (s : Start) → length (page_in s.args.t s.args.memory.now) ≡ page_numb
 page s = part_length (page_from s.args.t) page_numbers s.args.memory.now (omega (arith, few s, s.requires.known.places))
 
 size : (c : After-distances) → length c.distances.new.1.1.1.1.1.0 ≡ page_numbers
-size c = c.distances.auto.1.1.1.1.1.0 ∙ page (first c)
+size c = c.distances.auto.1.1.1.1.1.0 ∙ page (goal.at.After-distances c).Start
 
 pub distances-requires : goal.distances-requires
 distances-requires c =
-    let s = entry c.before in
-    let p = s.requires in
+    let p = c.requires in
     let f = p.survey.fit in
     record {
-      fit = record { ends = f.ends; lengths = f.lengths; small = f.small; room = omega (arith, f.room, page s) };
-      sink = node s;
+      fit = record { ends = f.ends; lengths = f.lengths; small = f.small; room = omega (arith, f.room, page (goal.at.distances-requires c).Start) };
+      sink = node (goal.at.distances-requires c).Start;
       index = p.index;
-      room = omega (arith, page s);
-      ordered = (p.known.pages s.args.t (node s)).ordered;
+      room = omega (arith, page (goal.at.distances-requires c).Start);
+      ordered = (p.known.pages c.args.t (node (goal.at.distances-requires c).Start)).ordered;
     }
 
 pub raise-requires : goal.raise-requires
 raise-requires c =
-    let d = c.before.before.before in
-    let s = first d in
-    let p = s.requires in
+    let p = c.requires in
     let ends = p.survey.fit.ends in
     let k = commodities-is p.packed in (
       record {
         packed = p.packed;
-        node = few s;
+        node = few (goal.at.raise-requires c).Start;
         sources = λ i b. omega (arith, ends.sources i (omega (arith, k)), p.survey.few);
         sinks = λ i b. omega (arith, ends.sinks i (omega (arith, k)), p.survey.few);
         small = λ i b.
-            let v = source (net s) i in
+            let v = source (net (goal.at.raise-requires c).Start) i in
             let at = (ends.sources i (omega (arith, k))).1 in
             omega (
               arith,
-              through-is (net s) s.args.lengths.now s.args.into.now p.index.places p.survey.fit.lengths v at,
-              node-small (net s) s.args.lengths.now p.survey.fit.small v at,
+              through-is (net (goal.at.raise-requires c).Start) c.args.lengths.now c.args.into.now p.index.places p.survey.fit.lengths v at,
+              node-small (net (goal.at.raise-requires c).Start) c.args.lengths.now p.survey.fit.small v at,
             );
         numbers = p.index.arcs.numbers;
         places =
             omega (
               arith,
-              put-length (page_from s.args.t) page_numbers s.args.memory.now d.distances.new.1.1.1.1.1.0
-                  (omega (arith, few s, p.known.places))
-                  (size d),
+              put-length (page_from c.args.t) page_numbers c.args.memory.now c.distances.new.1.1.1.1.1.0
+                  (omega (arith, few (goal.at.raise-requires c).Start, p.known.places))
+                  (size (goal.at.raise-requires c).After-distances),
               p.known.places,
             );
       },
@@ -90,21 +77,19 @@ raise-requires c =
 
 pub returns : goal.returns
 returns c =
-    let r = c.before.before in
-    let d = searched r in
-    looked (first d).requires (size d) d.distances.ensures r.raise.ensures
+    looked c.requires (size (goal.at.returns c).After-distances) c.distances.ensures c.raise.ensures
 
 pub overflow_mul-at : goal.overflow_mul-at
-overflow_mul-at c = omega (arith, few (entry c))
+overflow_mul-at c = omega (arith, few (goal.at.overflow_mul-at c).Start)
 
 pub overflow_add-at : goal.overflow_add-at
-overflow_add-at c = omega (arith, few (entry c))
+overflow_add-at c = omega (arith, few (goal.at.overflow_add-at c).Start)
 
 pub overflow_add-at-2 : goal.overflow_add-at-2
-overflow_add-at-2 c = omega (arith, few (entry c))
+overflow_add-at-2 c = omega (arith, few (goal.at.overflow_add-at-2 c).Start)
 
 pub offset_bounds-memory-at : goal.offset_bounds-memory-at
-offset_bounds-memory-at c = omega (arith, few (entry c))
+offset_bounds-memory-at c = omega (arith, few (goal.at.offset_bounds-memory-at c).Start)
 
 pub slice_bounds-distances-end : goal.slice_bounds-distances-end
-slice_bounds-distances-end c = omega (arith, few (entry c), (entry c).requires.known.places)
+slice_bounds-distances-end c = omega (arith, few (goal.at.slice_bounds-distances-end c).Start, c.requires.known.places)

@@ -16,20 +16,7 @@ use Rattle.choice.specs.Looked.{Looked, Followed}
 use Rattle.choice.proofs.Slack.{slack}
 use Rattle.choice.proofs.Turns.{turn-falls, turn-noted}
 use Rattle.choice.proofs.lazy.nearest.Goals as goal
-use Rattle.choice.proofs.lazy.nearest.Goals.{After-follow-arcs, After-look-i, At-loop-s, Else-arcs-gt0, Joined-then-arcs-gt0, Start}
-
--- the function's entry, seen from a turn; from each call back to the one before it; and the network
-abbrev entry : At-loop-s → Start
-entry c = c.before.before.before.before.before.before.before
-
-abbrev turn : After-look-i → At-loop-s
-turn c = c.before.before.before.before
-
-abbrev looked-at : After-follow-arcs → After-look-i
-looked-at c = c.before.before.before.before.before
-
-abbrev begun : After-look-i → Start
-begun c = entry (turn c)
+use Rattle.choice.proofs.lazy.nearest.Goals.{After-follow-arcs, After-look-arg-in-loop-s-1, After-look-i, At-loop-s, Joined-then-arcs-gt0, Start}
 
 abbrev net : Start → Network
 net s = net_in s.args.s s.args.net.now
@@ -53,116 +40,99 @@ module _ (s : Start) {i : ℕ} (b : i < commodities (net s)) where
   unfolding net_in
   to = sym (part_at sinks_from s.args.s.commodities s.args.net.now i (omega (arith, commodities-is s.requires.packed)))
 
-among : (c : At-loop-s) → c.loop-s.i < commodities (net (entry c))
+among : (c : At-loop-s) → c.loop-s.i < commodities (net (goal.at.At-loop-s c).Start)
 among c = c.loop-s.invariant.0.least.among
 
 -- what the search and the walk have found
-looks : (c : After-look-i) → let s = begun c in
-    Looked s.args.s (net s) s.args.lengths.now (sink (net s) (turn c).loop-s.i) (turn c).loop-s.memory (memory-at c) c.look-i.result
-looks c = rw (← to (begun c) (among (turn c))) c.look-i.ensures
+looks : (c : After-look-i) → Looked c.args.s (net (goal.at.After-look-i c).Start) c.args.lengths.now (sink (net (goal.at.After-look-i c).Start) c.loop-s.i) c.loop-s.memory (memory-at c) c.look-i.result
+looks c = rw (← to (goal.at.After-look-i c).Start (among (goal.at.After-look-i c).At-loop-s)) c.look-i.ensures
 
-follows : (c : After-follow-arcs) → let l = looked-at c in let s = begun l in let j = l.look-i.result in
-    Followed (net s) s.args.lengths.now (bounds_in s.args.s (memory-at l)) (distances_in (sink (net s) j) (memory-at l)) j (path-at c) c.follow-arcs.result
+follows : (c : After-follow-arcs) → let j = c.look-i.result in
+    Followed (net (goal.at.After-follow-arcs c).Start) c.args.lengths.now (bounds_in c.args.s (memory-at (goal.at.After-follow-arcs c).After-look-i)) (distances_in (sink (net (goal.at.After-follow-arcs c).Start) j) (memory-at (goal.at.After-follow-arcs c).After-look-i)) j (path-at c) c.follow-arcs.result
 follows c = c.follow-arcs.ensures
 
-chosen : (c : After-look-i) → c.look-i.result < commodities (net (begun c))
+chosen : (c : After-look-i) → c.look-i.result < commodities (net (goal.at.After-look-i c).Start)
 chosen c = (looks c).known.least.among
 
-numbers : (c : After-look-i) → length (memory-at c) ≡ length (begun c).args.memory.now
-numbers c = c.look-i.auto.1.1.1.1.1.1.0 ∙ (turn c).loop-s.invariant.1.0
+numbers : (c : After-look-i) → length (memory-at c) ≡ length c.args.memory.now
+numbers c = c.look-i.auto.1.1.1.1.1.1.0 ∙ c.loop-s.invariant.1.0
 
-paths : (c : After-follow-arcs) → length (path-at c) ≡ length (begun (looked-at c)).args.path.now
-paths c = c.follow-arcs.auto.1.1.1.1.1.1.0 ∙ (turn (looked-at c)).loop-s.invariant.1.1
+paths : (c : After-follow-arcs) → length (path-at c) ≡ length c.args.path.now
+paths c = c.follow-arcs.auto.1.1.1.1.1.1.0 ∙ c.loop-s.invariant.1.1
 
 pub look-i-requires : goal.look-i-requires
 look-i-requires c =
-    let t = c.before.before.before in
-    let p = (entry t).requires in
+    let p = c.requires in
     record {
       packed = p.packed;
       survey = p.survey;
       index = p.indexed.into;
-      known = t.loop-s.invariant.0;
-      to = to (entry t) (among t);
+      known = c.loop-s.invariant.0;
+      to = to (goal.at.look-i-requires c).Start (among (goal.at.look-i-requires c).At-loop-s);
     }
 
 pub follow-arcs-requires : goal.follow-arcs-requires
 follow-arcs-requires c =
-    let l = c.before.before.before.before in
-    let p = (begun l).requires in
+    let p = c.requires in
     record {
       packed = p.packed;
       survey = p.survey;
       indexed = p.indexed;
-      known = (looks l).known;
-      room = omega (arith, p.room, (turn l).loop-s.invariant.1.1);
+      known = (looks (goal.at.follow-arcs-requires c).After-look-arg-in-loop-s-1).known;
+      room = omega (arith, p.room, c.loop-s.invariant.1.1);
     }
-
--- the walk and the search, seen from where the turn is left and from where it is not
-abbrev left_at : Joined-then-arcs-gt0 → After-follow-arcs
-left_at c = c.before.before.before
-
-abbrev again-at : Else-arcs-gt0 → After-follow-arcs
-again-at c = c.before.before.before
 
 pub loop-s-smaller : goal.loop-s-smaller
 loop-s-smaller c =
-    let f = again-at c.before.before in
-    let l = looked-at f in
-    turn-falls (begun l).requires.survey (turn l).loop-s.invariant.0 (looks l) (follows f)
-    (λ q. eqb-false _ _ c.if-net-i.false-raw (to (begun l) (chosen l) ∙ (q ∙ sym (to (begun l) (among (turn l))))))
+    turn-falls c.requires.survey c.loop-s.invariant.0 (looks (goal.at.loop-s-smaller c).After-look-i) (follows (goal.at.loop-s-smaller c).After-follow-arcs)
+    (λ q. eqb-false _ _ c.if-net-i.false-raw (to (goal.at.loop-s-smaller c).Start (chosen (goal.at.loop-s-smaller c).After-look-i) ∙ (q ∙ sym (to (goal.at.loop-s-smaller c).Start (among (goal.at.loop-s-smaller c).At-loop-s)))))
 
 pub loop-s-preserved : goal.loop-s-preserved
 loop-s-preserved c =
-    let f = again-at c.before.before in
-    let l = looked-at f in
-    ((looks l).known, (numbers l, paths f))
+    ((looks (goal.at.loop-s-preserved c).After-look-i).known, (numbers (goal.at.loop-s-preserved c).After-look-i, paths (goal.at.loop-s-preserved c).After-follow-arcs))
 
 pub bounds-memory-32-2 : goal.bounds-memory-32-2
-bounds-memory-32-2 c = let l = looked-at (left_at c) in omega (arith, numbers l, (begun l).requires.memory-of.places)
+bounds-memory-32-2 c = omega (arith, numbers (goal.at.bounds-memory-32-2 c).After-look-i, c.requires.memory-of.places)
 
 pub shape_of-memory : goal.shape_of-memory
-shape_of-memory c = let l = looked-at (left_at c) in length-set (memory-at l) least_at l.look-i.result ∙ numbers l
+shape_of-memory c = length-set (memory-at (goal.at.shape_of-memory c).After-look-i) least_at c.look-i.result ∙ numbers (goal.at.shape_of-memory c).After-look-i
 
 -- the walk has arrived, or the sink is the one searched
-ended : (c : Joined-then-arcs-gt0) → let f = left_at c in let l = looked-at f in
-    (1 ≤ f.follow-arcs.result) ⊎ (sink (net (begun l)) l.look-i.result ≡ sink (net (begun l)) (turn l).loop-s.i)
+ended : (c : Joined-then-arcs-gt0) → (1 ≤ c.follow-arcs.result) ⊎ (sink (net (goal.at.Joined-then-arcs-gt0 c).Start) c.look-i.result ≡ sink (net (goal.at.Joined-then-arcs-gt0 c).Start) c.loop-s.i)
 ended c =
-    let l = looked-at (left_at c) in
+    let (goal.at.Joined-then-arcs-gt0 c).After-look-i = (goal.at.Joined-then-arcs-gt0 c).After-look-i in
     ⊎_elim
     (λ w. inl (omega (arith, w.taken)))
-    (λ w. inr (sym (to (begun l) (chosen l)) ∙ (eqb-true _ _ w.2.taken ∙ to (begun l) (among (turn l)))))
-    c.if-arcs-gt0.branch
+    (λ w. inr (sym (to (goal.at.Joined-then-arcs-gt0 c).Start (chosen (goal.at.Joined-then-arcs-gt0 c).After-look-i)) ∙ (eqb-true _ _ w.2.taken ∙ to (goal.at.Joined-then-arcs-gt0 c).Start (among (goal.at.Joined-then-arcs-gt0 c).At-loop-s))))
+    c.then-arcs-gt0.branch
 
 pub returns : goal.returns
 returns c =
-    let f = left_at c in
-    let l = looked-at f in
-    turn-noted (begun l).requires.survey (turn l).loop-s.invariant.0 (looks l) (follows f) (ended c) (begun l).requires.packed.few-commodities
+    turn-noted c.requires.survey c.loop-s.invariant.0 (looks (goal.at.returns c).After-look-i) (follows (goal.at.returns c).After-follow-arcs) (ended c) c.requires.packed.few-commodities
 
 pub bounds-memory-32 : goal.bounds-memory-32
-bounds-memory-32 c = omega (arith, c.before.before.before.before.before.before.requires.memory-of.places)
+bounds-memory-32 c = omega (arith, c.requires.memory-of.places)
 
 pub loop-s-init : goal.loop-s-init
-loop-s-init c = (c.before.before.before.before.before.before.requires.memory-of, (refl, refl))
+loop-s-init c = (c.requires.memory-of, (refl, refl))
 
 pub overflow_add-t : goal.overflow_add-t
-overflow_add-t c = omega (arith, few (entry c) (among c))
+overflow_add-t c = omega (arith, few (goal.at.overflow_add-t c).Start (among c))
 
 pub offset_bounds-net-i : goal.offset_bounds-net-i
-offset_bounds-net-i c = omega (arith, few (entry c) (among c))
+offset_bounds-net-i c = omega (arith, few (goal.at.offset_bounds-net-i c).Start (among c))
 
 pub bounds-net-i : goal.bounds-net-i
-bounds-net-i c = place (entry c.before) (among c.before)
+bounds-net-i c = place (goal.at.bounds-net-i c).Start (among (goal.at.bounds-net-i c).At-loop-s)
 
 pub overflow_add-i : goal.overflow_add-i
-overflow_add-i c = let l = looked-at (again-at c) in omega (arith, few (begun l) (chosen l))
+overflow_add-i c = omega (arith, few (goal.at.overflow_add-i c).Start (chosen (goal.at.overflow_add-i c).After-look-i))
 
 pub offset_bounds-net-i-else-arcs-gt0 : goal.offset_bounds-net-i-else-arcs-gt0
-offset_bounds-net-i-else-arcs-gt0 c = let l = looked-at (again-at c) in omega (arith, few (begun l) (chosen l))
+offset_bounds-net-i-else-arcs-gt0 c = omega (arith, few (goal.at.offset_bounds-net-i-else-arcs-gt0 c).Start (chosen (goal.at.offset_bounds-net-i-else-arcs-gt0 c).After-look-i))
 
 pub bounds-net-i-else-arcs-gt0 : goal.bounds-net-i-else-arcs-gt0
-bounds-net-i-else-arcs-gt0 c = let l = looked-at (again-at c.before) in place (begun l) (chosen l)
+bounds-net-i-else-arcs-gt0 c = place (goal.at.bounds-net-i-else-arcs-gt0 c).Start (chosen (goal.at.bounds-net-i-else-arcs-gt0 c).After-look-i)
 
 pub shape_of-path : goal.shape_of-path
-shape_of-path c = paths (left_at c)
+shape_of-path c = paths (goal.at.shape_of-path c).After-follow-arcs

@@ -9,21 +9,16 @@ use Rattle.dimacs.specs.Progress.{begun}
 use Rattle.dimacs.specs.Reading.{opening}
 use Rattle.dimacs.proofs.Stages.{turned_down, nodes-outside, arcs-outside, opened}
 use Rattle.dimacs.proofs.reader.begin.Goals as goal
-use Rattle.dimacs.proofs.reader.begin.Goals.{After-outside, After-outside-in-Problem}
-
--- the p line, and its two tests as the definition has them
-abbrev nodes-at : After-outside-in-Problem → After-outside
-nodes-at c = c.before.before
 
 pub returns-then-outside : goal.returns-then-outside
 returns-then-outside c = λ ts hs cs h.
-    turned_down Nodes h (ap (opening _) c.before.before.before.in-Problem.is ∙ nodes-outside _ _ _ (sym c.before.outside.ensures ∙ c.if-outside.true))
+    turned_down Nodes h (ap (opening _) c.in-Problem.is ∙ nodes-outside _ _ _ (sym c.outside.ensures ∙ c.if-outside.true))
 
 pub returns-then-outside-2 : goal.returns-then-outside-2
 returns-then-outside-2 c = λ ts hs cs h.
     turned_down Arcs h
-    (ap (opening _) (nodes-at c.before).before.before.in-Problem.is ∙
-    arcs-outside _ _ _ (sym (nodes-at c.before).outside.ensures ∙ c.before.before.if-outside.false) (sym c.before.outside-in-Problem.ensures ∙ c.if-outside-2.true))
+    (ap (opening _) c.in-Problem.is ∙
+    arcs-outside _ _ _ (sym c.outside.ensures ∙ c.if-outside.false) (sym c.outside-in-Problem.ensures ∙ c.if-outside-2.true))
 
 pub returns-in-Comment : goal.returns-in-Comment
 unfolding opening
@@ -32,12 +27,12 @@ returns-in-Comment c = λ ts hs cs h. record { reading = ap (opening _) (sym c.i
 pub returns-else-outside-2 : goal.returns-else-outside-2
 unfolding begun
 returns-else-outside-2 c = λ ts hs cs h.
-    let few = sym c.before.outside-in-Problem.ensures ∙ c.if-outside-2.false in
+    let few = sym c.outside-in-Problem.ensures ∙ c.if-outside-2.false in
     record {
       reading =
           sym
-          (ap (opening _) (nodes-at c.before).before.before.in-Problem.is ∙
-          opened _ _ _ (sym (nodes-at c.before).outside.ensures ∙ c.before.before.if-outside.false) few);
+          (ap (opening _) c.in-Problem.is ∙
+          opened _ _ _ (sym c.outside.ensures ∙ c.if-outside.false) few);
       held =
           record { room = (omega arith, (within _ _ _ few).most); tails = h.tails; heads = h.heads; capacities = h.capacities };
     }

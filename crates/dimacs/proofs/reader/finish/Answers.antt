@@ -12,43 +12,43 @@ returns-in_default c =
     c.refuse-in_default.ensures ∙
     ap result_of
     (no_source
-    c.before.before.before.before.in-Past.is
-    c.before.before.before.before.before.before.requires
-    c.before.in_default.is)
+    c.in-Past.is
+    c.requires
+    c.in_default.is)
 
 pub returns-in_default-sink : goal.returns-in_default-sink
 returns-in_default-sink c =
     c.refuse-in_default-sink.ensures ∙
     ap result_of
     (no-sink
-    c.before.before.before.before.before.before.before.in-Past.is
-    c.before.before.before.before.before.before.before.before.before.requires
-    c.before.before.before.before.in-Given.is
-    c.before.in_default-sink.is)
+    c.in-Past.is
+    c.requires
+    c.in-Given.is
+    c.in_default-sink.is)
 
 pub returns-then-found-tally : goal.returns-then-found-tally
 returns-then-found-tally c =
     c.refuse-then-found-tally.ensures ∙
     ap result_of
     (arcs-missing
-    c.before.before.before.before.before.before.before.before.before.before.in-Past.is
-    c.before.before.before.before.before.before.before.before.before.before.before.before.requires
-    c.before.before.before.before.before.before.before.in-Given.is
-    c.before.before.before.before.in-Given-sink.is
-    c.before.if-found-tally.true)
+    c.in-Past.is
+    c.requires
+    c.in-Given.is
+    c.in-Given-sink.is
+    c.if-found-tally.true)
 
 pub returns-in-Before : goal.returns-in-Before
 unfolding closing
-returns-in-Before c = c.refuse.ensures ∙ ap result_of (rw c.before.in-Before.is)
+returns-in-Before c = c.refuse.ensures ∙ ap result_of (rw c.in-Before.is)
 
 pub returns-in-Down : goal.returns-in-Down
 unfolding closing
-returns-in-Down c = c.refuse-in-Down.ensures ∙ ap result_of (rw c.before.before.in-Down.is)
+returns-in-Down c = c.refuse-in-Down.ensures ∙ ap result_of (rw c.in-Down.is)
 
 pub returns-else-found-tally : goal.returns-else-found-tally
 returns-else-found-tally c =
     all_there
-    c.before.before.before.before.before.before.before.before.before.in-Past.is
-    c.before.before.before.before.before.before.before.before.before.before.before.requires
-    c.before.before.before.before.before.before.in-Given.is
-    c.before.before.before.in-Given-sink.is c.if-found-tally.false
+    c.in-Past.is
+    c.requires
+    c.in-Given.is
+    c.in-Given-sink.is c.if-found-tally.false

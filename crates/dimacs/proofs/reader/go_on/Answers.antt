@@ -10,55 +10,55 @@ use Rattle.dimacs.proofs.reader.go_on.Goals as goal
 pub returns-then-found-tally : goal.returns-then-found-tally
 returns-then-found-tally c =
     turned_down _
-    c.before.before.before.before.before.before.before.before.requires
+    c.requires
     (arc-too-many _
-    c.before.before.before.in-Arc.is
+    c.in-Arc.is
     _
-    c.before.before.before.before.before.before.before.before.requires
+    c.requires
     (omega arith))
 
 pub returns-in-Comment : goal.returns-in-Comment
 unfolding following
-returns-in-Comment c = record { reading = rw c.in-Comment.is; held = c.before.before.before.before.before.requires }
+returns-in-Comment c = record { reading = rw c.in-Comment.is; held = c.requires }
 
 pub returns-in-Problem : goal.returns-in-Problem
 unfolding following
-returns-in-Problem c = turned_down _ c.before.before.before.before.before.requires (rw c.in-Problem.is)
+returns-in-Problem c = turned_down _ c.requires (rw c.in-Problem.is)
 
 pub returns-in-Missing : goal.returns-in-Missing
 returns-in-Missing c =
     rw c.with_source.ensures
-    (source-added _ c.before.before.before.before.in-Source.is _ c.before.in-Missing.is c.before.before.before.before.before.before.before.before.before.requires)
+    (source-added _ c.in-Source.is _ c.in-Missing.is c.requires)
 
 pub returns-in-Given : goal.returns-in-Given
 unfolding following once
 returns-in-Given c =
     turned_down _
-    c.before.before.before.before.before.before.before.before.requires
-    (rw (c.before.before.before.in-Source.is, c.in-Given.is))
+    c.requires
+    (rw (c.in-Source.is, c.in-Given.is))
 
 pub returns-in-Missing-sink : goal.returns-in-Missing-sink
 returns-in-Missing-sink c =
     rw c.with_sink.ensures
-    (sink-added _ c.before.before.before.before.in-Sink.is _ c.before.in-Missing-sink.is c.before.before.before.before.before.before.before.before.before.requires)
+    (sink-added _ c.in-Sink.is _ c.in-Missing-sink.is c.requires)
 
 pub returns-in-Given-sink : goal.returns-in-Given-sink
 unfolding following once
 returns-in-Given-sink c =
     turned_down _
-    c.before.before.before.before.before.before.before.before.requires
-    (rw (c.before.before.before.in-Sink.is, c.in-Given-sink.is))
+    c.requires
+    (rw (c.in-Sink.is, c.in-Given-sink.is))
 
 pub returns-else-found-tally : goal.returns-else-found-tally
 returns-else-found-tally c =
     rw
     c.with_arc.ensures
     (arc-added _
-    c.before.before.before.before.in-Arc.is
+    c.in-Arc.is
     _
-    c.before.before.before.before.before.before.before.before.before.requires
+    c.requires
     (omega arith))
 
 pub returns-in-Broken : goal.returns-in-Broken
 unfolding following
-returns-in-Broken c = turned_down _ c.before.before.before.before.before.requires (rw c.in-Broken.is)
+returns-in-Broken c = turned_down _ c.requires (rw c.in-Broken.is)

@@ -7,21 +7,21 @@ use Rattle.dimacs.proofs.reader.next.Goals as goal
 
 pub go_on-requires : goal.go_on-requires
 go_on-requires c =
-    held-as c.before.before.before.before.in-Past.is c.before.before.before.before.before.before.before.before.before.requires
+    held-as c.in-Past.is c.requires
 
 pub returns-in-Before : goal.returns-in-Before
 unfolding next
 returns-in-Before c =
-    rw c.before.in-Before.is
-    (c.begin.ensures _ _ _ (held-as c.before.in-Before.is c.before.before.before.before.before.before.requires))
+    rw c.in-Before.is
+    (c.begin.ensures _ _ _ (held-as c.in-Before.is c.requires))
 
 pub returns-in-Past : goal.returns-in-Past
 unfolding next
 returns-in-Past c =
     rw
-    c.before.before.before.before.before.before.before.before.before.before.before.in-Past.is
-    c.before.before.before.before.before.before.go_on.ensures
+    c.in-Past.is
+    c.go_on.ensures
 
 pub returns-in-Down : goal.returns-in-Down
 unfolding next
-returns-in-Down c = record { reading = rw c.in-Down.is; held = c.before.before.before.before.before.requires }
+returns-in-Down c = record { reading = rw c.in-Down.is; held = c.requires }

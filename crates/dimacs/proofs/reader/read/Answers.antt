@@ -27,35 +27,35 @@ pub slice_bounds-meaning-end : goal.slice_bounds-meaning-end
 slice_bounds-meaning-end c = rw c.scan-end.ensures (scan-within _ _ _ (omega arith))
 
 pub slice_bounds-next-end : goal.slice_bounds-next-end
-slice_bounds-next-end c = sym c.before.before.before.before.before.loop-at.invariant.held.tails.size
+slice_bounds-next-end c = sym c.loop-at.invariant.held.tails.size
 
 pub slice_bounds-next-end-in-loop-at : goal.slice_bounds-next-end-in-loop-at
-slice_bounds-next-end-in-loop-at c = sym c.before.before.before.before.before.before.loop-at.invariant.held.heads.size
+slice_bounds-next-end-in-loop-at c = sym c.loop-at.invariant.held.heads.size
 
 pub slice_bounds-next-end-in-loop-at-2 : goal.slice_bounds-next-end-in-loop-at-2
-slice_bounds-next-end-in-loop-at-2 c = sym c.before.before.before.before.before.before.before.loop-at.invariant.held.capacities.size
+slice_bounds-next-end-in-loop-at-2 c = sym c.loop-at.invariant.held.capacities.size
 
 pub next-stage-requires : goal.next-stage-requires
-next-stage-requires c = c.before.before.before.before.before.before.before.loop-at.invariant.held
+next-stage-requires c = c.loop-at.invariant.held
 
 pub overflow_add-at : goal.overflow_add-at
-overflow_add-at c = omega (arith, scan-between _ _ _ (omega arith) c.before.before.before.before.before.before.before.before.before.scan-end.ensures)
+overflow_add-at c = omega (arith, scan-between _ _ _ (omega arith) c.scan-end.ensures)
 
 pub loop-at-smaller : goal.loop-at-smaller
 loop-at-smaller c =
-    omega (arith, scan-between _ _ _ (omega arith) c.before.before.before.before.before.before.before.before.before.scan-end.ensures)
+    omega (arith, scan-between _ _ _ (omega arith) c.scan-end.ensures)
 
 pub loop-at-preserved : goal.loop-at-preserved
 loop-at-preserved c =
     line_read _
-    c.before.before.before.before.before.before.before.before.before.before.loop-at-test.true
-    c.before.before.before.before.before.before.before.before.before.scan-end.ensures
-    c.before.before.before.before.before.before.before.meaning-line.ensures
-    c.before.before.before.before.before.before.before.before.before.before.before.loop-at.invariant
-    c.before.before.before.next-stage.ensures
+    c.loop-at-test.true
+    c.scan-end.ensures
+    c.meaning-line.ensures
+    c.loop-at.invariant
+    c.next-stage.ensures
 
 pub finish-requires : goal.finish-requires
-finish-requires c = c.before.loop-at.invariant.held
+finish-requires c = c.loop-at.invariant.held
 
 pub returns : goal.returns
-returns c = read_whole _ (c.finish.ensures ∙ ap result_of (all_read _ (omega arith) (omega arith) c.before.before.loop-at.invariant))
+returns c = read_whole _ (c.finish.ensures ∙ ap result_of (all_read _ (omega arith) (omega arith) c.loop-at.invariant))

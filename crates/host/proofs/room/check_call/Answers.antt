@@ -8,36 +8,29 @@ use Rattle.call.specs.Deliver.{slices}
 use Rattle.call.specs.Host.{Slices, host_conditions}
 use Rattle.call.proofs.Hosts.{room}
 use Rattle.host.proofs.room.check_call.Goals as goal
-use Rattle.host.proofs.room.check_call.Goals.{After-check_sizes-sizes, Start}
-
--- from the sizes' verdict to the function's entry
-abbrev entry : After-check_sizes-sizes → Start
-entry c = c.before.before.before.before.before
+use Rattle.host.proofs.room.check_call.Goals.{Start}
 
 abbrev lent : Start → Slices
 lent s = slices s.args.flow.now s.args.lengths.now s.args.answer.now s.args.counts.now
 
 pub returns-in-Refused : goal.returns-in-Refused
-returns-in-Refused c = refused-first _ _ c.before.before.check_sizes-sizes.ensures c.in-Refused.is
+returns-in-Refused c = refused-first _ _ c.check_sizes-sizes.ensures c.in-Refused.is
 
 pub short-requires : goal.short-requires
 short-requires c =
-    let k = sizes-kept _ _ _ _ _ (accepted-quiet _ (sym c.before.before.check_sizes-sizes.ensures ∙ c.in_default.is)) in
+    let k = sizes-kept _ _ _ _ _ (accepted-quiet _ (sym c.check_sizes-sizes.ensures ∙ c.in_default.is)) in
     (k.of-commodities.most, k.of-arcs.most)
 
 pub returns-then-short : goal.returns-then-short
 unfolding host_conditions
 returns-then-short c =
-    let t = c.before.before in
-    accepted-first _ _ t.before.before.check_sizes-sizes.ensures t.in_default.is (decides _ c.before.short.ensures c.if-short.true)
+    accepted-first _ _ c.check_sizes-sizes.ensures c.in_default.is (decides _ c.short.ensures c.if-short.true)
 
 pub check_office-requires : goal.check_office-requires
 check_office-requires c =
-    (room _ _ _ _ (lent (entry c.before.before.before.before)) (sym c.before.short.ensures ∙ c.if-short.false)).2
+    (room _ _ _ _ (lent (goal.at.check_office-requires c).Start) (sym c.short.ensures ∙ c.if-short.false)).2
 
 pub returns : goal.returns
 unfolding host_conditions
 returns c =
-    let e = c.before in
-    let t = e.before.before in
-    accepted-first _ _ t.before.before.check_sizes-sizes.ensures t.in_default.is (passes _ _ e.before.short.ensures e.if-short.false c.check_office.ensures)
+    accepted-first _ _ c.check_sizes-sizes.ensures c.in_default.is (passes _ _ c.short.ensures c.if-short.false c.check_office.ensures)

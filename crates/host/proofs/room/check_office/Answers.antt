@@ -11,33 +11,28 @@ use Rattle.network.proofs.First.{decides, passes, none_left}
 use Rattle.call.specs.Host.{count_of, office_conditions}
 use Rattle.call.proofs.Hosts.{no-office}
 use Rattle.host.proofs.room.check_office.Goals as goal
-use Rattle.host.proofs.room.check_office.Goals.{Else-outside, Start}
+use Rattle.host.proofs.room.check_office.Goals.{Else-outside}
 
-abbrev entry : Else-outside → Start
-entry c = c.before.before.before
-
-an-office : (c : Else-outside) → Within 1 offices (entry c).args.office
-an-office c = within _ _ _ (sym c.before.outside.ensures ∙ c.if-outside.false)
+an-office : (c : Else-outside) → Within 1 offices c.args.office
+an-office c = within _ _ _ (sym c.outside.ensures ∙ c.if-outside.false)
 
 pub overflow_sub-place : goal.overflow_sub-place
 overflow_sub-place c = (an-office c).least
 
 pub read-requires : goal.read-requires
-read-requires c = omega (arith, (an-office c).least, (an-office c).most, (entry c).requires)
+read-requires c = omega (arith, (an-office c).least, (an-office c).most, c.requires)
 
 pub returns-then-outside : goal.returns-then-outside
-returns-then-outside c = no-office _ _ (sym c.before.outside.ensures ∙ c.if-outside.true)
+returns-then-outside c = no-office _ _ (sym c.outside.ensures ∙ c.if-outside.true)
 
 pub returns-then-read-gt-MOST_RUNNING : goal.returns-then-read-gt-MOST_RUNNING
 unfolding office_conditions
 returns-then-read-gt-MOST_RUNNING c =
-    let e = c.before.before in
-    let h : most_running < count_of (entry e).args.office (entry e).args.counts.now = omega (arith, c.before.read.ensures, c.if-read-gt-MOST_RUNNING.true) in
-    passes _ _ e.before.outside.ensures e.if-outside.false (decides _ refl (lt-ltb _ _ h))
+    let h : most_running < count_of c.args.office c.args.counts.now = omega (arith, c.read.ensures, c.if-read-gt-MOST_RUNNING.true) in
+    passes _ _ c.outside.ensures c.if-outside.false (decides _ refl (lt-ltb _ _ h))
 
 pub returns : goal.returns
 unfolding office_conditions
 returns c =
-    let e = c.before.before in
-    let h : count_of (entry e).args.office (entry e).args.counts.now ≤ most_running = omega (arith, c.before.read.ensures, c.if-read-gt-MOST_RUNNING.false) in
-    passes _ _ e.before.outside.ensures e.if-outside.false (passes _ _ refl (le-ltb _ _ h) none_left)
+    let h : count_of c.args.office c.args.counts.now ≤ most_running = omega (arith, c.read.ensures, c.if-read-gt-MOST_RUNNING.false) in
+    passes _ _ c.outside.ensures c.if-outside.false (passes _ _ refl (le-ltb _ _ h) none_left)

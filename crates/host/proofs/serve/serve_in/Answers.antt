@@ -12,20 +12,7 @@ use Rattle.call.specs.Deliver.{slices}
 use Rattle.call.specs.Host.{Slices}
 use Rattle.call.proofs.Judged.{fits, lends, judged-of, served-refused, served-accepted}
 use Rattle.host.proofs.serve.serve_in.Goals as goal
-use Rattle.host.proofs.serve.serve_in.Goals.{After-check_items-v, After-decode, After-deliver, After-slice_known-10-1, In_default, Start}
-
--- from each call back to the one before it, and from the first to the function's entry
-abbrev entry : After-decode → Start
-entry c = c.before.before.before.before.before.before.before.before.before.before
-
-abbrev decode-at : After-check_items-v → After-decode
-decode-at c = c.before.before.before.before
-
-abbrev told_at : After-deliver → In_default
-told_at c = c.before.before.before.before.before.before
-
-abbrev deliver-at : After-slice_known-10-1 → After-deliver
-deliver-at c = c.before.before.before.before.before.before.before.before
+use Rattle.host.proofs.serve.serve_in.Goals.{After-decode, After-decode-arg-1, In_default, In_default-1, Start}
 
 -- the slices at entry
 abbrev lent : Start → Slices
@@ -33,51 +20,40 @@ lent s = slices s.args.flow.now s.args.lengths.now s.args.answer.now s.args.runn
 
 -- the network as it was read
 abbrev net : After-decode → Network
-net c = net_in (entry c).args.s c.decode.new.1.1.1.1.0
+net c = net_in c.args.s c.decode.new.1.1.1.1.0
 
-packs : (c : After-decode) → Packed (entry c).args.s c.decode.new.1.1.1.1.0
+packs : (c : After-decode) → Packed c.args.s c.decode.new.1.1.1.1.0
 packs c =
-    let p = (entry c).requires.places in
+    let p = c.requires.places in
     record { few-nodes = p.few-nodes; few-limits = p.few-limits; few-arcs = p.few-arcs; few-commodities = p.few-commodities; places = omega (arith, p.places, c.decode.auto.1.1.1.1.0) }
 
 -- its resources are those that the shape counts
-counted : (c : After-decode) → (entry c).args.s.resources ≡ resources (net c)
-counted c = (entry c).requires.sizes.shaped.counted ∙ ap resources (sym c.decode.ensures)
+counted : (c : After-decode) → c.args.s.resources ≡ resources (net c)
+counted c = c.requires.sizes.shaped.counted ∙ ap resources (sym c.decode.ensures)
 
 pub check_items-v-requires : goal.check_items-v-requires
-check_items-v-requires c = packs c.before.before.before
+check_items-v-requires c = packs (goal.at.check_items-v-requires c).After-decode-arg-1
 
 pub host_number-requires : goal.host_number-requires
 host_number-requires c =
-    let i = c.before.before in
-    let d = decode-at i in
-    rw i.check_items-v.ensures (fits (packs d) (entry d).args.q (entry d).requires.sizes.counts (counted d))
+    rw c.check_items-v.ensures (fits (packs (goal.at.host_number-requires c).After-decode) c.args.q c.requires.sizes.counts (counted (goal.at.host_number-requires c).After-decode))
 
 pub returns-in-Refused : goal.returns-in-Refused
 returns-in-Refused c =
-    let i = c.before.before.before in
-    let d = decode-at i in
-    let s = entry d in
-    let e = i.check_items-v.ensures in
-    judged-of d.decode.ensures
-    (served-refused (net d) s.args.q (verdict (item_conditions (net d))) (lent s) c.host_number.result _ _ (sym e ∙ c.before.in-Refused.is) (c.host_number.ensures ∙ ap host_number e))
+    let e = c.check_items-v.ensures in
+    judged-of c.decode.ensures
+    (served-refused (net (goal.at.returns-in-Refused c).After-decode) c.args.q (verdict (item_conditions (net (goal.at.returns-in-Refused c).After-decode))) (lent (goal.at.returns-in-Refused c).Start) c.host_number.result _ _ (sym e ∙ c.in-Refused.is) (c.host_number.ensures ∙ ap host_number e))
 
 -- nothing is refused
-accepted : (c : In_default) → verdict (item_conditions (net (decode-at c.before.before))) ≡ Accepted
-accepted c = sym c.before.before.check_items-v.ensures ∙ c.in_default.is
+accepted : (c : In_default) → verdict (item_conditions (net (goal.at.In_default c).After-decode)) ≡ Accepted
+accepted c = sym c.check_items-v.ensures ∙ c.in_default.is
 
 pub deliver-requires : goal.deliver-requires
 deliver-requires c =
-    let t = c.before.before.before.before.before in
-    let d = decode-at t.before.before in
-    (lends (packs d) (entry d).args.q (entry d).requires.sizes.counts (counted d) (accepted t), (entry d).requires.sizes.open-for)
+    (lends (packs (goal.at.deliver-requires c).After-decode) c.args.q c.requires.sizes.counts (counted (goal.at.deliver-requires c).After-decode) (accepted (goal.at.deliver-requires c).In_default-1), c.requires.sizes.open-for)
 
 pub returns : goal.returns
 returns c =
-    let v = deliver-at c in
-    let t = told_at v in
-    let d = decode-at t.before.before in
-    let s = entry d in
-    let l = v.deliver.last.1.1.1 in
-    judged-of d.decode.ensures
-    (served-accepted (net d) s.args.q (verdict (item_conditions (net d))) (lent s) 0 (slices l.0 l.1.0 l.1.1.0 l.1.1.1.0) (accepted t) refl v.deliver.ensures)
+    let l = c.deliver.last.1.1.1 in
+    judged-of c.decode.ensures
+    (served-accepted (net (goal.at.returns c).After-decode) c.args.q (verdict (item_conditions (net (goal.at.returns c).After-decode))) (lent (goal.at.returns c).Start) 0 (slices l.0 l.1.0 l.1.1.0 l.1.1.1.0) (accepted (goal.at.returns c).In_default) refl c.deliver.ensures)

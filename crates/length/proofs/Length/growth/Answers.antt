@@ -24,15 +24,15 @@ overflow_mul-q c = omega (arith, divisor c)
 pub quotient-requires : goal.quotient-requires
 quotient-requires c = (mul-pos (omega arith) (omega arith), omega (arith, dividend c, divisor c))
 
-grown : (c : After-quotient) → c.before.args.self.value + c.quotient.result
-    ≡ growth c.before.args.q c.before.args.draw c.before.args.capacity c.before.args.self.value
+grown : (c : After-quotient) → c.args.self.value + c.quotient.result
+    ≡ growth c.args.q c.args.draw c.args.capacity c.args.self.value
 unfolding growth
-grown c = ap (λ (x : ℕ). c.before.args.self.value + x) c.quotient.ensures
+grown c = ap (λ (x : ℕ). c.args.self.value + x) c.quotient.ensures
 
 pub overflow_add-result : goal.overflow_add-result
 unfolding mark
 overflow_add-result c =
-    let a = c.before.args in
+    let a = c.args in
     omega (arith, grown c, growth-fits a.q a.draw a.capacity a.self.value (omega arith) (omega arith) (omega arith) (omega arith))
 
 pub returns : goal.returns

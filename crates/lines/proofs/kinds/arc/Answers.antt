@@ -18,46 +18,46 @@ use Rattle.lines.proofs.kinds.arc.Goals.{Else-not-shaped, In-Given, In-Given-num
 abbrev words : Start → List (List ℕ)
 words c = words_of c.args.line.now
 
-fit : (c : Else-not-shaped) → shaped 4 (words c.before.before.before) ≡ true
-fit c = sym c.before.shaped.ensures ∙ not-false _ c.if-not-shaped.false-raw
+fit : (c : Else-not-shaped) → shaped 4 (words (goal.at.Else-not-shaped c).Start) ≡ true
+fit c = sym c.shaped.ensures ∙ not-false _ c.if-not-shaped.false-raw
 
-tail-read : (c : In-Given) → number_of (word (words c.before.before.before.before.before.before.before) 1) ≡ some c.before.in-Given.u
-tail-read c = number_is c.before.before.before.number_at.ensures c.before.in-Given.is
+tail-read : (c : In-Given) → number_of (word (words (goal.at.In-Given c).Start) 1) ≡ some c.in-Given.u
+tail-read c = number_is c.number_at.ensures c.in-Given.is
 
-head_read : (c : In-Given-number_at) → number_of (word (words c.before.before.before.before.before.before.before.before.before.before.before) 2) ≡ some c.before.in-Given-number_at.v
-head_read c = number_is c.before.before.before.number_at-2.ensures c.before.in-Given-number_at.is
+head_read : (c : In-Given-number_at) → number_of (word (words (goal.at.In-Given-number_at c).Start) 2) ≡ some c.in-Given-number_at.v
+head_read c = number_is c.number_at-2.ensures c.in-Given-number_at.is
 
 pub returns-then-not-shaped : goal.returns-then-not-shaped
 unfolding given
-returns-then-not-shaped c = arc-by _ (sym c.before.shaped.ensures ∙ not-true _ c.if-not-shaped.true-raw) refl refl refl
+returns-then-not-shaped c = arc-by _ (sym c.shaped.ensures ∙ not-true _ c.if-not-shaped.true-raw) refl refl refl
 
 pub returns-in_default : goal.returns-in_default
 unfolding given
-returns-in_default c = arc-by _ (fit c.before.before.before) (number_is c.before.before.number_at.ensures c.in_default.is) refl refl
+returns-in_default c = arc-by _ (fit (goal.at.returns-in_default c).Else-not-shaped) (number_is c.number_at.ensures c.in_default.is) refl refl
 
 pub returns-in_default-number_at : goal.returns-in_default-number_at
 unfolding given
 returns-in_default-number_at c =
     arc-by _
-    (fit c.before.before.before.before.before.before.before)
-    (tail-read c.before.before.before)
-    (number_is c.before.before.number_at-2.ensures c.in_default-number_at.is)
+    (fit (goal.at.returns-in_default-number_at c).Else-not-shaped)
+    (tail-read (goal.at.returns-in_default-number_at c).In-Given)
+    (number_is c.number_at-2.ensures c.in_default-number_at.is)
     refl
 
 pub returns-in_default-number_at-2 : goal.returns-in_default-number_at-2
 unfolding given
 returns-in_default-number_at-2 c =
     arc-by _
-    (fit c.before.before.before.before.before.before.before.before.before.before.before)
-    (tail-read c.before.before.before.before.before.before.before)
-    (head_read c.before.before.before)
-    (number_is c.before.before.number_at-3.ensures c.in_default-number_at-2.is)
+    (fit (goal.at.returns-in_default-number_at-2 c).Else-not-shaped)
+    (tail-read (goal.at.returns-in_default-number_at-2 c).In-Given)
+    (head_read (goal.at.returns-in_default-number_at-2 c).In-Given-number_at)
+    (number_is c.number_at-3.ensures c.in_default-number_at-2.is)
 
 pub returns : goal.returns
 unfolding given
 returns c =
     arc-by _
-    (fit c.before.before.before.before.before.before.before.before.before.before.before.before)
-    (tail-read c.before.before.before.before.before.before.before.before)
-    (head_read c.before.before.before.before)
-    (number_is c.before.before.before.number_at-3.ensures c.before.in-Given-number_at-2.is)
+    (fit (goal.at.returns c).Else-not-shaped)
+    (tail-read (goal.at.returns c).In-Given)
+    (head_read (goal.at.returns c).In-Given-number_at)
+    (number_is c.number_at-3.ensures c.in-Given-number_at-2.is)

@@ -12,27 +12,27 @@ returns-then-line-eq0 c = no_byte _ c.if-line-eq0.true
 
 pub returns-in-99 : goal.returns-in-99
 unfolding lettered
-returns-in-99 c = rw (first_byte _ c.before.before.if-line-eq0.false, c.in-99.is)
+returns-in-99 c = rw (first_byte _ c.if-line-eq0.false, c.in-99.is)
 
 pub returns-in-112 : goal.returns-in-112
 unfolding lettered
-returns-in-112 c = c.problem.ensures ∙ rw (first_byte _ c.before.before.before.if-line-eq0.false, c.before.in-112.is)
+returns-in-112 c = c.problem.ensures ∙ rw (first_byte _ c.if-line-eq0.false, c.in-112.is)
 
 pub returns-in-110 : goal.returns-in-110
 unfolding lettered
-returns-in-110 c = c.terminal.ensures ∙ rw (first_byte _ c.before.before.before.if-line-eq0.false, c.before.in-110.is)
+returns-in-110 c = c.terminal.ensures ∙ rw (first_byte _ c.if-line-eq0.false, c.in-110.is)
 
 pub returns-in-97 : goal.returns-in-97
 unfolding lettered
-returns-in-97 c = c.arc.ensures ∙ rw (first_byte _ c.before.before.before.if-line-eq0.false, c.before.in-97.is)
+returns-in-97 c = c.arc.ensures ∙ rw (first_byte _ c.if-line-eq0.false, c.in-97.is)
 
 pub returns-in_default : goal.returns-in_default
 unfolding lettered
 returns-in_default c =
     rw (
-      first_byte _ c.before.before.if-line-eq0.false,
-      ne_eqb _ 99 c.in-99.rest.0.0.0.1,
-      ne_eqb _ 112 c.in-99.rest.0.0.1,
-      ne_eqb _ 110 c.in-99.rest.0.1,
-      ne_eqb _ 97 c.in-99.rest.1,
+      first_byte _ c.if-line-eq0.false,
+      ne_eqb _ 99 c.in_default.rest.0.0.0.1,
+      ne_eqb _ 112 c.in_default.rest.0.0.1,
+      ne_eqb _ 110 c.in_default.rest.0.1,
+      ne_eqb _ 97 c.in_default.rest.1,
     )

@@ -6,4 +6,4 @@ use Rattle.lines.specs.Number.{number_of}
 use Rattle.lines.proofs.kinds.number_at.Goals as goal
 
 pub returns : goal.returns
-returns c = c.number.ensures ∙ ap number_of c.before.word.ensures
+returns c = c.number.ensures ∙ ap number_of c.word.ensures

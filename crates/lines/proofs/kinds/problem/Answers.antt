@@ -22,25 +22,25 @@ is-max e s h = rw e at (sym s) ∙ h
 abbrev words : Start → List (List ℕ)
 words c = words_of c.args.line.now
 
-fit : (c : Else-not-shaped) → shaped 4 (words c.before.before.before) ≡ true
-fit c = sym c.before.shaped.ensures ∙ not-false _ c.if-not-shaped.false-raw
+fit : (c : Else-not-shaped) → shaped 4 (words (goal.at.Else-not-shaped c).Start) ≡ true
+fit c = sym c.shaped.ensures ∙ not-false _ c.if-not-shaped.false-raw
 
-max-read : (c : Else-not-says_max) → same (word (words c.before.before.before.before.before.before) 1) (109 ∷ 97 ∷ 120 ∷ []) ≡ true
-max-read c = is-max c.before.before.word.ensures c.before.says_max.ensures (not-false _ c.if-not-says_max.false-raw)
+max-read : (c : Else-not-says_max) → same (word (words (goal.at.Else-not-says_max c).Start) 1) (109 ∷ 97 ∷ 120 ∷ []) ≡ true
+max-read c = is-max c.word.ensures c.says_max.ensures (not-false _ c.if-not-says_max.false-raw)
 
-nodes-read : (c : In-Given) → number_of (word (words c.before.before.before.before.before.before.before.before.before.before) 2) ≡ some c.before.in-Given.n
-nodes-read c = number_is c.before.before.before.number_at.ensures c.before.in-Given.is
+nodes-read : (c : In-Given) → number_of (word (words (goal.at.In-Given c).Start) 2) ≡ some c.in-Given.n
+nodes-read c = number_is c.number_at.ensures c.in-Given.is
 
 pub returns-then-not-shaped : goal.returns-then-not-shaped
 unfolding given
-returns-then-not-shaped c = problem-by _ (sym c.before.shaped.ensures ∙ not-true _ c.if-not-shaped.true-raw) refl refl refl
+returns-then-not-shaped c = problem-by _ (sym c.shaped.ensures ∙ not-true _ c.if-not-shaped.true-raw) refl refl refl
 
 pub returns-then-not-says_max : goal.returns-then-not-says_max
 unfolding given
 returns-then-not-says_max c =
     problem-by _
-    (fit c.before.before.before)
-    (is-max c.before.before.word.ensures c.before.says_max.ensures (not-true _ c.if-not-says_max.true-raw))
+    (fit (goal.at.returns-then-not-says_max c).Else-not-shaped)
+    (is-max c.word.ensures c.says_max.ensures (not-true _ c.if-not-says_max.true-raw))
     refl
     refl
 
@@ -48,25 +48,25 @@ pub returns-in_default : goal.returns-in_default
 unfolding given
 returns-in_default c =
     problem-by _
-    (fit c.before.before.before.before.before.before)
-    (max-read c.before.before.before)
-    (number_is c.before.before.number_at.ensures c.in_default.is)
+    (fit (goal.at.returns-in_default c).Else-not-shaped)
+    (max-read (goal.at.returns-in_default c).Else-not-says_max)
+    (number_is c.number_at.ensures c.in_default.is)
     refl
 
 pub returns-in_default-number_at : goal.returns-in_default-number_at
 unfolding given
 returns-in_default-number_at c =
     problem-by _
-    (fit c.before.before.before.before.before.before.before.before.before.before)
-    (max-read c.before.before.before.before.before.before.before)
-    (nodes-read c.before.before.before)
-    (number_is c.before.before.number_at-2.ensures c.in_default-number_at.is)
+    (fit (goal.at.returns-in_default-number_at c).Else-not-shaped)
+    (max-read (goal.at.returns-in_default-number_at c).Else-not-says_max)
+    (nodes-read (goal.at.returns-in_default-number_at c).In-Given)
+    (number_is c.number_at-2.ensures c.in_default-number_at.is)
 
 pub returns : goal.returns
 unfolding given
 returns c =
     problem-by _
-    (fit c.before.before.before.before.before.before.before.before.before.before.before)
-    (max-read c.before.before.before.before.before.before.before.before)
-    (nodes-read c.before.before.before.before)
-    (number_is c.before.before.before.number_at-2.ensures c.before.in-Given-number_at.is)
+    (fit (goal.at.returns c).Else-not-shaped)
+    (max-read (goal.at.returns c).Else-not-says_max)
+    (nodes-read (goal.at.returns c).In-Given)
+    (number_is c.number_at-2.ensures c.in-Given-number_at.is)

@@ -11,14 +11,14 @@ use Rattle.lines.proofs.Counted.{not-alone, too_few, counted}
 use Rattle.lines.proofs.kinds.shaped.Goals as goal
 
 pub returns-then-letter-ne1 : goal.returns-then-letter-ne1
-returns-then-letter-ne1 c = not-alone _ _ (omega (arith, ap length c.before.word-letter.ensures))
+returns-then-letter-ne1 c = not-alone _ _ (omega (arith, ap length c.word-letter.ensures))
 
 pub returns-then-last-eq0 : goal.returns-then-last-eq0
-returns-then-last-eq0 c = too_few _ _ c.before.before.before.before.before.requires (ap length (sym c.before.word-last.ensures) ∙ c.if-last-eq0.true)
+returns-then-last-eq0 c = too_few _ _ c.requires (ap length (sym c.word-last.ensures) ∙ c.if-last-eq0.true)
 
 pub returns : goal.returns
 returns c =
     ap (λ (w : List ℕ). eqb (length w) 0) c.word-further.ensures ∙
     counted _ _
-    (ap length (sym c.before.before.before.before.word-letter.ensures) ∙ c.before.before.before.if-letter-ne1.false)
-    (λ e. c.before.if-last-eq0.false (ap length c.before.before.word-last.ensures ∙ e))
+    (ap length (sym c.word-letter.ensures) ∙ c.if-letter-ne1.false)
+    (λ e. c.if-last-eq0.false (ap length c.word-last.ensures ∙ e))

@@ -13,18 +13,18 @@ returns-then-w-ne1 c = rw (same_length _ (115 ∷ []) c.if-w-ne1.true, same_leng
 
 pub returns-in-115 : goal.returns-in-115
 unfolding source_or_sink
-returns-in-115 c = rw (same-one _ 115 c.before.before.if-w-ne1.false, c.in-115.is)
+returns-in-115 c = rw (same-one _ 115 c.if-w-ne1.false, c.in-115.is)
 
 pub returns-in-116 : goal.returns-in-116
 unfolding source_or_sink
-returns-in-116 c = rw (same-one _ 115 c.before.before.if-w-ne1.false, same-one _ 116 c.before.before.if-w-ne1.false, c.in-116.is)
+returns-in-116 c = rw (same-one _ 115 c.if-w-ne1.false, same-one _ 116 c.if-w-ne1.false, c.in-116.is)
 
 pub returns-in_default : goal.returns-in_default
 unfolding source_or_sink
 returns-in_default c =
     rw (
-      same-one _ 115 c.before.before.if-w-ne1.false,
-      same-one _ 116 c.before.before.if-w-ne1.false,
-      ne_eqb _ 115 c.in-115.rest.0.1,
-      ne_eqb _ 116 c.in-115.rest.1,
+      same-one _ 115 c.if-w-ne1.false,
+      same-one _ 116 c.if-w-ne1.false,
+      ne_eqb _ 115 c.in_default.rest.0.1,
+      ne_eqb _ 116 c.in_default.rest.1,
     )

@@ -10,20 +10,20 @@ use Rattle.lines.proofs.kinds.terminal.Goals as goal
 
 pub returns-then-not-shaped : goal.returns-then-not-shaped
 unfolding given
-returns-then-not-shaped c = terminal-by _ (sym c.before.shaped.ensures ∙ not-true _ c.if-not-shaped.true-raw) refl
+returns-then-not-shaped c = terminal-by _ (sym c.shaped.ensures ∙ not-true _ c.if-not-shaped.true-raw) refl
 
 pub returns-in_default : goal.returns-in_default
 unfolding given
 returns-in_default c =
     terminal-by _
-    (sym c.before.before.before.before.shaped.ensures ∙ not-false _ c.before.before.before.if-not-shaped.false-raw)
-    (sym c.before.before.number_at.ensures ∙ ap option_of c.in_default.is)
+    (sym c.shaped.ensures ∙ not-false _ c.if-not-shaped.false-raw)
+    (sym c.number_at.ensures ∙ ap option_of c.in_default.is)
 
 pub returns : goal.returns
 unfolding given
 returns c =
-    rw c.before.word.ensures at c.source_or_sink.ensures ∙
+    rw c.word.ensures at c.source_or_sink.ensures ∙
     terminal-by _
-    (sym c.before.before.before.before.before.before.before.shaped.ensures ∙
-    not-false _ c.before.before.before.before.before.before.if-not-shaped.false-raw)
-    (sym c.before.before.before.before.before.number_at.ensures ∙ ap option_of c.before.before.before.in-Given.is)
+    (sym c.shaped.ensures ∙
+    not-false _ c.if-not-shaped.false-raw)
+    (sym c.number_at.ensures ∙ ap option_of c.in-Given.is)

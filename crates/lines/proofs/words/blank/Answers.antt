@@ -21,4 +21,4 @@ pub returns-in-32 : goal.returns-in-32
 returns-in-32 c = one_of _ c.in-32.is
 
 pub returns-in_default : goal.returns-in_default
-returns-in_default c = none_of _ c.in-32.rest.1
+returns-in_default c = none_of _ c.in_default.rest.1

@@ -9,25 +9,25 @@ use Rattle.lines.proofs.Digits.{DigitsRead, no-digit-read, room, digit-read, num
 use Rattle.lines.proofs.words.number.Goals as goal
 
 pub returns-then-word-eq0 : goal.returns-then-word-eq0
-returns-then-word-eq0 c = ⊎_elim (λ w. no_size _ (omega arith)) (λ w. too_long _ (omega (arith, ltb-true))) c.if-word-eq0.branch
+returns-then-word-eq0 c = ⊎_elim (λ w. no_size _ (omega arith)) (λ w. too_long _ (omega (arith, ltb-true))) c.then-word-eq0.branch
 
 pub loop-i-init : goal.loop-i-init
 loop-i-init c = no-digit-read _ (omega arith) (omega (arith, ltb-false))
 
 pub overflow_mul-x : goal.overflow_mul-x
-overflow_mul-x c = omega (arith, room _ _ _ c.before.before.before.before.loop-i.invariant (omega arith))
+overflow_mul-x c = omega (arith, room _ _ _ c.loop-i.invariant (omega arith))
 
 pub overflow_add-x : goal.overflow_add-x
-overflow_add-x c = omega (arith, room _ _ _ c.before.before.before.before.loop-i.invariant (omega arith))
+overflow_add-x c = omega (arith, room _ _ _ c.loop-i.invariant (omega arith))
 
 pub returns-in_default : goal.returns-in_default
-returns-in_default c = no_number _ _ _ c.before.before.before.loop-i.invariant (omega arith) (digit-below _ (omega arith))
+returns-in_default c = no_number _ _ _ c.loop-i.invariant (omega arith) (digit-below _ (omega arith))
 
 pub returns-in_default-2 : goal.returns-in_default-2
-returns-in_default-2 c = no_number _ _ _ c.before.before.before.before.loop-i.invariant (omega arith) (digit-above _ (omega arith))
+returns-in_default-2 c = no_number _ _ _ c.loop-i.invariant (omega arith) (digit-above _ (omega arith))
 
 pub loop-i-preserved : goal.loop-i-preserved
-loop-i-preserved c = digit-read _ _ _ c.before.before.before.before.loop-i.invariant (omega arith) (omega arith) (omega arith)
+loop-i-preserved c = digit-read _ _ _ c.loop-i.invariant (omega arith) (omega arith) (omega arith)
 
 pub returns : goal.returns
-returns c = number_read _ _ _ c.before.loop-i.invariant (omega arith)
+returns c = number_read _ _ _ c.loop-i.invariant (omega arith)

@@ -15,11 +15,11 @@ loop-i-init c = refl
 
 pub returns-then-stops : goal.returns-then-stops
 returns-then-stops c =
-    sym (scan-found _ _ _ (omega arith) (sym c.before.stops.ensures ∙ c.if-stops.true)) ∙ c.before.before.before.before.loop-i.invariant
+    sym (scan-found _ _ _ (omega arith) (sym c.stops.ensures ∙ c.if-stops.true)) ∙ c.loop-i.invariant
 
 pub loop-i-preserved : goal.loop-i-preserved
 loop-i-preserved c =
-    sym (scan-on _ _ _ (omega arith) (sym c.before.stops.ensures ∙ c.if-stops.false)) ∙ c.before.before.before.before.loop-i.invariant
+    sym (scan-on _ _ _ (omega arith) (sym c.stops.ensures ∙ c.if-stops.false)) ∙ c.loop-i.invariant
 
 pub returns : goal.returns
-returns c = sym (scan-ended _ _ _ (omega arith)) ∙ c.before.loop-i.invariant
+returns c = sym (scan-ended _ _ _ (omega arith)) ∙ c.loop-i.invariant

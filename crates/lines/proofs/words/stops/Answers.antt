@@ -12,8 +12,8 @@ unfolding line_feed
 returns-in-LineFeed c = rw c.in-LineFeed.is
 
 pub returns-in-Blank : goal.returns-in-Blank
-returns-in-Blank c = rw c.before.in-Blank.is c.blank.ensures
+returns-in-Blank c = rw c.in-Blank.is c.blank.ensures
 
 pub returns-in-Word : goal.returns-in-Word
 unfolding filling
-returns-in-Word c = rw c.before.in-Word.is (ap not c.blank-in-Word.ensures)
+returns-in-Word c = rw c.in-Word.is (ap not c.blank-in-Word.ensures)

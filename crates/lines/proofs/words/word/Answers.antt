@@ -14,10 +14,10 @@ pub loop-k-init : goal.loop-k-init
 loop-k-init c = (rw c.scan-at.ensures (first-start _), omega arith)
 
 pub loop-k-preserved : goal.loop-k-preserved
-loop-k-preserved c = (rw (c.scan-at-in-loop-k.ensures, c.before.scan-end.ensures) (next_start _ _ _ c.before.before.before.loop-k.invariant.0), omega arith)
+loop-k-preserved c = (rw (c.scan-at-in-loop-k.ensures, c.scan-end.ensures) (next_start _ _ _ c.loop-k.invariant.0), omega arith)
 
 pub slice_bounds-result-end : goal.slice_bounds-result-end
-slice_bounds-result-end c = rw c.scan-end-2.ensures (scan-within _ _ _ c.before.before.loop-k.invariant.0.within)
+slice_bounds-result-end c = rw c.scan-end-2.ensures (scan-within _ _ _ c.loop-k.invariant.0.within)
 
 pub returns : goal.returns
-returns c = rw c.before.scan-end-2.ensures (word-there _ _ _ c.before.before.before.loop-k.invariant.0 ∙ ap (word (words_of _)) (omega arith))
+returns c = rw c.scan-end-2.ensures (word-there _ _ _ c.loop-k.invariant.0 ∙ ap (word (words_of _)) (omega arith))

@@ -9,41 +9,32 @@ use Rattle.memory.specs.Forgotten.{cleared}
 use Rattle.memory.specs.Memory.{page_from, page_in}
 use Rattle.memory.proofs.Forgets.{Paged, paged-none, paged-more}
 use Rattle.memory.proofs.pages.clear_pages.Goals as goal
-use Rattle.memory.proofs.pages.clear_pages.Goals.{After-fill, In-loop-t, Start}
+use Rattle.memory.proofs.pages.clear_pages.Goals.{In-loop-t}
 
 pub loop-t-init : goal.loop-t-init
 loop-t-init c = paged-none _ _
 
--- the function's entry, seen from a turn; and the turn, seen from behind the call of `fill`
-abbrev entry : In-loop-t → Start
-entry c = c.before.before.before
-
-abbrev turn : After-fill → In-loop-t
-turn c = c.before.before
-
 -- there is room for the page of t
-room : (c : In-loop-t) → page_from c.before.loop-t.t + page_numbers ≤ length c.before.loop-t.memory
-room c = omega (arith, (entry c).requires, c.loop-t-test.true, c.before.loop-t.invariant.size)
+room : (c : In-loop-t) → page_from c.loop-t.t + page_numbers ≤ length c.loop-t.memory
+room c = omega (arith, c.requires, c.loop-t-test.true, c.loop-t.invariant.size)
 
-size : (c : In-loop-t) → length (page_in c.before.loop-t.t c.before.loop-t.memory) ≡ page_numbers
-size c = part_length (page_from c.before.loop-t.t) page_numbers c.before.loop-t.memory (room c)
+size : (c : In-loop-t) → length (page_in c.loop-t.t c.loop-t.memory) ≡ page_numbers
+size c = part_length (page_from c.loop-t.t) page_numbers c.loop-t.memory (room c)
 
 pub slice_bounds-fill-end : goal.slice_bounds-fill-end
 slice_bounds-fill-end c = room c
 
 pub fill-requires : goal.fill-requires
-fill-requires c = omega (arith, size c.before, (entry c.before).requires)
+fill-requires c = omega (arith, size (goal.at.fill-requires c).In-loop-t, c.requires)
 
 pub loop-t-preserved : goal.loop-t-preserved
 loop-t-preserved c =
-    let f = c.before.before in
-    let t = turn f in
-    paged-more t.before.loop-t.invariant (room t) f.fill.new.1.1.0 (f.fill.auto.1.1.0 ∙ size t) f.fill.ensures
+    paged-more c.loop-t.invariant (room (goal.at.loop-t-preserved c).In-loop-t) c.fill.new.1.1.0 (c.fill.auto.1.1.0 ∙ size (goal.at.loop-t-preserved c).In-loop-t) c.fill.ensures
 
 pub shape_of-memory : goal.shape_of-memory
-shape_of-memory c = c.before.loop-t.invariant.size
+shape_of-memory c = c.loop-t.invariant.size
 
 pub returns : goal.returns
 returns c =
-    let P = c.before.loop-t.invariant in
+    let P = c.loop-t.invariant in
     record { front = P.front; pages = λ t b. P.done t (omega (arith, c.loop-t-test.false)) }

@@ -15,7 +15,7 @@ use Rattle.memory.proofs.Leasts.{least_first, least-less, least_other, least-sam
 use Rattle.memory.proofs.Raises.{raised-in-none, raised-in-more, raised-in-bound, raised-in-other}
 use Rattle.memory.proofs.raise.raise.Invariants.{Passed}
 use Rattle.memory.proofs.raise.raise.Goals as goal
-use Rattle.memory.proofs.raise.raise.Goals.{After-raise_at-bound, After-slice_known-in-loop-i-1, At-loop-i, In-loop-i, Start}
+use Rattle.memory.proofs.raise.raise.Goals.{After-raise_at-bound, In-loop-i, Start}
 
 module _ {s : Shape} {net ix l : List ℕ} {t : ℕ} {old : List ℕ} (few : s.commodities ≤ most_commodities) (places : memory_numbers ≤ length old) where
   module _ {mid : List ℕ} {i b : ℕ} (P : Passed s net ix l t old mid i b) (among : i < s.commodities) where
@@ -64,31 +64,19 @@ module _ {s : Shape} {net ix l : List ℕ} {t : ℕ} {old : List ℕ} (few : s.c
         least = ⊎_elim (λ (z : (i ≡ 0) × (b ≡ 0)). absurd (omega (arith, z))) (λ (L : Least (bounds_in s new) i b). subst (λ (n : ℕ). Least (bounds_in s new) n b) (sym q) L) P.leading;
       }
 
--- the function's entry, seen from a turn; and the turn, seen from behind the raising
-abbrev entry : At-loop-i → Start
-entry c = c.before.before.before.before.before
-
-abbrev turn : After-raise_at-bound → In-loop-i
-turn c = c.before.before
-
-abbrev raised_at : After-slice_known-in-loop-i-1 → After-raise_at-bound
-raised_at c = c.before.before
-
 few-of : (s : Start) → s.args.s.commodities ≤ most_commodities
 few-of s = s.requires.raising.packed.few-commodities
 
-b-few : (c : In-loop-i) → c.before.loop-i.b < most_commodities
+b-few : (c : In-loop-i) → c.loop-i.b < most_commodities
 b-few c =
-    let s = entry c.before in
-    omega (arith, leader (few-of s) s.requires.raising.places c.before.loop-i.invariant c.loop-i-test.true, few-of s)
+    omega (arith, leader (few-of (goal.at.In-loop-i c).Start) c.requires.raising.places c.loop-i.invariant c.loop-i-test.true, few-of (goal.at.In-loop-i c).Start)
 
 pub loop-i-init : goal.loop-i-init
 loop-i-init c = record { raised = raised-in-none; leading = inl (refl, refl); within = omega arith }
 
 pub raise_at-bound-requires : goal.raise_at-bound-requires
 raise_at-bound-requires c =
-    let t = c.before in
-    let p = (entry t.before).requires.raising in (
+    let p = c.requires.raising in (
       record {
         packed = p.packed;
         node = p.node;
@@ -96,62 +84,54 @@ raise_at-bound-requires c =
         sinks = p.sinks;
         small = p.small;
         numbers = p.numbers;
-        places = omega (arith, p.places, t.before.loop-i.invariant.raised.numbers);
+        places = omega (arith, p.places, c.loop-i.invariant.raised.numbers);
       },
-      t.loop-i-test.true,
+      c.loop-i-test.true,
     )
 
 -- the memory behind the raising has as many numbers, and the leader's bound is read in it
 abbrev memory-at : After-raise_at-bound → List ℕ
 memory-at c = c.raise_at-bound.new.1.1.1.1.1.1.0
 
-numbers : (c : After-raise_at-bound) → length (memory-at c) ≡ length (entry (turn c).before).args.memory.now
-numbers c = c.raise_at-bound.auto.1.1.1.1.1.1.0 ∙ (turn c).before.loop-i.invariant.raised.numbers
+numbers : (c : After-raise_at-bound) → length (memory-at c) ≡ length c.args.memory.now
+numbers c = c.raise_at-bound.auto.1.1.1.1.1.1.0 ∙ c.loop-i.invariant.raised.numbers
 
-read : (c : After-raise_at-bound) → let b = (turn c).before.loop-i.b in
-    get_or (memory-at c) (0 + b) 0 ≡ get_or (bounds_in (entry (turn c).before).args.s (memory-at c)) b 0
+read : (c : After-raise_at-bound) → let b = c.loop-i.b in
+    get_or (memory-at c) (0 + b) 0 ≡ get_or (bounds_in c.args.s (memory-at c)) b 0
 read c =
-    let s = entry (turn c).before in
-    sym (part_at 0 s.args.s.commodities (memory-at c) (turn c).before.loop-i.b
-    (leader (few-of s) s.requires.raising.places (turn c).before.loop-i.invariant (turn c).loop-i-test.true))
+    sym (part_at 0 c.args.s.commodities (memory-at c) c.loop-i.b
+    (leader (few-of (goal.at.After-raise_at-bound c).Start) c.requires.raising.places c.loop-i.invariant c.loop-i-test.true))
 
 pub overflow_add-b : goal.overflow_add-b
-overflow_add-b c = omega (arith, b-few (turn (raised_at c)))
+overflow_add-b c = omega (arith, b-few (goal.at.overflow_add-b c).In-loop-i)
 
 pub offset_bounds-memory-b : goal.offset_bounds-memory-b
-offset_bounds-memory-b c = omega (arith, b-few (turn (raised_at c)))
+offset_bounds-memory-b c = omega (arith, b-few (goal.at.offset_bounds-memory-b c).In-loop-i)
 
 pub bounds-memory-b : goal.bounds-memory-b
 bounds-memory-b c =
-    let a = raised_at c.before in
-    let t = turn a in
-    omega (arith, b-few t, numbers a, (entry t.before).requires.raising.places)
+    omega (arith, b-few (goal.at.bounds-memory-b c).In-loop-i, numbers (goal.at.bounds-memory-b c).After-raise_at-bound, c.requires.raising.places)
 
 pub overflow_add-i : goal.overflow_add-i
 overflow_add-i c =
-    let t = turn (raised_at c.before.before) in
-    omega (arith, t.loop-i-test.true, few-of (entry t.before))
+    omega (arith, c.loop-i-test.true, few-of (goal.at.overflow_add-i c).Start)
 
 pub loop-i-smaller : goal.loop-i-smaller
-loop-i-smaller c = omega (arith, (turn (raised_at c.before.before)).loop-i-test.true)
+loop-i-smaller c = omega (arith, c.loop-i-test.true)
 
 pub loop-i-preserved : goal.loop-i-preserved
 loop-i-preserved c =
-    let a = raised_at c.before.before in
-    let t = turn a in
-    let s = entry t.before in
-    let A = a.raise_at-bound.ensures in
-    let P = t.before.loop-i.invariant in
-    let on = t.loop-i-test.true in
+    let A = c.raise_at-bound.ensures in
+    let P = c.loop-i.invariant in
+    let on = c.loop-i-test.true in
     ⊎_elim
-    (λ w. rw w.1 (passed-less (few-of s) s.requires.raising.places P on A (rw (← read a) w.0.taken)))
-    (λ w. rw w.1 (passed-other (few-of s) s.requires.raising.places P on A (rw (← read a) w.0.left)))
+    (λ w. rw w.1 (passed-less (few-of (goal.at.loop-i-preserved c).Start) c.requires.raising.places P on A (rw (← read (goal.at.loop-i-preserved c).After-raise_at-bound) w.0.taken)))
+    (λ w. rw w.1 (passed-other (few-of (goal.at.loop-i-preserved c).Start) c.requires.raising.places P on A (rw (← read (goal.at.loop-i-preserved c).After-raise_at-bound) w.0.left)))
     c.if-bound-memory.branch
 
 pub shape_of-memory : goal.shape_of-memory
-shape_of-memory c = c.before.loop-i.invariant.raised.numbers
+shape_of-memory c = c.loop-i.invariant.raised.numbers
 
 pub returns : goal.returns
 returns c =
-    let t = c.before in
-    passed-all (few-of (entry t)) (entry t).requires.raising.places (entry t).requires.some t.loop-i.invariant c.loop-i-test.false
+    passed-all (few-of (goal.at.returns c).Start) c.requires.raising.places c.requires.some c.loop-i.invariant c.loop-i-test.false

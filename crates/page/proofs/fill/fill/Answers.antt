@@ -24,13 +24,13 @@ pub loop-v-init : goal.loop-v-init
 loop-v-init c = record { within = omega arith; size = refl; filled = fill_none _ c.args.x }
 
 pub offset_bounds-table-v : goal.offset_bounds-table-v
-offset_bounds-table-v c = omega (arith, c.before.before.well_formed)
+offset_bounds-table-v c = omega (arith, c.well_formed)
 
 pub loop-v-preserved : goal.loop-v-preserved
-loop-v-preserved c = filled_more c.loop-v-test.true (omega arith) c.before.loop-v.invariant
+loop-v-preserved c = filled_more c.loop-v-test.true (omega arith) c.loop-v.invariant
 
 pub shape_of-table : goal.shape_of-table
-shape_of-table c = c.before.loop-v.invariant.size
+shape_of-table c = c.loop-v.invariant.size
 
 pub returns : goal.returns
-returns c = filled-all c.loop-v-test.false c.before.loop-v.invariant
+returns c = filled-all c.loop-v-test.false c.loop-v.invariant

@@ -8,26 +8,20 @@ use borrow.Author.Rules.{rules}
 use Rattle.paths.proofs.Enlisting.{met-came, met-stayed}
 use Rattle.paths.proofs.Worklists.{worklist-within}
 use Rattle.page.proofs.list.enlist.Goals as goal
-use Rattle.page.proofs.list.enlist.Goals.{Joined-come, Start}
-
--- the function's entry
-abbrev entry : Joined-come → Start
-entry c = c.before.before
+use Rattle.page.proofs.list.enlist.Goals.{Joined-come}
 
 -- the flag that is written is 0 or 1, and no less than the one that was there
-rises : (c : Joined-come) → let was = get_or (entry c).args.listed.now (entry c).args.v 0 in (was ≤ c.if-come.flag) × (c.if-come.flag ≤ 1)
+rises : (c : Joined-come) → let was = get_or c.args.listed.now c.args.v 0 in (was ≤ c.if-come.flag) × (c.if-come.flag ≤ 1)
 rises c =
-    let s = entry c in
-    let was = s.requires.worklist.flags s.args.v s.requires.node.1 in
+    let was = c.requires.worklist.flags c.args.v c.requires.node.1 in
     ⊎_elim (λ w. (omega (arith, w.1, was), omega (arith, w.1))) (λ w. (omega (arith, w.1), omega (arith, w.1, was))) c.if-come.branch
 
 pub returns : goal.returns
 returns c =
-    let s = entry c.before in
-    ⊎_elim (λ w. met-came s.requires.worklist s.args.v s.requires.node w.0.taken w.1) (λ w. met-stayed s.requires.worklist s.args.v s.requires.node w.0.left w.1) c.before.if-come.branch
+    ⊎_elim (λ w. met-came c.requires.worklist c.args.v c.requires.node w.0.taken w.1) (λ w. met-stayed c.requires.worklist c.args.v c.requires.node w.0.left w.1) c.if-come.branch
 
 pub overflow_sub-result : goal.overflow_sub-result
-overflow_sub-result c = (rises c.before).0
+overflow_sub-result c = (rises (goal.at.overflow_sub-result c).Joined-come).0
 
 pub overflow_add-result : goal.overflow_add-result
-overflow_add-result c = let s = entry c.before in omega (arith, rises c.before, s.good, worklist-within s.requires.worklist, s.requires.worklist.room)
+overflow_add-result c = omega (arith, rises (goal.at.overflow_add-result c).Joined-come, c.well_formed, worklist-within c.requires.worklist, c.requires.worklist.room)

@@ -22,15 +22,15 @@ pub offset_bounds-page-at : goal.offset_bounds-page-at
 offset_bounds-page-at c = omega (arith, c.well_formed, place c)
 
 pub bounds-page-at : goal.bounds-page-at
-bounds-page-at c = place c.before
+bounds-page-at c = place (goal.at.bounds-page-at c).Start
 
 pub offset_bounds-listed-v : goal.offset_bounds-listed-v
-offset_bounds-listed-v c = omega (arith, c.before.well_formed, flag c.before)
+offset_bounds-listed-v c = omega (arith, c.well_formed, flag (goal.at.offset_bounds-listed-v c).Start)
 
 pub bounds-listed-v : goal.bounds-listed-v
-bounds-listed-v c = flag c.before
+bounds-listed-v c = flag (goal.at.bounds-listed-v c).Start
 
 pub returns : goal.returns
 returns c =
-    let P = c.before.requires in
+    let P = c.requires in
     taken_out P.worklist _ (P.arranged.nodes _ P.waits.place) P.waits.flag

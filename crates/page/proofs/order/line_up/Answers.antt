@@ -26,10 +26,10 @@ pub loop-p-init : goal.loop-p-init
 loop-p-init c = record { size = refl; order = λ q b. absurd (omega arith) }
 
 pub loop-p-preserved : goal.loop-p-preserved
-loop-p-preserved c = lined-more (omega (arith, c.before.before.requires, c.loop-p-test.true, c.before.loop-p.invariant.size)) c.before.loop-p.invariant
+loop-p-preserved c = lined-more (omega (arith, c.requires, c.loop-p-test.true, c.loop-p.invariant.size)) c.loop-p.invariant
 
 pub shape_of-page : goal.shape_of-page
-shape_of-page c = c.before.loop-p.invariant.size
+shape_of-page c = c.loop-p.invariant.size
 
 pub returns : goal.returns
-returns c = lined-all c.loop-p-test.false c.before.loop-p.invariant
+returns c = lined-all c.loop-p-test.false c.loop-p.invariant

@@ -9,7 +9,7 @@ use borrow.Author.Rules.{rules}
 use Rattle.packed.proofs.Columns.{part_length, arcs-is, commodities-is}
 use Rattle.records.proofs.Judged.{placed, replied-accepted}
 use Rattle.records.proofs.judge.deliver_in.Goals as goal
-use Rattle.records.proofs.judge.deliver_in.Goals.{After-copy, After-solve-answer, Start}
+use Rattle.records.proofs.judge.deliver_in.Goals.{After-solve-answer, After-tables-1, Start}
 
 -- what is lent of each table
 module _ (s : Start) where
@@ -28,42 +28,29 @@ module _ (s : Start) where
   bests : length (take r s.args.lengths.now) ≡ r
   bests = length-take-le _ s.args.lengths.now s.requires.room.for-lengths
 
--- from the copy back to the solver, and from there to the function's entry
-abbrev entry : After-solve-answer → Start
-entry c = c.before.before.before.before.before.before
-
-abbrev solve-at : After-copy → After-solve-answer
-solve-at c = c.before.before.before.before.before.before
-
 pub slice_bounds-solve-end-2 : goal.slice_bounds-solve-end-2
-slice_bounds-solve-end-2 c = sym (flows c.before.before.before.before)
+slice_bounds-solve-end-2 c = sym (flows (goal.at.slice_bounds-solve-end-2 c).Start)
 
 pub solve-answer-requires : goal.solve-answer-requires
 solve-answer-requires c =
-    let s = c.before.before.before.before.before in
-    let p = s.requires.lent.packed in
-    record { lent = s.requires.lent; flows = rw (commodities-is p, arcs-is p) (flows s); places = omega (arith, length-replicate {A = ℕ} 768 0) }
+    let p = c.requires.lent.packed in
+    record { lent = c.requires.lent; flows = rw (commodities-is p, arcs-is p) (flows (goal.at.solve-answer-requires c).Start); places = omega (arith, length-replicate {A = ℕ} 768 0) }
 
 -- the kept lengths are as many as the resources
-kept-many : (c : After-solve-answer) → 512 + r (entry c) ≤ length c.solve-answer.new.1.1.1.1.0
-kept-many c = omega (arith, few (entry c), c.solve-answer.auto.1.1.1.1.0, length-replicate {A = ℕ} 768 0)
+kept-many : (c : After-solve-answer) → 512 + r (goal.at.After-solve-answer c).Start ≤ length c.solve-answer.new.1.1.1.1.0
+kept-many c = omega (arith, few (goal.at.After-solve-answer c).Start, c.solve-answer.auto.1.1.1.1.0, length-replicate {A = ℕ} 768 0)
 
 pub slice_bounds-copy-end-3 : goal.slice_bounds-copy-end-3
-slice_bounds-copy-end-3 c = sym (bests (entry c.before.before.before.before.before))
+slice_bounds-copy-end-3 c = sym (bests (goal.at.slice_bounds-copy-end-3 c).Start)
 
 pub copy-requires : goal.copy-requires
 copy-requires c =
-    let f = c.before.before.before.before.before in
-    let s = entry f in
-    bests s ∙ sym (part_length _ (r s) f.solve-answer.new.1.1.1.1.0 (omega (arith, kept-many f)))
+    bests (goal.at.copy-requires c).Start ∙ sym (part_length _ (r (goal.at.copy-requires c).Start) c.solve-answer.new.1.1.1.1.0 (omega (arith, kept-many (goal.at.copy-requires c).After-tables-1)))
 
 pub returns : goal.returns
 returns c =
-    let g = c.before.before in
-    let f = solve-at g in
-    let s = entry f in
-    let v = f.solve-answer in
-    replied-accepted _ s.args.q s.args.flow.now s.args.lengths.now _ _ v.result v.ensures.answers
-    (placed _ _ s.args.flow.now _ v.ensures.flows (v.kept.1.1.1.0 ∙ flows s))
-    (placed _ _ s.args.lengths.now _ (g.copy.ensures ∙ v.ensures.lengths) (g.copy.auto.1.0 ∙ bests s))
+    let v = c.solve-answer in
+    replied-accepted _ c.args.q c.args.flow.now c.args.lengths.now _ _ v.result v.ensures.answers
+    (placed _ _ c.args.flow.now _ v.ensures.flows (v.kept.1.1.1.0 ∙ flows (goal.at.returns c).Start))
+    (placed _ _ c.args.lengths.now _ (c.copy.ensures ∙ v.ensures.lengths) (c.copy.auto.1.0 ∙ bests (goal.at.returns c).Start))
     v.ensures.guarantee

@@ -14,23 +14,22 @@ pub loop-i-init : goal.loop-i-init
 loop-i-init c = fill_none _ _
 
 pub loop-i-preserved : goal.loop-i-preserved
-loop-i-preserved c = fill_more _ c.before.before.loop-i.invariant (omega arith) refl
+loop-i-preserved c = fill_more _ c.loop-i.invariant (omega arith) refl
 
 pub returns : goal.returns
 returns c =
-    let s = c.before.before in
-    let a = s.args in
-    fill-all (half_of a.which a.pairs.now) c.before.loop-i.invariant (omega arith) (length-half a.which a.pairs.now ∙ sym s.requires.each)
-    (half_at a.which s.requires.two a.pairs.now)
+    let a = c.args in
+    fill-all (half_of a.which a.pairs.now) c.loop-i.invariant (omega arith) (length-half a.which a.pairs.now ∙ sym c.requires.each)
+    (half_at a.which c.requires.two a.pairs.now)
 
 pub overflow_mul-to : goal.overflow_mul-to
-overflow_mul-to c = omega (arith, c.before.before.requires.two)
+overflow_mul-to c = omega (arith, c.requires.two)
 
 pub overflow_add-to : goal.overflow_add-to
-overflow_add-to c = omega (arith, c.before.before.requires.two)
+overflow_add-to c = omega (arith, c.requires.two)
 
 pub offset_bounds-pairs-i : goal.offset_bounds-pairs-i
-offset_bounds-pairs-i c = omega (arith, c.before.before.requires.two)
+offset_bounds-pairs-i c = omega (arith, c.requires.two)
 
 pub bounds-pairs-i : goal.bounds-pairs-i
-bounds-pairs-i c = omega (arith, c.before.before.before.requires.two)
+bounds-pairs-i c = omega (arith, c.requires.two)

@@ -5,25 +5,18 @@ use Rattle.packed.specs.Packed.{limits_from}
 use Rattle.packed.proofs.Columns.{part_length}
 use Rattle.records.proofs.Completed.{limits-room, limits-many, put-limits-length, limited}
 use Rattle.records.proofs.judge.put_limits.Goals as goal
-use Rattle.records.proofs.judge.put_limits.Goals.{After-copy-arg-1, Start}
-
-abbrev entry : After-copy-arg-1 → Start
-entry c = c.before.before.before
 
 pub slice_bounds-copy-end : goal.slice_bounds-copy-end
-slice_bounds-copy-end c = sym (limits-many (entry c).requires)
+slice_bounds-copy-end c = sym (limits-many c.requires)
 
 pub copy-requires : goal.copy-requires
 copy-requires c =
-    let s = entry c.before in
-    part_length limits_from s.args.s.limits s.args.net.now (limits-room s.requires) ∙ sym (limits-many s.requires)
+    part_length limits_from c.args.s.limits c.args.net.now (limits-room c.requires) ∙ sym (limits-many c.requires)
 
 pub shape_of-net : goal.shape_of-net
 shape_of-net c =
-    let f = c.before.before in
-    put-limits-length (entry f.before.before).requires f.copy.ensures
+    put-limits-length c.requires c.copy.ensures
 
 pub returns : goal.returns
 returns c =
-    let f = c.before.before in
-    limited (entry f.before.before).requires f.copy.ensures
+    limited c.requires c.copy.ensures

@@ -9,7 +9,7 @@ use Rattle.records.proofs.sizes.check_call.Goals as goal
 
 pub returns : goal.returns
 returns c =
-    let a = c.before.before.before.args in
+    let a = c.args in
     c.check_shape.ensures ∙
     ap (λ (s : Shape). verdict (size_conditions s.nodes s.arcs s.resources s.commodities a.q ++ record_conditions s.commodities s.arcs s.resources a.flow a.lengths))
-    c.before.shape.ensures
+    c.shape.ensures

@@ -16,8 +16,8 @@ returns-then-flow-k c = decides _ refl (rw (lt-ltb _ _ c.if-flow-k.true) refl)
 
 pub returns-then-lengths-r : goal.returns-then-lengths-r
 unfolding record_conditions
-returns-then-lengths-r c = decides _ refl (rw (le-ltb _ _ c.before.if-flow-k.false, lt-ltb _ _ c.if-lengths-r.true) refl)
+returns-then-lengths-r c = decides _ refl (rw (le-ltb _ _ c.if-flow-k.false, lt-ltb _ _ c.if-lengths-r.true) refl)
 
 pub returns : goal.returns
 unfolding record_conditions
-returns c = passes _ _ refl (rw (le-ltb _ _ c.before.if-flow-k.false, le-ltb _ _ c.if-lengths-r.false) refl) none_left
+returns c = passes _ _ refl (rw (le-ltb _ _ c.if-flow-k.false, le-ltb _ _ c.if-lengths-r.false) refl) none_left

@@ -15,22 +15,19 @@ loop-i-init c = (omega arith, refl)
 
 pub overflow_add-r : goal.overflow_add-r
 overflow_add-r c =
-    let turn = c.before.before.before in
-    omega (arith, turn.loop-i.invariant.1, given-most turn.before.args.limits.now turn.loop-i.i)
+    omega (arith, c.loop-i.invariant.1, given-most c.args.limits.now c.loop-i.i)
 
 pub loop-i-preserved : goal.loop-i-preserved
 loop-i-preserved c =
-    let turn = c.before.before.before in
-    let xs = turn.before.args.limits.now in
-    let i = turn.loop-i.i in (
+    let xs = c.args.limits.now in
+    let i = c.loop-i.i in (
       omega arith,
       ⊎_elim
-          (λ w. w.1 ∙ (ap (λ r. r + 1) turn.loop-i.invariant.1 ∙ sym (given-one xs i w.0.taken)))
-          (λ w. w.1 ∙ (turn.loop-i.invariant.1 ∙ sym (given-zero xs i w.0.left)))
+          (λ w. w.1 ∙ (ap (λ r. r + 1) c.loop-i.invariant.1 ∙ sym (given-one xs i w.0.taken)))
+          (λ w. w.1 ∙ (c.loop-i.invariant.1 ∙ sym (given-zero xs i w.0.left)))
           c.if-limits-i-ne0.branch,
     )
 
 pub returns : goal.returns
 returns c =
-    let turn = c.before in
-    turn.loop-i.invariant.1 ∙ ap (given turn.before.args.limits.now) (le_antisymm turn.loop-i.invariant.0 c.loop-i-test.false)
+    c.loop-i.invariant.1 ∙ ap (given c.args.limits.now) (le_antisymm c.loop-i.invariant.0 c.loop-i-test.false)

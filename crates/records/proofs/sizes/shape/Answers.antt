@@ -5,12 +5,9 @@ use native.Mathlib.Omega.{arith}
 use Rattle.network.proofs.Given.{given-most}
 use Rattle.records.specs.Parts.{limits_read}
 use Rattle.records.proofs.sizes.shape.Goals as goal
-use Rattle.records.proofs.sizes.shape.Goals.{Joined-n-all, Start}
+use Rattle.records.proofs.sizes.shape.Goals.{Joined-n-all}
 
-abbrev entry : Joined-n-all → Start
-entry c = c.before.before
-
-read : (c : Joined-n-all) → c.if-n-all.c ≡ limits_read (entry c).args.n (entry c).args.limits.now
+read : (c : Joined-n-all) → c.if-n-all.c ≡ limits_read c.args.n c.args.limits.now
 read c = ⊎_elim (λ w. omega (arith, w.0.taken, w.1)) (λ w. omega (arith, w.0.left, w.1)) c.if-n-all.branch
 
 pub count_given-requires : goal.count_given-requires
@@ -18,8 +15,7 @@ count_given-requires c = omega (arith, read c)
 
 pub overflow_add-r : goal.overflow_add-r
 overflow_add-r c =
-    let s = entry c.before in
-    omega (arith, s.requires, c.count_given.ensures, read c.before, given-most s.args.limits.now c.before.if-n-all.c)
+    omega (arith, c.requires, c.count_given.ensures, read (goal.at.overflow_add-r c).Joined-n-all, given-most c.args.limits.now c.if-n-all.c)
 
 pub returns : goal.returns
-returns c = rw (c.count_given.ensures, read c.before) refl
+returns c = rw (c.count_given.ensures, read (goal.at.returns c).Joined-n-all) refl

@@ -13,28 +13,21 @@ use Rattle.report.proofs.file.judge.Goals.{After-check_items-items, Start}
 abbrev net : (s : Start) → Network
 net s = net_in s.args.s s.args.net.now
 
-abbrev entry : After-check_items-items → Start
-entry c = c.before.before.before
-
-of-items : (c : After-check_items-items) → verdict_held (net (entry c)) ≡ c.check_items-items.result
-of-items c = judged (net (entry c)) (entry c).requires.held ∙ sym c.check_items-items.ensures
+of-items : (c : After-check_items-items) → verdict_held (net (goal.at.After-check_items-items c).Start) ≡ c.check_items-items.result
+of-items c = judged (net (goal.at.After-check_items-items c).Start) c.requires.held ∙ sym c.check_items-items.ensures
 
 pub returns-in-Refused : goal.returns-in-Refused
 returns-in-Refused c =
-    let i = c.before.before.before.before.before.before.before in
-    shown-refused (net (entry i)) (of-items i ∙ c.before.before.before.before.before.in-Refused.is) c.before.before.put_refusal.ensures
+    shown-refused (net (goal.at.returns-in-Refused c).Start) (of-items (goal.at.returns-in-Refused c).After-check_items-items ∙ c.in-Refused.is) c.put_refusal.ensures
 
 pub show-requires : goal.show-requires
 show-requires c =
-    let i = c.before.before.before in
-    let s = entry i in
     record {
-      lent = record { sound = sound (net s) s.requires.held (sym i.check_items-items.ensures ∙ c.before.in_default.is); packed = s.requires.packed; counted = counted s.requires.packed s.requires.held s.requires.plain };
-      one = s.requires.held.of-sources;
-      enough = s.requires.enough;
+      lent = record { sound = sound (net (goal.at.show-requires c).Start) c.requires.held (sym c.check_items-items.ensures ∙ c.in_default.is); packed = c.requires.packed; counted = counted c.requires.packed c.requires.held c.requires.plain };
+      one = c.requires.held.of-sources;
+      enough = c.requires.enough;
     }
 
 pub returns : goal.returns
 returns c =
-    let i = c.before.before.before.before.before.before in
-    shown-accepted (net (entry i)) (of-items i ∙ c.before.before.before.before.in_default.is) c.before.before.show.ensures
+    shown-accepted (net (goal.at.returns c).Start) (of-items (goal.at.returns c).After-check_items-items ∙ c.in_default.is) c.show.ensures

@@ -13,52 +13,41 @@ use Rattle.rows.proofs.Puts.{put-length}
 use Rattle.report.specs.Shown.{belt_of}
 use Rattle.report.proofs.Rowed.{Rowed, none-rowed, one-rowed, all-rowed, belt-length}
 use Rattle.report.proofs.solved.put_belts.Goals as goal
-use Rattle.report.proofs.solved.put_belts.Goals.{After-size-arg-1, After-size-load, At-loop-e, In-loop-e, Start}
-
--- from the loop's beginning to the function's entry, and from behind the reading of an amount to the turn
-abbrev entry : At-loop-e → Start
-entry c = c.before.before.before.before
-
-abbrev turn : After-size-arg-1 → In-loop-e
-turn c = c.before
+use Rattle.report.proofs.solved.put_belts.Goals.{After-size-arg-1, After-size-load, In-loop-e}
 
 abbrev amount : In-loop-e → ℤ
-amount c = get_or (entry c.before).args.flow.now c.before.loop-e.e (pos 0)
+amount c = get_or c.args.flow.now c.loop-e.e (pos 0)
 
 -- a signed local holds bits, which stand for the amount
-reads : (c : After-size-arg-1) → to_z w64 (of_z w64 (amount (turn c))) ≡ amount (turn c)
-reads c = to_z-of_z w64 (amount (turn c)) (record { sfits = c.size-arg-1.given })
+reads : (c : After-size-arg-1) → to_z w64 (of_z w64 (amount (goal.at.After-size-arg-1 c).In-loop-e)) ≡ amount (goal.at.After-size-arg-1 c).In-loop-e
+reads c = to_z-of_z w64 (amount (goal.at.After-size-arg-1 c).In-loop-e) (record { sfits = c.size-arg-1.given })
 
-load : (c : After-size-load) → c.size-load.result ≡ size (amount (turn c.before))
-load c = c.size-load.ensures ∙ ap (λ x. size x) (reads c.before)
+load : (c : After-size-load) → c.size-load.result ≡ size (amount (goal.at.After-size-load c).In-loop-e)
+load c = c.size-load.ensures ∙ ap (λ x. size x) (reads (goal.at.After-size-load c).After-size-arg-1)
 
 pub loop-e-init : goal.loop-e-init
 loop-e-init c = (none-rowed _ _ _ (omega arith), omega arith)
 
 pub size-load-requires : goal.size-load-requires
-size-load-requires c = omega (arith, ap (λ x. size x) (reads c), (entry (turn c).before).requires.sizes (turn c).before.loop-e.e)
+size-load-requires c = omega (arith, ap (λ x. size x) (reads c), c.requires.sizes c.loop-e.e)
 
 pub overflow_mul-load : goal.overflow_mul-load
 overflow_mul-load c =
-    let f = c.before.before.before in let i = turn f.before in
-    omega (arith, ap (λ x. x * (entry i.before).args.a) (load f), (entry i.before).requires.fits i.before.loop-e.e i.loop-e-test.true)
+    omega (arith, ap (λ x. x * c.args.a) (load (goal.at.overflow_mul-load c).After-size-load), c.requires.fits c.loop-e.e c.loop-e-test.true)
 
 pub put_belt-next-requires : goal.put_belt-next-requires
 put_belt-next-requires c =
-    let i = (turn c.before.before.before.before).before.loop-e.invariant in
+    let i = c.loop-e.invariant in
     omega (arith, put-length i.0.now, i.0.now.next, i.0.short)
 
 pub loop-e-preserved : goal.loop-e-preserved
 loop-e-preserved c =
-    let p = c.before.before in
-    let f = p.before.before.before.before in
-    let t = (turn f.before).before in
-    let a = (entry t).args in
-    let short = belt-length a.tails.now a.heads.now a.flow.now a.a a.y t.loop-e.e in
-    (one-rowed t.loop-e.invariant.0 (rw (load f) at p.put_belt-next.ensures) short, omega arith)
+    let a = c.args in
+    let short = belt-length a.tails.now a.heads.now a.flow.now a.a a.y c.loop-e.e in
+    (one-rowed c.loop-e.invariant.0 (rw (load (goal.at.loop-e-preserved c).After-size-load) at c.put_belt-next.ensures) short, omega arith)
 
 pub shape_of-out : goal.shape_of-out
-shape_of-out c = put-length c.before.loop-e.invariant.0.now
+shape_of-out c = put-length c.loop-e.invariant.0.now
 
 pub returns : goal.returns
-returns c = all-rowed _ c.before.loop-e.invariant.0 c.before.loop-e.invariant.1 c.loop-e-test.false
+returns c = all-rowed _ c.loop-e.invariant.0 c.loop-e.invariant.1 c.loop-e-test.false

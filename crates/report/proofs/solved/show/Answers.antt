@@ -16,9 +16,8 @@ room : (s : Start) → s.args.s.arcs ≤ length (replicate most_arcs (pos 0))
 room s = omega (arith, s.requires.lent.packed.few-arcs, length-replicate most_arcs (pos 0))
 
 pub slice_bounds-show_in-end : goal.slice_bounds-show_in-end
-slice_bounds-show_in-end c = sym (length-take-le _ _ (room c.before.before.before))
+slice_bounds-show_in-end c = sym (length-take-le _ _ (room (goal.at.slice_bounds-show_in-end c).Start))
 
 pub show_in-requires : goal.show_in-requires
 show_in-requires c =
-    let s = c.before.before.before.before.before in
-    record { ready = s.requires; flows = length-take-le _ _ (room s); places = omega (arith, length-replicate {A = ℕ} table_numbers 0) }
+    record { ready = c.requires; flows = length-take-le _ _ (room (goal.at.show_in-requires c).Start); places = omega (arith, length-replicate {A = ℕ} table_numbers 0) }

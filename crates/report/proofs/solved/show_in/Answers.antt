@@ -7,43 +7,24 @@ use Rattle.rows.proofs.Puts.{put-within}
 use Rattle.report.proofs.Showing.{one-row, total-small, belted, shown}
 use borrow.Author.Rules.{rules}
 use Rattle.report.proofs.solved.show_in.Goals as goal
-use Rattle.report.proofs.solved.show_in.Goals.{After-put_answer-next, After-put_belts, After-solve-a, Start}
-
--- from each call back to the one before it, and from the first to the function's entry
-abbrev entry : After-solve-a → Start
-entry c = c.before.before.before.before.before.before
-
-abbrev solve-at : After-put_answer-next → After-solve-a
-solve-at c = c.before.before.before.before.before
-
-abbrev answer_at : After-put_belts → After-put_answer-next
-answer_at c = c.before.before.before.before.before.before.before
 
 pub solve-a-requires : goal.solve-a-requires
 solve-a-requires c =
-    let s = c.before.before.before.before.before in
-    record { lent = s.requires.ready.lent; flows = one-row s.requires.ready _ s.requires.flows; places = s.requires.places }
+    record { lent = c.requires.ready.lent; flows = one-row c.requires.ready _ c.requires.flows; places = c.requires.places }
 
 pub put_answer-next-requires : goal.put_answer-next-requires
 put_answer-next-requires c =
-    let f = c.before.before.before.before in
-    let s = entry f in
-    (total-small s.requires.ready f.solve-a.ensures, omega (arith, s.requires.ready.enough))
+    (total-small c.requires.ready c.solve-a.ensures, omega (arith, c.requires.ready.enough))
 
 pub put_belts-requires : goal.put_belts-requires
 unfolding net_in
 put_belts-requires c =
-    let f = c.before.before.before.before.before.before in
-    let s = entry (solve-at f) in
-    let v = (solve-at f).solve-a in
-    let p = f.put_answer-next in
+    let v = c.solve-a in
+    let p = c.put_answer-next in
     rw p.auto.0
-    (belted s.requires.ready v.ensures _ (v.kept.1.1.1.0 ∙ s.requires.flows) (put-within p.ensures (answer-length _)))
+    (belted c.requires.ready v.ensures _ (v.kept.1.1.1.0 ∙ c.requires.flows) (put-within p.ensures (answer-length _)))
 
 pub returns : goal.returns
 unfolding net_in
 returns c =
-    let b = c.before.before in
-    let a = answer_at b in
-    let s = entry (solve-at a) in
-    shown s.requires.ready (solve-at a).solve-a.ensures a.put_answer-next.ensures b.put_belts.ensures
+    shown c.requires.ready c.solve-a.ensures c.put_answer-next.ensures c.put_belts.ensures

@@ -11,13 +11,13 @@ pub loop-i-init : goal.loop-i-init
 loop-i-init c = none-put _ _ _ (omega arith)
 
 pub bounds-out-at : goal.bounds-out-at
-bounds-out-at c = omega (arith, put-length c.before.before.loop-i.invariant.now)
+bounds-out-at c = omega (arith, put-length c.loop-i.invariant.now)
 
 pub loop-i-preserved : goal.loop-i-preserved
-loop-i-preserved c = one-put c.before.before.loop-i.invariant (omega arith)
+loop-i-preserved c = one-put c.loop-i.invariant (omega arith)
 
 pub shape_of-out : goal.shape_of-out
-shape_of-out c = put-length c.before.loop-i.invariant.now
+shape_of-out c = put-length c.loop-i.invariant.now
 
 pub returns : goal.returns
-returns c = all-put c.before.loop-i.invariant (omega arith)
+returns c = all-put c.loop-i.invariant (omega arith)

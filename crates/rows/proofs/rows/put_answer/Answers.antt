@@ -7,12 +7,12 @@ use borrow.Author.Rules.{rules}
 use Rattle.rows.proofs.rows.put_answer.Goals as goal
 
 pub put_row-next-requires-2 : goal.put_row-next-requires-2
-put_row-next-requires-2 c = omega (arith, put-within c.before.before.before.before.put_row-next.ensures (row-length _ _ _ _ _))
+put_row-next-requires-2 c = omega (arith, put-within c.put_row-next.ensures (row-length _ _ _ _ _))
 
 pub put_row-requires : goal.put_row-requires
 put_row-requires c =
-    omega (arith, put-within c.before.before.before.before.before.before.before.before.before.put_row-next.ensures (row-length _ _ _ _ _), put-within c.before.before.before.before.put_row-next-2.ensures (row-length _ _ _ _ _))
+    omega (arith, put-within c.put_row-next.ensures (row-length _ _ _ _ _), put-within c.put_row-next-2.ensures (row-length _ _ _ _ _))
 
 pub returns : goal.returns
 unfolding answer_rows
-returns c = put_next c.before.before.before.before.before.before.before.before.before.before.before.before.put_row-next.ensures (put_next c.before.before.before.before.before.before.before.put_row-next-2.ensures c.before.before.put_row.ensures)
+returns c = put_next c.put_row-next.ensures (put_next c.put_row-next-2.ensures c.put_row.ensures)

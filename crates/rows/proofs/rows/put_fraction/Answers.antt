@@ -7,23 +7,21 @@ use borrow.Author.Rules.{rules}
 use Rattle.rows.proofs.rows.put_fraction.Goals as goal
 
 pub put_number-next-requires : goal.put_number-next-requires
-put_number-next-requires c = omega (arith, decimal-short c.before.before.args.upper)
+put_number-next-requires c = omega (arith, decimal-short c.args.upper)
 
 pub put-next-requires : goal.put-next-requires
-put-next-requires c = omega (arith, decimal-short c.before.before.before.before.before.before.before.args.upper)
+put-next-requires c = omega (arith, decimal-short c.args.upper)
 
 pub put_number-next-requires-2 : goal.put_number-next-requires-2
 put_number-next-requires-2 c =
-    let s = c.before.before.before.before.before.before.before.before.before.before.before in
-    omega (arith, decimal-short s.args.upper, decimal-short s.args.lower)
+    omega (arith, decimal-short c.args.upper, decimal-short c.args.lower)
 
 pub put-requires : goal.put-requires
 put-requires c =
-    let s = c.before.before.before.before.before.before.before.before.before.before.before.before.before.before.before.before in
-    omega (arith, decimal-short s.args.upper, decimal-short s.args.lower)
+    omega (arith, decimal-short c.args.upper, decimal-short c.args.lower)
 
 pub returns : goal.returns
 unfolding delimited
 returns c =
-    put_next c.before.before.before.before.before.before.before.before.before.before.before.before.before.before.before.before.put_number-next.ensures
-    (put_next c.before.before.before.before.before.before.before.before.before.before.before.put-next.ensures (put_next c.before.before.before.before.before.before.before.put_number-next-2.ensures c.before.before.put.ensures))
+    put_next c.put_number-next.ensures
+    (put_next c.put-next.ensures (put_next c.put_number-next-2.ensures c.put.ensures))

@@ -6,4 +6,4 @@ use Rattle.rows.proofs.rows.put_row.Goals as goal
 
 pub returns : goal.returns
 unfolding row delimited
-returns c = put_next c.before.before.before.before.before.before.before.before.before.before.before.put-next.ensures (put_next c.before.before.before.before.before.before.put-next-2.ensures c.before.before.put_fraction.ensures)
+returns c = put_next c.put-next.ensures (put_next c.put-next-2.ensures c.put_fraction.ensures)

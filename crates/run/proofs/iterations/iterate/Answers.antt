@@ -27,7 +27,7 @@ use Rattle.run.proofs.Longer.{memory-next}
 use Rattle.run.proofs.Noted.{kept-ready}
 use Rattle.run.proofs.Ready.{ready}
 use Rattle.run.proofs.iterations.iterate.Goals as goal
-use Rattle.run.proofs.iterations.iterate.Goals.{After-choose-c, After-keep, After-step-r, Start}
+use Rattle.run.proofs.iterations.iterate.Goals.{After-choose-arg-3-1, After-choose-c, After-keep, Start}
 
 -- the network and the state at entry
 abbrev net : Start → Network
@@ -42,12 +42,7 @@ reached s =
 
 pub choose-c-requires : goal.choose-c-requires
 choose-c-requires c =
-    let s = c.before.before.before.before.before.before.before.before.before in
-    choosing s.requires.room (state s) (reached s) refl s.requires.iterating.memory-of
-
--- the function's entry, seen from behind the search; what was found, and what its path uses
-abbrev entry : After-choose-c → Start
-entry c = c.before.before.before.before.before.before.before.before.before.before
+    choosing c.requires.room (state (goal.at.choose-c-requires c).Start) (reached (goal.at.choose-c-requires c).Start) refl c.requires.iterating.memory-of
 
 abbrev path : After-choose-c → List ℕ
 path c = c.choose-c.new.1.1.1.1.1.0
@@ -58,73 +53,60 @@ used c = take c.choose-c.result.used (path c)
 abbrev chosen : After-choose-c → Choice
 chosen c = chosen_in c.choose-c.result (used c)
 
-picked : (c : After-choose-c) → Picked (net (entry c)) (state (entry c)).lengths c.choose-c.result (path c)
+picked : (c : After-choose-c) → Picked (net (goal.at.After-choose-c c).Start) (state (goal.at.After-choose-c c).Start).lengths c.choose-c.result (path c)
 picked c =
-    let s = entry c in
-    picks (net s) s.requires.iterating.chooses (state s).lengths c.choose-c.result (path c) c.choose-c.ensures.chose
+    picks (net (goal.at.After-choose-c c).Start) c.requires.iterating.chooses (state (goal.at.After-choose-c c).Start).lengths c.choose-c.result (path c) c.choose-c.ensures.chose
 
 room : (c : After-choose-c) → c.choose-c.result.used ≤ length (path c)
-room c = omega (arith, (picked c).few-used, c.choose-c.auto.1.1.1.1.1.0, (entry c).requires.room.path)
+room c = omega (arith, (picked c).few-used, c.choose-c.auto.1.1.1.1.1.0, c.requires.room.path)
 
-is-chosen : (c : After-choose-c) → choice (net (entry c)) (state (entry c)).lengths ≡ some (chosen c)
-is-chosen c = selected-chosen (net (entry c)) (state (entry c)).lengths c.choose-c.result (path c) (picked c) (room c)
+is-chosen : (c : After-choose-c) → choice (net (goal.at.After-choose-c c).Start) (state (goal.at.After-choose-c c).Start).lengths ≡ some (chosen c)
+is-chosen c = selected-chosen (net (goal.at.After-choose-c c).Start) (state (goal.at.After-choose-c c).Start).lengths c.choose-c.result (path c) (picked c) (room c)
 
 pub slice_bounds-step-end-2 : goal.slice_bounds-step-end-2
-slice_bounds-step-end-2 c = room c.before.before.before.before.before
+slice_bounds-step-end-2 c = room (goal.at.slice_bounds-step-end-2 c).After-choose-c
 
 pub slice_bounds-step-end-3 : goal.slice_bounds-step-end-3
 slice_bounds-step-end-3 c =
-    let f = c.before.before.before.before.before.before in
-    sym (length-take-le f.choose-c.result.used (path f) (room f))
+    sym (length-take-le c.choose-c.result.used (path (goal.at.slice_bounds-step-end-3 c).After-choose-arg-3-1) (room (goal.at.slice_bounds-step-end-3 c).After-choose-arg-3-1))
 
 pub step-r-requires : goal.step-r-requires
 step-r-requires c =
-    let f = c.before.before.before.before.before.before.before.before in let s = entry f in
-    let a = s.requires.room.lent in
-    let uses = selected-uses (net s) (state s).lengths f.choose-c.result (path f) (picked f) (room f) in
+    let a = c.requires.room.lent in
+    let uses = selected-uses (net (goal.at.step-r-requires c).Start) (state (goal.at.step-r-requires c).Start).lengths c.choose-c.result (path (goal.at.step-r-requires c).After-choose-arg-3-1) (picked (goal.at.step-r-requires c).After-choose-arg-3-1) (room (goal.at.step-r-requires c).After-choose-arg-3-1) in
     record {
       packed = a.packed;
       counted = a.counted;
       few = omega (arith, a.counted, a.sound.counts.of-resources);
-      places = s.requires.room.tables;
-      caps-are = ap (λ n. part resource_capacities_from n s.args.indexes.now) a.counted ∙ s.requires.room.indexed.capacities;
-      arcs-first = omega (arith, (picked f).some_more, length-take-le f.choose-c.result.used (path f) (room f));
+      places = c.requires.room.tables;
+      caps-are = ap (λ n. part resource_capacities_from n c.args.indexes.now) a.counted ∙ c.requires.room.indexed.capacities;
+      arcs-first = omega (arith, (picked (goal.at.step-r-requires c).After-choose-arg-3-1).some_more, length-take-le c.choose-c.result.used (path (goal.at.step-r-requires c).After-choose-arg-3-1) (room (goal.at.step-r-requires c).After-choose-arg-3-1));
       path-is = uses;
       stepping =
-          rw (← (picked f).alpha) (subst (λ p. Stepping (net s) s.args.q (chosen f) (path_length (state s).lengths p) (state s)) (sym uses)
-          (ready (net s) s.args.q a.sound (state s) (reached s) (chosen f) (is-chosen f)));
-      kept = kept-ready (net s) s.args.q a.sound (state s) (reached s) s.args.threshold s.args.p s.requires.iterating.noted;
+          rw (← (picked (goal.at.step-r-requires c).After-choose-arg-3-1).alpha) (subst (λ p. Stepping (net (goal.at.step-r-requires c).Start) c.args.q (chosen (goal.at.step-r-requires c).After-choose-arg-3-1) (path_length (state (goal.at.step-r-requires c).Start).lengths p) (state (goal.at.step-r-requires c).Start)) (sym uses)
+          (ready (net (goal.at.step-r-requires c).Start) c.args.q a.sound (state (goal.at.step-r-requires c).Start) (reached (goal.at.step-r-requires c).Start) (chosen (goal.at.step-r-requires c).After-choose-arg-3-1) (is-chosen (goal.at.step-r-requires c).After-choose-arg-3-1)));
+      kept = kept-ready (net (goal.at.step-r-requires c).Start) c.args.q a.sound (state (goal.at.step-r-requires c).Start) (reached (goal.at.step-r-requires c).Start) c.args.threshold c.args.p c.requires.iterating.noted;
     }
-
--- behind the step: the search, and from the end of the function the step
-abbrev choose-at : After-step-r → After-choose-c
-choose-at c = c.before.before.before.before.before.before.before.before.before
-
-abbrev step-at : After-keep → After-step-r
-step-at c = c.before.before.before.before.before
 
 pub keep-requires : goal.keep-requires
 unfolding net_in
 keep-requires c =
-    let f = choose-at c.before.before.before.before in
-    ((entry f).requires.room.lent.packed.few-nodes, f.choose-c.ensures.memory-of.places)
+    (c.requires.room.lent.packed.few-nodes, c.choose-c.ensures.memory-of.places)
 
 -- what was kept, of the network's nodes
-kept : (c : After-keep) → let f = choose-at (step-at c) in let s = entry f in
-    Kept (step-at c).step-r.result.halved (net s).nodes f.choose-c.last.1.1.1.1.0 c.keep.new.1.1.0
+kept : (c : After-keep) → Kept c.step-r.result.halved (net (goal.at.After-keep c).Start).nodes c.choose-c.last.1.1.1.1.0 c.keep.new.1.1.0
 unfolding net_in
 kept c = c.keep.ensures
 
 pub returns : goal.returns
 returns c =
-    let g = c.before.before in let t = step-at g in let f = choose-at t in
-    let s = entry f in let z = s.args in
-    let a = s.requires.room.lent in
+    let z = c.args in
+    let a = c.requires.room.lent in
     record {
       iterated =
-          iterated (net s) z.q z.threshold s.requires.iterating.noted.threshold (state s) (reached s).valid.table.places (chosen f) (is-chosen f) _ _ t.step-r.ensures;
+          iterated (net (goal.at.returns c).Start) z.q z.threshold c.requires.iterating.noted.threshold (state (goal.at.returns c).Start) (reached (goal.at.returns c).Start).valid.table.places (chosen (goal.at.returns c).After-choose-c) (is-chosen (goal.at.returns c).After-choose-c) _ _ c.step-r.ensures;
       memory-of =
-          memory-next (net s) z.q (chosen f) (state s) (reached s).valid.lengths t.step-r.result.halved (sound-ends (net s) z.q a.sound)
-          a.sound.counts.of-nodes.most a.packed.few-commodities (sym (commodities-is a.packed)) f.choose-c.ensures.memory-of g.keep.auto.1.1.0
-          t.step-r.ensures.halved (ap (λ x. x.lengths) t.step-r.ensures.state) (kept g);
+          memory-next (net (goal.at.returns c).Start) z.q (chosen (goal.at.returns c).After-choose-c) (state (goal.at.returns c).Start) (reached (goal.at.returns c).Start).valid.lengths c.step-r.result.halved (sound-ends (net (goal.at.returns c).Start) z.q a.sound)
+          a.sound.counts.of-nodes.most a.packed.few-commodities (sym (commodities-is a.packed)) c.choose-c.ensures.memory-of c.keep.auto.1.1.0
+          c.step-r.ensures.halved (ap (λ x. x.lengths) c.step-r.ensures.state) (kept (goal.at.returns c).After-keep);
     }

@@ -5,14 +5,13 @@ use mathlib.Core.Bool.{true≢false}
 use Rattle.run.proofs.iterations.keep.Goals as goal
 
 pub forget-requires : goal.forget-requires
-forget-requires c = c.before.before.before.requires
+forget-requires c = c.requires
 
 pub returns-then-halved : goal.returns-then-halved
 returns-then-halved c =
-    let f = c.before.before in
     record {
-      same = λ q. absurd (true≢false (sym f.before.before.if-halved.true ∙ q));
-      forgotten = λ q. f.forget.ensures;
+      same = λ q. absurd (true≢false (sym c.if-halved.true ∙ q));
+      forgotten = λ q. c.forget.ensures;
     }
 
 pub returns-else-halved : goal.returns-else-halved

@@ -17,7 +17,7 @@ use Rattle.run.proofs.Onward.{onward-less, onward-last, onward-running, onward-n
 use Rattle.run.proofs.Running.{left, Running}
 use Rattle.run.proofs.Same.{Same}
 use Rattle.run.proofs.runs.run.Goals as goal
-use Rattle.run.proofs.runs.run.Goals.{After-iterate-p, At-loop-p, Else-p, Start, Then-p}
+use Rattle.run.proofs.runs.run.Goals.{After-iterate-p, Start}
 
 -- the network at entry
 abbrev net : Start → Network
@@ -27,7 +27,7 @@ net s = net_in s.args.s s.args.net.now
 -- mark by the arcs fails not here but where it has to be the method's mark.
 pub threshold-threshold-requires : goal.threshold-threshold-requires
 threshold-threshold-requires c =
-    let a = c.before.before.before.before.before.requires.room.lent in
+    let a = c.requires.room.lent in
     let k = resources-within _ _ a.sound in
     let e = a.sound.counts.of-arcs in
     let m = arcs-is a.packed in
@@ -36,24 +36,18 @@ threshold-threshold-requires c =
 
 pub loop-p-init : goal.loop-p-init
 loop-p-init c =
-    let s = c.before.before.before.before.before.before.before in
-    let a = s.requires.room.lent in (
-      begin-running c.begin-p.ensures a.sound s.requires.starting.start s.requires.starting.chooses,
+    let a = c.requires.room.lent in (
+      begin-running c.begin-p.ensures a.sound c.requires.starting.start c.requires.starting.chooses,
       (
-        begin-noted c.begin-p.ensures s.requires.starting.weight (c.before.threshold-threshold.ensures ∙ ap (λ m. threshold m s.args.q) a.counted),
-        (s.requires.starting.memory-of, record { flows = refl; tabled = refl; memorised = refl; paths = refl }),
+        begin-noted c.begin-p.ensures c.requires.starting.weight (c.threshold-threshold.ensures ∙ ap (λ m. threshold m c.args.q) a.counted),
+        (c.requires.starting.memory-of, record { flows = refl; tabled = refl; memorised = refl; paths = refl }),
       ),
     )
 
--- from the loop's beginning to the function's entry
-abbrev entry : At-loop-p → Start
-entry c = c.before.before.before.before.before.before.before.before
-
 pub iterate-p-requires : goal.iterate-p-requires
 iterate-p-requires c =
-    let t = c.before.before.before.before in
-    let p = (entry t).requires in
-    let i = t.loop-p.invariant in
+    let p = c.requires in
+    let i = c.loop-p.invariant in
     let same = i.1.1.1 in (
       record {
         lent = p.0.lent;
@@ -64,28 +58,24 @@ iterate-p-requires c =
       record { memory-of = i.1.1.0; chooses = p.1.chooses; underway = i.0.underway; noted = i.1.0 },
     )
 
--- behind an iteration: the loop's beginning, and the states before and after it
-abbrev turn : After-iterate-p → At-loop-p
-turn c = c.before.before.before.before.before
-
 abbrev old : After-iterate-p → State
-old c = let l = (turn c).loop-p in state_in (entry (turn c)).args.s l.flow-1 l.tables-1 l.p
+old c = let l = c.loop-p in state_in c.args.s l.flow l.tables l.p
 
 abbrev new : After-iterate-p → State
 new c =
     let l = c.iterate-p.new.1.1.1.1.1 in
-    state_in (entry (turn c)).args.s l.0 l.1.0 c.iterate-p.result
+    state_in c.args.s l.0 l.1.0 c.iterate-p.result
 
-iterated : (c : After-iterate-p) → let s = entry (turn c) in Iterated (net s) s.args.q (old c) (new c) c.iterate-p.result
+iterated : (c : After-iterate-p) → Iterated (net (goal.at.After-iterate-p c).Start) c.args.q (old c) (new c) c.iterate-p.result
 iterated c = c.iterate-p.ensures.iterated
 
 sizes : (c : After-iterate-p) →
-    let z = (entry (turn c)).args in
+    let z = c.args in
     let l = c.iterate-p.new.1.1.1.1.1 in
-    Same z.flow-1.now z.tables-1.now z.memory-1.now z.path-1.now l.0 l.1.0 l.1.1.0 l.1.1.1.0
+    Same z.flow.now z.tables.now z.memory.now z.path.now l.0 l.1.0 l.1.1.0 l.1.1.1.0
 sizes c =
     let k = c.iterate-p.auto.1.1.1.1.1 in
-    let i = (turn c).loop-p.invariant.1.1.1 in
+    let i = c.loop-p.invariant.1.1.1 in
     record {
       flows = k.0 ∙ i.flows;
       tabled = k.1.0 ∙ i.tabled;
@@ -93,42 +83,29 @@ sizes c =
       paths = k.1.1.1.0 ∙ i.paths;
     }
 
--- the iteration, seen from where the run goes on and from where it ends
-abbrev going-at : Else-p → After-iterate-p
-going-at c = c.before.before.before.before.before.before.before.before
-
-abbrev ended_at : Then-p → After-iterate-p
-ended_at c = c.before.before.before.before.before.before.before.before
-
 pub loop-p-smaller : goal.loop-p-smaller
 loop-p-smaller c =
-    let f = going-at c in
-    let s = entry (turn f) in
-    onward-less (net s) s.args.q s.requires.room.lent.sound s.requires.starting.chooses (turn f).loop-p.invariant.0 (iterated f)
+    onward-less (net (goal.at.loop-p-smaller c).Start) c.args.q c.requires.room.lent.sound c.requires.starting.chooses c.loop-p.invariant.0 (iterated (goal.at.loop-p-smaller c).After-iterate-p)
 
 pub loop-p-preserved : goal.loop-p-preserved
 loop-p-preserved c =
-    let f = going-at c in
-    let s = entry (turn f) in
-    let i = (turn f).loop-p.invariant in (
-      onward-running (net s) s.args.q s.requires.room.lent.sound s.requires.starting.chooses i.0 (iterated f) c.if-p.false,
-      (onward-noted i.1.0 (iterated f), (f.iterate-p.ensures.memory-of, sizes f)),
+    let i = c.loop-p.invariant in (
+      onward-running (net (goal.at.loop-p-preserved c).Start) c.args.q c.requires.room.lent.sound c.requires.starting.chooses i.0 (iterated (goal.at.loop-p-preserved c).After-iterate-p) c.if-p.false,
+      (onward-noted i.1.0 (iterated (goal.at.loop-p-preserved c).After-iterate-p), (c.iterate-p.ensures.memory-of, sizes (goal.at.loop-p-preserved c).After-iterate-p)),
     )
 
 pub returns : goal.returns
 returns c =
-    let f = ended_at c in
-    let s = entry (turn f) in
-    onward-last (net s) s.args.q s.requires.room.lent.sound s.requires.starting.chooses (turn f).loop-p.invariant.0 (iterated f) c.if-p.true
+    onward-last (net (goal.at.returns c).Start) c.args.q c.requires.room.lent.sound c.requires.starting.chooses c.loop-p.invariant.0 (iterated (goal.at.returns c).After-iterate-p) c.if-p.true
 
 pub shape_of-flow : goal.shape_of-flow
-shape_of-flow c = (sizes (ended_at c)).flows
+shape_of-flow c = (sizes (goal.at.shape_of-flow c).After-iterate-p).flows
 
 pub shape_of-tables : goal.shape_of-tables
-shape_of-tables c = (sizes (ended_at c)).tabled
+shape_of-tables c = (sizes (goal.at.shape_of-tables c).After-iterate-p).tabled
 
 pub shape_of-memory : goal.shape_of-memory
-shape_of-memory c = (sizes (ended_at c)).memorised
+shape_of-memory c = (sizes (goal.at.shape_of-memory c).After-iterate-p).memorised
 
 pub shape_of-path : goal.shape_of-path
-shape_of-path c = (sizes (ended_at c)).paths
+shape_of-path c = (sizes (goal.at.shape_of-path c).After-iterate-p).paths

@@ -18,14 +18,7 @@ use Rattle.paths.proofs.Relaxing.{takes-not, taken-relaxed, relaxed-end}
 use Rattle.paths.proofs.Rooms.{relaxing}
 use Rattle.paths.proofs.Spreading.{searching-still, searching-met}
 use Rattle.search.proofs.relax.reach.Goals as goal
-use Rattle.search.proofs.relax.reach.Goals.{After-passed_by, After-relax-nearer, Start}
-
--- the function's entry, seen from behind the look before, and that from behind the call of `relax`
-abbrev entry : After-passed_by → Start
-entry c = c.before.before.before.before.before.before.before.before.before.before
-
-abbrev looked-at : After-relax-nearer → After-passed_by
-looked-at c = c.before.before.before
+use Rattle.search.proofs.relax.reach.Goals.{After-relax-nearer, Start}
 
 -- the place is in the index, and its arc leads to v
 place : (s : Start) → ends_from + s.args.p < length s.args.into.now
@@ -40,22 +33,22 @@ arc s =
     P.index.arcs.sound s.args.v s.args.p _ _ P.node (record { from = P.from; below = P.below; arc = refl; end = refl })
 
 pub overflow_add-e : goal.overflow_add-e
-overflow_add-e c = let s = c.before.before.before.before.before in omega (arith, s.well_formed, place s)
+overflow_add-e c = omega (arith, c.well_formed, place (goal.at.overflow_add-e c).Start)
 
 pub offset_bounds-into-p : goal.offset_bounds-into-p
-offset_bounds-into-p c = let s = c.before.before.before.before.before in omega (arith, s.well_formed, place s)
+offset_bounds-into-p c = omega (arith, c.well_formed, place (goal.at.offset_bounds-into-p c).Start)
 
 pub bounds-into-p : goal.bounds-into-p
-bounds-into-p c = omega (arith, place c.before.before.before.before.before.before)
+bounds-into-p c = omega (arith, place (goal.at.bounds-into-p c).Start)
 
 pub overflow_add-u : goal.overflow_add-u
-overflow_add-u c = let s = c.before.before.before.before.before.before in omega (arith, s.well_formed, place s)
+overflow_add-u c = omega (arith, c.well_formed, place (goal.at.overflow_add-u c).Start)
 
 pub offset_bounds-into-p-2 : goal.offset_bounds-into-p-2
-offset_bounds-into-p-2 c = let s = c.before.before.before.before.before.before in omega (arith, s.well_formed, place s)
+offset_bounds-into-p-2 c = omega (arith, c.well_formed, place (goal.at.offset_bounds-into-p-2 c).Start)
 
 pub bounds-into-p-2 : goal.bounds-into-p-2
-bounds-into-p-2 c = place c.before.before.before.before.before.before.before
+bounds-into-p-2 c = place (goal.at.bounds-into-p-2 c).Start
 
 -- the arc can be crossed, and the way over it is as the definition says
 crossed : (s : Start) → let n = net_in s.args.s s.args.net.now in let i = s.args.into.now in
@@ -66,52 +59,47 @@ way : (s : Start) → let n = net_in s.args.s s.args.net.now in let i = s.args.i
     most_nodes * get_or l (arc_at i s.args.p) 0 + s.args.onward ≡ via l s.args.dist.now (node_length n l s.args.v) (arc_at i s.args.p) s.args.v
 way s = omega (arith, s.requires.own)
 
-relaxes : (c : After-relax-nearer) → let s = entry (looked-at c) in let n = net_in s.args.s s.args.net.now in let i = s.args.into.now in
-    Relaxed s.args.lengths.now (node_length n s.args.lengths.now s.args.v) (end_at i s.args.p) (arc_at i s.args.p) s.args.v s.args.dist.now c.relax-nearer.result
+relaxes : (c : After-relax-nearer) → let n = net_in c.args.s c.args.net.now in let i = c.args.into.now in
+    Relaxed c.args.lengths.now (node_length n c.args.lengths.now c.args.v) (end_at i c.args.p) (arc_at i c.args.p) c.args.v c.args.dist.now c.relax-nearer.result
     c.relax-nearer.new.1.1.0
-relaxes c = taken-relaxed (way (entry (looked-at c))) c.relax-nearer.ensures
+relaxes c = taken-relaxed (way (goal.at.After-relax-nearer c).Start) c.relax-nearer.ensures
 
 pub offset_bounds-lengths-e : goal.offset_bounds-lengths-e
-offset_bounds-lengths-e c = let s = c.before.before.before.before.before.before.before in omega (arith, s.well_formed, (crossed s).crossing.arc)
+offset_bounds-lengths-e c = omega (arith, c.well_formed, (crossed (goal.at.offset_bounds-lengths-e c).Start).crossing.arc)
 
 pub bounds-lengths-e : goal.bounds-lengths-e
-bounds-lengths-e c = (crossed c.before.before.before.before.before.before.before.before).crossing.arc
+bounds-lengths-e c = (crossed (goal.at.bounds-lengths-e c).Start).crossing.arc
 
 pub overflow_mul-way : goal.overflow_mul-way
-overflow_mul-way c = let s = c.before.before.before.before.before.before.before.before in omega (arith, way s, (crossed s).crossing.ranges)
+overflow_mul-way c = omega (arith, way (goal.at.overflow_mul-way c).Start, (crossed (goal.at.overflow_mul-way c).Start).crossing.ranges)
 
 pub overflow_add-way : goal.overflow_add-way
-overflow_add-way c = let s = c.before.before.before.before.before.before.before.before in omega (arith, way s, (crossed s).crossing.ranges)
+overflow_add-way c = omega (arith, way (goal.at.overflow_add-way c).Start, (crossed (goal.at.overflow_add-way c).Start).crossing.ranges)
 
 pub passed_by-requires : goal.passed_by-requires
-passed_by-requires c = (crossed c.before.before.before.before.before.before.before.before.before).start
+passed_by-requires c = (crossed (goal.at.passed_by-requires c).Start).start
 
 pub returns-then-passed_by : goal.returns-then-passed_by
 returns-then-passed_by c =
-    let s = entry c.before in
-    let R = taken-relaxed (way s) (takes-not (c.before.passed_by.ensures c.if-passed_by.true)) in
+    let R = taken-relaxed (way (goal.at.returns-then-passed_by c).Start) (takes-not (c.passed_by.ensures c.if-passed_by.true)) in
     record {
-      spread = searching-still s.requires.searching refl refl refl (arc s) (sym R.told) R.entries;
+      spread = searching-still c.requires.searching refl refl refl (arc (goal.at.returns-then-passed_by c).Start) (sym R.told) R.entries;
       head = refl;
     }
 
 pub relax-nearer-requires : goal.relax-nearer-requires
-relax-nearer-requires c = (crossed (entry c.before.before)).start
+relax-nearer-requires c = (crossed (goal.at.relax-nearer-requires c).Start).start
 
 pub enlist-requires : goal.enlist-requires
 unfolding net_in
 enlist-requires c =
-    let s = entry (looked-at c.before.before.before) in
-    (s.requires.searching.worklist, leads-from _ _ _ _ (arc s) s.requires.searching.fit.ends)
+    (c.requires.searching.worklist, leads-from _ _ _ _ (arc (goal.at.enlist-requires c).Start) c.requires.searching.fit.ends)
 
 pub returns : goal.returns
 unfolding net_in
 returns c =
-    let E = c.before.before in
-    let R = E.before.before.before.before in
-    let s = entry (looked-at R) in
     record {
       spread =
-          searching-met s.requires.searching refl refl refl (arc s) _ s.requires.index.arcs.nodes (relaxes R).told (relaxes R).entries E.enlist.ensures;
-      head = rw (relaxes R).entries (relaxed-end _ _ _ _ _ _);
+          searching-met c.requires.searching refl refl refl (arc (goal.at.returns c).Start) _ c.requires.index.arcs.nodes (relaxes (goal.at.returns c).After-relax-nearer).told (relaxes (goal.at.returns c).After-relax-nearer).entries c.enlist.ensures;
+      head = rw (relaxes (goal.at.returns c).After-relax-nearer).entries (relaxed-end _ _ _ _ _ _);
     }

@@ -14,27 +14,25 @@ use Rattle.site.proofs.list.check_list.Goals as goal
 use Rattle.site.proofs.list.check_list.Goals.{After-count, After-outside}
 
 -- the tests, as the code and as the contract say them
-listed : (c : After-outside) → c.outside.result ≡ outside 1 most_networks (items floor_numbers c.before.before.before.before.args.floors.now)
-listed c = c.outside.ensures ∙ ap (outside 1 most_networks) c.before.items-k.ensures
+listed : (c : After-outside) → c.outside.result ≡ outside 1 most_networks (items floor_numbers c.args.floors.now)
+listed c = c.outside.ensures ∙ ap (outside 1 most_networks) c.items-k.ensures
 
-needed : (c : After-count) → 8 * c.before.before.before.items-k.result ≡ 8 * items floor_numbers c.before.before.before.before.before.before.args.floors.now
-needed c = ap (λ k. 8 * k) c.before.before.before.items-k.ensures
+needed : (c : After-count) → 8 * c.items-k.result ≡ 8 * items floor_numbers c.args.floors.now
+needed c = ap (λ k. 8 * k) c.items-k.ensures
 
 pub returns-then-outside : goal.returns-then-outside
 unfolding list_conditions
-returns-then-outside c = decides _ (listed c.before) c.if-outside.true
+returns-then-outside c = decides _ (listed (goal.at.returns-then-outside c).After-outside) c.if-outside.true
 
 pub returns-then-count-k : goal.returns-then-count-k
 unfolding list_conditions
 returns-then-count-k c =
-    let e = c.before.before in
-    passes _ _ (listed e.before) e.if-outside.false (decides _ (ap₂ ltb c.before.count.ensures (needed c.before)) (lt-ltb _ _ c.if-count-k.true))
+    passes _ _ (listed (goal.at.returns-then-count-k c).After-outside) c.if-outside.false (decides _ (ap₂ ltb c.count.ensures (needed (goal.at.returns-then-count-k c).After-count)) (lt-ltb _ _ c.if-count-k.true))
 
 pub returns : goal.returns
 unfolding list_conditions
 returns c =
-    let e = c.before.before in
-    passes _ _ (listed e.before) e.if-outside.false (passes _ _ (ap₂ ltb c.before.count.ensures (needed c.before)) (le-ltb _ _ c.if-count-k.false) none_left)
+    passes _ _ (listed (goal.at.returns c).After-outside) c.if-outside.false (passes _ _ (ap₂ ltb c.count.ensures (needed (goal.at.returns c).After-count)) (le-ltb _ _ c.if-count-k.false) none_left)
 
 pub overflow_mul-k : goal.overflow_mul-k
-overflow_mul-k c = omega (arith, c.before.before.before.items-k.ensures)
+overflow_mul-k c = omega (arith, c.items-k.ensures)

@@ -20,24 +20,21 @@ loop-f-init c = (omega arith, refl)
 -- floor f's size is in the list
 module _ (c : In-loop-f) where
   abbrev first : Start
-  first = c.before.before.before
+  first = (goal.at.In-loop-f c).Start
 
-  place : floor_numbers * c.before.loop-f.f + first.args.j < count first.args.floors.now
-  place = member_below first.args.floors.now floor_numbers first.args.j c.before.loop-f.f first.requires.0 (omega (arith, c.loop-f-test.true, first.requires.1))
+  place : floor_numbers * c.loop-f.f + first.args.j < count first.args.floors.now
+  place = member_below first.args.floors.now floor_numbers first.args.j c.loop-f.f first.pre.0 (omega (arith, c.loop-f-test.true, first.pre.1))
 
-  within : c.before.loop-f.from ≤ first.args.room
-  within = omega (arith, c.before.loop-f.invariant.1, begins-most first.args.floors.now first.args.j first.args.room c.before.loop-f.f)
+  within : c.loop-f.from ≤ first.args.room
+  within = omega (arith, c.loop-f.invariant.1, begins-most first.args.floors.now first.args.j first.args.room c.loop-f.f)
 
 pub loop-f-preserved : goal.loop-f-preserved
 loop-f-preserved c =
-    let r = c.before in
-    let l = r.before.before in
-    (omega (arith, r.before.loop-f-test.true), begins-more _ _ _ _ l.loop-f.invariant.1 r.read.ensures c.fit-from.ensures)
+    (omega (arith, c.loop-f-test.true), begins-more _ _ _ _ c.loop-f.invariant.1 c.read.ensures c.fit-from.ensures)
 
 pub returns : goal.returns
 returns c =
-    let s = c.before.before.before in
-    c.before.loop-f.invariant.1 ∙ ap (begins s.args.floors.now s.args.j s.args.room) (le_antisymm c.before.loop-f.invariant.0 c.loop-f-test.false)
+    c.loop-f.invariant.1 ∙ ap (begins c.args.floors.now c.args.j c.args.room) (le_antisymm c.loop-f.invariant.0 c.loop-f-test.false)
 
 pub overflow_mul-f : goal.overflow_mul-f
 overflow_mul-f c = omega (arith, place c)
@@ -49,7 +46,7 @@ pub read-requires : goal.read-requires
 read-requires c = place c
 
 pub overflow_sub-room : goal.overflow_sub-room
-overflow_sub-room c = within c.before
+overflow_sub-room c = within (goal.at.overflow_sub-room c).In-loop-f
 
 pub overflow_add-from : goal.overflow_add-from
-overflow_add-from c = omega (arith, within c.before.before, c.fit-from.ensures)
+overflow_add-from c = omega (arith, within (goal.at.overflow_add-from c).In-loop-f, c.fit-from.ensures)

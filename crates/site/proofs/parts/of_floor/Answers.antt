@@ -15,5 +15,4 @@ same_parts {b' = b'} {p' = p'} {l = l} {l' = l'} {f = f} {f' = f'} {e = e} hb hp
 
 pub returns : goal.returns
 returns c =
-    let f = c.before in let l = f.before in let p = l.before in let b = p.before in
-    same_parts b.part_of.ensures p.part_of-2.ensures l.part_of-3.ensures f.part_of-4.ensures c.part_of-5.ensures
+    same_parts c.part_of.ensures c.part_of-2.ensures c.part_of-3.ensures c.part_of-4.ensures c.part_of-5.ensures

@@ -22,7 +22,7 @@ use Rattle.tables.specs.Calls.{Ranking}
 use Rattle.solver.specs.Solved.{answer_of}
 use Rattle.solver.proofs.Solving.{solved-none, solved-some, ranking}
 use Rattle.solver.proofs.outcomes.outcome.Goals as goal
-use Rattle.solver.proofs.outcomes.outcome.Goals.{After-answer, After-choose-first, After-run-p, Else-first-ge-FAR_LENGTH, Start}
+use Rattle.solver.proofs.outcomes.outcome.Goals.{After-choose-first, After-run-arg-4-1, After-run-p, Else-first-ge-FAR_LENGTH, Start}
 
 -- the network at entry; the lengths are those of the definition's start
 abbrev net : Start → Network
@@ -33,104 +33,77 @@ first s = ap (λ t. t.lengths) s.requires.cleared.state
 
 pub choose-first-requires : goal.choose-first-requires
 choose-first-requires c =
-    let s = c.before.before.before.before.before.before.before.before.before in
-    choosing s.requires.room (initial (net s)) (reached-start (net s) s.args.q s.requires.room.lent.sound) (first s) s.requires.cleared.memory-of
+    choosing c.requires.room (initial (net (goal.at.choose-first-requires c).Start)) (reached-start (net (goal.at.choose-first-requires c).Start) c.args.q c.requires.room.lent.sound) (first (goal.at.choose-first-requires c).Start) c.requires.cleared.memory-of
 
--- the function's entry, seen from behind the search; what the search says of the network's choice by these lengths
-abbrev entry : After-choose-first → Start
-entry c = c.before.before.before.before.before.before.before.before.before.before
-
-chose : (c : After-choose-first) → Chose (net (entry c)) (initial (net (entry c))).lengths c.choose-first.result c.choose-first.new.1.1.1.1.1.0
-chose c = rw (← (first (entry c))) c.choose-first.ensures.chose
+chose : (c : After-choose-first) → Chose (net (goal.at.After-choose-first c).Start) (initial (net (goal.at.After-choose-first c).Start)).lengths c.choose-first.result c.choose-first.new.1.1.1.1.1.0
+chose c = rw (← (first (goal.at.After-choose-first c).Start)) c.choose-first.ensures.chose
 
 pub returns-then-first-ge-FAR_LENGTH : goal.returns-then-first-ge-FAR_LENGTH
 returns-then-first-ge-FAR_LENGTH c =
-    let f = c.before.before.before.before.before.before.before in
-    let s = entry f in
-    let k = chose f in
-    let start = s.requires.cleared.state in
+    let k = chose (goal.at.returns-then-first-ge-FAR_LENGTH c).After-choose-first in
+    let start = c.requires.cleared.state in
     rw c.unjoined.ensures
-    (solved-none (net s) s.args.q s.requires.room.lent.sound s.args.flow.now (kept_in s.args.s s.args.tables.now)
-    (k.nothing c.before.if-first-ge-FAR_LENGTH.true)
-    (ap (λ t. t.flow-1) start)
+    (solved-none (net (goal.at.returns-then-first-ge-FAR_LENGTH c).Start) c.args.q c.requires.room.lent.sound c.args.flow.now (kept_in c.args.s c.args.tables.now)
+    (k.nothing c.if-first-ge-FAR_LENGTH.true)
+    (ap (λ t. t.flow) start)
     (ap (λ t. t.best_lengths) start))
 
--- something is chosen by the first lengths, so by any
-abbrev search-at : Else-first-ge-FAR_LENGTH → After-choose-first
-search-at c = c.before.before.before.before.before.before
+picked : (c : Else-first-ge-FAR_LENGTH) → Picked (net (goal.at.Else-first-ge-FAR_LENGTH c).Start) (initial (net (goal.at.Else-first-ge-FAR_LENGTH c).Start)).lengths c.choose-first.result c.choose-first.last.1.1.1.1.1.0
+picked c = (chose (goal.at.Else-first-ge-FAR_LENGTH c).After-choose-first).something c.if-first-ge-FAR_LENGTH.false
 
-picked : (c : Else-first-ge-FAR_LENGTH) → let f = search-at c in Picked (net (entry f)) (initial (net (entry f))).lengths f.choose-first.result f.choose-first.last.1.1.1.1.1.0
-picked c = (chose (search-at c)).something c.if-first-ge-FAR_LENGTH.false
-
-chooses : (c : Else-first-ge-FAR_LENGTH) → Chooses (net (entry (search-at c)))
-chooses c = let s = entry (search-at c) in always (net s) (initial (net s)).lengths _ (picked c).chosen
+chooses : (c : Else-first-ge-FAR_LENGTH) → Chooses (net (goal.at.Else-first-ge-FAR_LENGTH c).Start)
+chooses c = always (net (goal.at.Else-first-ge-FAR_LENGTH c).Start) (initial (net (goal.at.Else-first-ge-FAR_LENGTH c).Start)).lengths _ (picked c).chosen
 
 pub run-p-requires : goal.run-p-requires
 run-p-requires c =
-    let t = c.before.before.before.before in
-    let f = search-at t in
-    let p = (entry f).requires in (
-      record { lent = p.0.lent; indexed = p.0.indexed; tables = p.0.tables; path = omega (arith, f.choose-first.auto.1.1.1.1.1.0, p.0.path) },
-      record { memory-of = f.choose-first.ensures.memory-of; chooses = chooses t; start = p.1.state; weight = p.1.weight },
+    let p = c.requires in (
+      record { lent = p.0.lent; indexed = p.0.indexed; tables = p.0.tables; path = omega (arith, c.choose-first.auto.1.1.1.1.1.0, p.0.path) },
+      record { memory-of = c.choose-first.ensures.memory-of; chooses = chooses (goal.at.run-p-requires c).Else-first-ge-FAR_LENGTH; start = p.1.state; weight = p.1.weight },
     )
-
--- behind the run: the entry, and the tables of the arcs
-abbrev choice-at : After-run-p → Else-first-ge-FAR_LENGTH
-choice-at c = c.before.before.before.before.before
-
-abbrev start_of : After-run-p → Start
-start_of c = entry (search-at (choice-at c))
 
 abbrev tables : After-run-p → List ℕ
 tables c = c.run-p.new.1.1.1.1.1.0
 
 room : (c : After-run-p) → table_numbers ≤ length (tables c)
-room c = omega (arith, c.run-p.auto.1.1.1.1.1.0, (start_of c).requires.room.tables)
+room c = omega (arith, c.run-p.auto.1.1.1.1.1.0, c.requires.room.tables)
 
-few : (c : After-run-p) → (start_of c).args.s.resources ≤ most_arcs
-few c = let a = (start_of c).requires.room.lent in omega (arith, a.counted, a.sound.counts.of-resources)
+few : (c : After-run-p) → c.args.s.resources ≤ most_arcs
+few c = let a = c.requires.room.lent in omega (arith, a.counted, a.sound.counts.of-resources)
 
-loaded : (c : After-run-p) → length (loads_in (start_of c).args.s (tables c)) ≡ resources (net (start_of c))
+loaded : (c : After-run-p) → length (loads_in c.args.s (tables c)) ≡ resources (net (goal.at.After-run-p c).Start)
 loaded c =
-    part_length loads_from (start_of c).args.s.resources (tables c) (omega (arith, few c, room c)) ∙ (start_of c).requires.room.lent.counted
+    part_length loads_from c.args.s.resources (tables c) (omega (arith, few c, room c)) ∙ c.requires.room.lent.counted
 
 -- The part of the slice of indexes that is lent has the capacities of the resources.
-caps-are : (c : After-run-p) → let s = start_of c in part resource_capacities_from s.args.s.resources s.args.indexes.now ≡ resource_capacities (net s)
-caps-are c = let s = start_of c in ap (λ n. part resource_capacities_from n s.args.indexes.now) s.requires.room.lent.counted ∙ s.requires.room.indexed.capacities
+caps-are : (c : After-run-p) → part resource_capacities_from c.args.s.resources c.args.indexes.now ≡ resource_capacities (net (goal.at.After-run-p c).Start)
+caps-are c = let (goal.at.After-run-p c).Start = (goal.at.After-run-p c).Start in ap (λ n. part resource_capacities_from n c.args.indexes.now) c.requires.room.lent.counted ∙ c.requires.room.indexed.capacities
 
 -- The end of that part is within the slice.
 pub overflow_add-m-2 : goal.overflow_add-m-2
-overflow_add-m-2 c = omega (arith, few c.before.before.before.before.before.before.before)
+overflow_add-m-2 c = omega (arith, few (goal.at.overflow_add-m-2 c).After-run-p)
 
 pub slice_bounds-answer-end : goal.slice_bounds-answer-end
-slice_bounds-answer-end c = let f = c.before.before.before.before.before.before.before in omega (arith, few f, (start_of f).requires.room.indexed.numbers)
+slice_bounds-answer-end c = omega (arith, few (goal.at.slice_bounds-answer-end c).After-run-p, c.requires.room.indexed.numbers)
 
 pub answer-requires : goal.answer-requires
 answer-requires c =
-    let f = c.before.before.before.before.before.before.before.before.before in
-    let s = start_of f in
     record {
-      few = few f;
-      places = room f;
+      few = few (goal.at.answer-requires c).After-run-arg-4-1;
+      places = room (goal.at.answer-requires c).After-run-arg-4-1;
       ranking =
-          subst (Ranking (loads_in s.args.s (tables f))) (sym (caps-are f))
-          (ranking (net s) s.args.q s.requires.room.lent.sound (chooses (choice-at f)) (loads_in s.args.s (tables f)) (ap (λ t. t.loads) f.run-p.ensures) (loaded f));
+          subst (Ranking (loads_in c.args.s (tables (goal.at.answer-requires c).After-run-arg-4-1))) (sym (caps-are (goal.at.answer-requires c).After-run-arg-4-1))
+          (ranking (net (goal.at.answer-requires c).Start) c.args.q c.requires.room.lent.sound (chooses (goal.at.answer-requires c).Else-first-ge-FAR_LENGTH) (loads_in c.args.s (tables (goal.at.answer-requires c).After-run-arg-4-1)) (ap (λ t. t.loads) c.run-p.ensures) (loaded (goal.at.answer-requires c).After-run-arg-4-1));
     }
-
-abbrev run_at : After-answer → After-run-p
-run_at c = c.before.before.before.before.before.before.before.before.before.before
 
 pub returns : goal.returns
 returns c =
-    let f = run_at c in
-    let s = start_of f in
-    rw (c.answer.ensures ∙ ap (λ caps. answer_of caps (loads_in s.args.s (tables f)) f.run-p.result) (caps-are f))
-    (solved-some (net s) s.args.q s.requires.room.lent.sound _ (picked (choice-at f)).chosen f.run-p.last.1.1.1.1.0 (kept_in s.args.s (tables f))
-    (loads_in s.args.s (tables f)) (lengths_in s.args.s (tables f)) f.run-p.result f.run-p.ensures (loaded f))
+    rw (c.answer.ensures ∙ ap (λ caps. answer_of caps (loads_in c.args.s (tables (goal.at.returns c).After-run-p)) c.run-p.result) (caps-are (goal.at.returns c).After-run-p))
+    (solved-some (net (goal.at.returns c).Start) c.args.q c.requires.room.lent.sound _ (picked (goal.at.returns c).Else-first-ge-FAR_LENGTH).chosen c.run-p.last.1.1.1.1.0 (kept_in c.args.s (tables (goal.at.returns c).After-run-p))
+    (loads_in c.args.s (tables (goal.at.returns c).After-run-p)) (lengths_in c.args.s (tables (goal.at.returns c).After-run-p)) c.run-p.result c.run-p.ensures (loaded (goal.at.returns c).After-run-p))
 
 -- memory and path keep their size in the search and in the run
 pub shape_of-memory : goal.shape_of-memory
-shape_of-memory c = let f = run_at c in f.run-p.auto.1.1.1.1.1.1.0 ∙ (search-at (choice-at f)).choose-first.auto.1.1.1.1.0
+shape_of-memory c = c.run-p.auto.1.1.1.1.1.1.0 ∙ c.choose-first.auto.1.1.1.1.0
 
 pub shape_of-path : goal.shape_of-path
-shape_of-path c = let f = run_at c in f.run-p.auto.1.1.1.1.1.1.1.0 ∙ (search-at (choice-at f)).choose-first.auto.1.1.1.1.1.0
+shape_of-path c = c.run-p.auto.1.1.1.1.1.1.1.0 ∙ c.choose-first.auto.1.1.1.1.1.0

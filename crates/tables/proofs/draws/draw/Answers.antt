@@ -12,37 +12,34 @@ use Rattle.tables.proofs.draws.draw.Goals.{In-loop-j, Start}
 first : (c : Start) → get_or c.args.path.now 0 0 < length c.args.capacities.now
 first c = c.requires.1 0 c.requires.0
 
-abbrev entry : In-loop-j → Start
-entry c = c.before.before.before.before
-
-place : (c : In-loop-j) → get_or (entry c).args.path.now c.before.loop-j.j 0 < length (entry c).args.capacities.now
-place c = (entry c).requires.1 c.before.loop-j.j (omega arith)
+place : (c : In-loop-j) → get_or c.args.path.now c.loop-j.j 0 < length c.args.capacities.now
+place c = c.requires.1 c.loop-j.j (omega arith)
 
 pub offset_bounds-capacities-first : goal.offset_bounds-capacities-first
-offset_bounds-capacities-first c = omega (arith, first c.before)
+offset_bounds-capacities-first c = omega (arith, first (goal.at.offset_bounds-capacities-first c).Start)
 
 pub bounds-capacities-first : goal.bounds-capacities-first
-bounds-capacities-first c = omega (arith, first c.before.before)
+bounds-capacities-first c = omega (arith, first (goal.at.bounds-capacities-first c).Start)
 
 pub loop-j-init : goal.loop-j-init
 loop-j-init c = lower-first _ _ (omega arith)
 
 pub offset_bounds-capacities-e : goal.offset_bounds-capacities-e
-offset_bounds-capacities-e c = omega (arith, place c.before)
+offset_bounds-capacities-e c = omega (arith, place (goal.at.offset_bounds-capacities-e c).In-loop-j)
 
 pub bounds-capacities-e : goal.bounds-capacities-e
-bounds-capacities-e c = omega (arith, place c.before.before)
+bounds-capacities-e c = omega (arith, place (goal.at.bounds-capacities-e c).In-loop-j)
 
 pub offset_bounds-capacities-e-then-capacities-e : goal.offset_bounds-capacities-e-then-capacities-e
-offset_bounds-capacities-e-then-capacities-e c = omega (arith, place c.before.before.before)
+offset_bounds-capacities-e-then-capacities-e c = omega (arith, place (goal.at.offset_bounds-capacities-e-then-capacities-e c).In-loop-j)
 
 pub bounds-capacities-e-then-capacities-e : goal.bounds-capacities-e-then-capacities-e
-bounds-capacities-e-then-capacities-e c = omega (arith, place c.before.before.before.before)
+bounds-capacities-e-then-capacities-e c = omega (arith, place (goal.at.bounds-capacities-e-then-capacities-e c).In-loop-j)
 
 pub loop-j-preserved : goal.loop-j-preserved
 loop-j-preserved c =
-    let turn = c.before.before.before.before.loop-j in
+    let turn = c.loop-j in
     ⊎_elim (λ w. lower-more _ turn.invariant (omega arith) (omega arith)) (λ w. lower-more _ turn.invariant (omega arith) (omega arith)) c.if-capacities-e.branch
 
 pub returns : goal.returns
-returns c = lower-all c.before.loop-j.invariant (omega arith)
+returns c = lower-all c.loop-j.invariant (omega arith)

@@ -12,71 +12,64 @@ use Rattle.packed.specs.Packed.{net_in, sources_from, net_numbers}
 use Rattle.packed.proofs.Columns.{part_at, arcs-is, commodities-is}
 use Rattle.tables.proofs.Pushed.{Underway, push-none, push-more, push-all}
 use Rattle.tables.proofs.draws.push.Goals as goal
-use Rattle.tables.proofs.draws.push.Goals.{At-loop-j, In-loop-j, Start}
-
--- from the loop back to the function's entry
-abbrev entry : At-loop-j → Start
-entry c = c.before.before.before.before.before
+use Rattle.tables.proofs.draws.push.Goals.{In-loop-j, Start}
 
 -- the place of the arc whose turn it is
 abbrev arc : (c : In-loop-j) → ℕ
-arc c = get_or (entry c.before).args.path.now c.before.loop-j.j 0
+arc c = get_or c.args.path.now c.loop-j.j 0
 
-place : (c : In-loop-j) → let s = entry c.before in
-    (arc c < s.args.s.arcs) × (s.args.commodity * s.args.s.arcs + arc c < length s.args.flow.now)
+place : (c : In-loop-j) → (arc c < c.args.s.arcs) × (c.args.commodity * c.args.s.arcs + arc c < length c.args.flow.now)
 place c =
-    let s = entry c.before in
-    let here = s.requires.pushing.places c.before.loop-j.j c.loop-j-test.true in
-    (omega (arith, here, arcs-is s.requires.packed), omega (arith, here, s.requires.pushing.row, ap (λ m. s.args.commodity * m) (arcs-is s.requires.packed), arcs-is s.requires.packed))
+    let (goal.at.In-loop-j c).Start = (goal.at.In-loop-j c).Start in
+    let here = c.requires.pushing.places c.loop-j.j c.loop-j-test.true in
+    (omega (arith, here, arcs-is c.requires.packed), omega (arith, here, c.requires.pushing.row, ap (λ m. c.args.commodity * m) (arcs-is c.requires.packed), arcs-is c.requires.packed))
 
 pub loop-j-init : goal.loop-j-init
 loop-j-init c = push-none _ _ _ _ _ _
 
 pub overflow_mul-base : goal.overflow_mul-base
 overflow_mul-base c =
-    let s = c.before.before.before in
-    omega (arith, s.requires.pushing.row, s.requires.pushing.long, ap (λ m. s.args.commodity * m) (arcs-is s.requires.packed))
+    omega (arith, c.requires.pushing.row, c.requires.pushing.long, ap (λ m. c.args.commodity * m) (arcs-is c.requires.packed))
 
 pub cross-v-requires : goal.cross-v-requires
 cross-v-requires c =
-    let i = c.before.before in let s = entry i.before in let U = i.before.loop-j.invariant in
-    let at = place i in
-    let few : i.before.loop-j.j ≤ most_nodes = omega (arith, i.loop-j-test.true, s.requires.pushing.few) in
+    let U = c.loop-j.invariant in
+    let at = place (goal.at.cross-v-requires c).In-loop-j in
+    let few : c.loop-j.j ≤ most_nodes = omega (arith, c.loop-j-test.true, c.requires.pushing.few) in
     record {
-      packed = s.requires.packed;
+      packed = c.requires.packed;
       arc = at.0;
       place = omega (arith, at.1, U.long);
       amount =
           omega (
             arith,
             U.sizes _ at.1,
-            s.requires.pushing.amounts _ at.1,
-            mul-le-mul few s.requires.pushing.small,
-            s.requires.pushing.small,
+            c.requires.pushing.amounts _ at.1,
+            mul-le-mul few c.requires.pushing.small,
+            c.requires.pushing.small,
           );
     }
 
 pub loop-j-preserved : goal.loop-j-preserved
 loop-j-preserved c =
-    let d = c.before in
-    push-more _ _ _ d.before.before.before.before.loop-j.invariant d.before.before.before.loop-j-test.true d.cross-v.ensures.0 d.cross-v.ensures.1
+    push-more _ _ _ c.loop-j.invariant c.loop-j-test.true c.cross-v.ensures.0 c.cross-v.ensures.1
 
 pub returns : goal.returns
 unfolding net_in
 returns c =
-    let s = entry c.before in let a = s.args in
-    push-all c.before.loop-j.invariant c.loop-j-test.false (ap (λ m. a.commodity * m) (sym (arcs-is s.requires.packed)))
-    (sym (part_at sources_from a.s.commodities a.net.now a.commodity (omega (arith, s.requires.pushing.listed, commodities-is s.requires.packed))))
+    let a = c.args in
+    push-all c.loop-j.invariant c.loop-j-test.false (ap (λ m. a.commodity * m) (sym (arcs-is c.requires.packed)))
+    (sym (part_at sources_from a.s.commodities a.net.now a.commodity (omega (arith, c.requires.pushing.listed, commodities-is c.requires.packed))))
 
 -- the commodity's place in its column
 listed : (s : Start) → (s.args.commodity < most_commodities) × (net_numbers ≤ length s.args.net.now)
 listed s = (omega (arith, s.requires.pushing.listed, commodities-is s.requires.packed, s.requires.packed.few-commodities), s.requires.packed.places)
 
 pub overflow_add-v : goal.overflow_add-v
-overflow_add-v c = omega (arith, listed c.before.before.before)
+overflow_add-v c = omega (arith, listed (goal.at.overflow_add-v c).Start)
 
 pub offset_bounds-net-commodity : goal.offset_bounds-net-commodity
-offset_bounds-net-commodity c = omega (arith, listed c.before.before.before)
+offset_bounds-net-commodity c = omega (arith, listed (goal.at.offset_bounds-net-commodity c).Start)
 
 pub bounds-net-commodity : goal.bounds-net-commodity
-bounds-net-commodity c = omega (arith, listed c.before.before.before.before)
+bounds-net-commodity c = omega (arith, listed (goal.at.bounds-net-commodity c).Start)

@@ -11,7 +11,7 @@ pub loop-e-init : goal.loop-e-init
 loop-e-init c = fill_none _ _
 
 pub loop-e-preserved : goal.loop-e-preserved
-loop-e-preserved c = fill_more _ c.before.before.loop-e.invariant (omega arith) refl
+loop-e-preserved c = fill_more _ c.loop-e.invariant (omega arith) refl
 
 pub returns : goal.returns
-returns c = fill-all _ c.before.loop-e.invariant (omega arith) (omega arith) (λ j l. refl)
+returns c = fill-all _ c.loop-e.invariant (omega arith) (omega arith) (λ j l. refl)

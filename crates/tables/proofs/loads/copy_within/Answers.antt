@@ -6,11 +6,10 @@ use Rattle.tables.proofs.loads.copy_within.Goals as goal
 
 pub loop-e-preserved : goal.loop-e-preserved
 loop-e-preserved c =
-    let s = c.before.before.before in
-    copying-more s.requires.0 s.requires.1 c.before.before.loop-e.invariant (omega arith)
+    copying-more c.requires.0 c.requires.1 c.loop-e.invariant (omega arith)
 
 pub returns : goal.returns
-returns c = let s = c.before.before in copying-all s.requires.0 s.requires.1 c.before.loop-e.invariant (omega arith)
+returns c = copying-all c.requires.0 c.requires.1 c.loop-e.invariant (omega arith)
 
 pub loop-e-init : goal.loop-e-init
 loop-e-init c = copying-none _ _ _ _

@@ -11,31 +11,31 @@ use Rattle.tables.proofs.loads.fullest.Goals.{In-loop-e}
 
 -- the load of arc i times the capacity of arc j
 abbrev product : In-loop-e → ℕ → ℕ → ℕ
-product c i j = get_or c.before.before.args.loads.now i 0 * get_or c.before.before.args.capacities.now j 0
+product c i j = get_or c.args.loads.now i 0 * get_or c.args.capacities.now j 0
 
 -- the two products that are compared
 small : (c : In-loop-e) →
-    let b = c.before.loop-e.b in
-    let e = c.before.loop-e.e in
+    let b = c.loop-e.b in
+    let e = c.loop-e.e in
     (product c b e ≤ 2 ^ 32 * 1000) × (product c e b ≤ 2 ^ 32 * 1000)
 small c =
-    let p = c.before.before.requires in
+    let p = c.requires in
     (mul-le-mul (le_of_lt (p.amounts _ (omega arith))) (p.sizes _ (omega arith)), mul-le-mul (le_of_lt (p.amounts _ (omega arith))) (p.sizes _ (omega arith)))
 
 pub loop-e-init : goal.loop-e-init
 loop-e-init c = rank-first _ _ _ (omega arith)
 
 pub overflow_mul-loads : goal.overflow_mul-loads
-overflow_mul-loads c = omega (arith, small c.before.before)
+overflow_mul-loads c = omega (arith, small (goal.at.overflow_mul-loads c).In-loop-e)
 
 pub overflow_mul-loads-in-loop-e : goal.overflow_mul-loads-in-loop-e
-overflow_mul-loads-in-loop-e c = omega (arith, small c.before.before.before.before)
+overflow_mul-loads-in-loop-e c = omega (arith, small (goal.at.overflow_mul-loads-in-loop-e c).In-loop-e)
 
 pub loop-e-preserved : goal.loop-e-preserved
 loop-e-preserved c =
-    let turn = c.before.before.before.before.before.before.loop-e in
+    let turn = c.loop-e in
     ⊎_elim (λ w. rw w.1 (rank-fuller turn.invariant (omega arith) w.0.taken))
     (λ w. rw w.1 (rank-other turn.invariant (omega arith) w.0.left)) c.if-loads-b.branch
 
 pub returns : goal.returns
-returns c = (rank-all c.before.loop-e.invariant (omega arith), omega arith)
+returns c = (rank-all c.loop-e.invariant (omega arith), omega arith)
