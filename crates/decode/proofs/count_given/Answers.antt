@@ -12,7 +12,7 @@ use Rattle.network.proofs.Given.{given-most, given-zero, given-one}
 use Rattle.numbers.specs.Numbers.{number_at, column}
 use Rattle.numbers.proofs.Columns.{get_or-column}
 use Rattle.decode.proofs.count_given.Goals as goal
-use Rattle.decode.proofs.count_given.Goals.{At-loop-i, Joined-read-ne0}
+use Rattle.decode.proofs.count_given.Goals.{Joined-read-ne0}
 
 pub loop-i-init : goal.loop-i-init
 unfolding given
@@ -26,7 +26,6 @@ overflow_add-r c =
 present : (c : Joined-read-ne0) →
     get_or (column c.args.limits.now 1 0 c.args.c) c.loop-i.i 0 ≡ c.read.result
 present c =
-    let (goal.at.Joined-read-ne0 c).At-loop-i = (goal.at.Joined-read-ne0 c).At-loop-i in
     let e : 1 * c.loop-i.i + 0 ≡ c.loop-i.i = omega arith in
     let bytes = c.args.limits.now in
     get_or-column bytes 1 0 c.args.c c.loop-i.i (omega arith) ∙ (ap (number_at bytes) e ∙ sym c.read.ensures)

@@ -28,7 +28,6 @@ read c = c.limit-x.ensures
 -- and if it is limited there is a place for it
 place : (c : Then-x-ne0) → c.loop-v.end < length c.loop-v.table
 place c =
-    let (goal.at.Then-x-ne0 c).In-loop-v = (goal.at.Then-x-ne0 c).In-loop-v in
     gathering-place c.loop-v.invariant (node (goal.at.Then-x-ne0 c).In-loop-v) (λ z. c.if-x-ne0.true (read (goal.at.Then-x-ne0 c).After-limit-x ∙ z))
 
 pub loop-v-init : goal.loop-v-init

@@ -74,7 +74,6 @@ waits : (c : Joined-at-n) → let s = c.args in
     Waits (net_in s.s s.net.now).nodes c.loop-size.page c.loop-size.listed c.if-at-n.at
 unfolding net_in
 waits c =
-    let (goal.at.Joined-at-n c).In-loop-size = (goal.at.Joined-at-n c).In-loop-size in
     let S = c.loop-size.invariant.searching in
     ⊎_elim
     (λ w. at_place w.6 (ordered-waits S.ordered S.worklist (omega (arith, c.loop-size-test.true)) w.4.ensures))

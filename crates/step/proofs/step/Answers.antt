@@ -45,7 +45,6 @@ K c = cond c.less_product-better.result (L (goal.at.After-keep c).Start) (part k
 
 kept : (c : After-keep) → Tabled (m (goal.at.After-keep c).Start) c.keep.new.1.1.0 (L (goal.at.After-keep c).Start) (Y (goal.at.After-keep c).Start) (K c)
 kept c =
-    let (goal.at.After-keep c).Start = (goal.at.After-keep c).Start in
     with-keeping (tabled (m (goal.at.After-keep c).Start) c.args.tables.now c.requires.few c.requires.places) c.less_product-better.result c.keep.ensures
 
 -- The slices of the capacities and of the path hold what the definitions say, so that the draw is the method's.

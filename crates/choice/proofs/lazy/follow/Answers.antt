@@ -70,7 +70,6 @@ own s =
 -- what is told is the length by the page, and the bound is read
 tells : (c : After-told) → c.told.result ≡ length_by (net (goal.at.After-told c).Start) c.args.lengths.now (dist (goal.at.After-told c).Start) c.args.i
 tells c =
-    let (goal.at.After-told c).Start = (goal.at.After-told c).Start in
     let told : c.told.result ≡ told_by (through (out (goal.at.After-told c).Start) c.args.lengths.now) (dist (goal.at.After-told c).Start) (source (net (goal.at.After-told c).Start) c.args.i) (sink (net (goal.at.After-told c).Start) c.args.i) =
     rw (← from (goal.at.After-told c).Start, ← to (goal.at.After-told c).Start) c.told.ensures in
     omega (arith, told, own (goal.at.After-told c).Start, (page (goal.at.After-told c).Start).feasible.sink)

@@ -100,7 +100,6 @@ shape_of-memory c = length-set (memory-at (goal.at.shape_of-memory c).After-look
 -- the walk has arrived, or the sink is the one searched
 ended : (c : Joined-then-arcs-gt0) → (1 ≤ c.follow-arcs.result) ⊎ (sink (net (goal.at.Joined-then-arcs-gt0 c).Start) c.look-i.result ≡ sink (net (goal.at.Joined-then-arcs-gt0 c).Start) c.loop-s.i)
 ended c =
-    let (goal.at.Joined-then-arcs-gt0 c).After-look-i = (goal.at.Joined-then-arcs-gt0 c).After-look-i in
     ⊎_elim
     (λ w. inl (omega (arith, w.taken)))
     (λ w. inr (sym (to (goal.at.Joined-then-arcs-gt0 c).Start (chosen (goal.at.Joined-then-arcs-gt0 c).After-look-i)) ∙ (eqb-true _ _ w.2.taken ∙ to (goal.at.Joined-then-arcs-gt0 c).Start (among (goal.at.Joined-then-arcs-gt0 c).At-loop-s))))

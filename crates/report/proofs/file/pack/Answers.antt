@@ -78,7 +78,6 @@ bounds-net-800 c =
 -- before the marks: the slice is as long as at first
 room : (f : After-copy-3) → (m (goal.at.After-copy-3 f).Start ≤ most_arcs) × (net_numbers ≤ length (set (set (arced f) 768 f.args.file.source) 800 f.args.file.sink))
 room f =
-    let (goal.at.After-copy-3 f).After-copy-2 = (goal.at.After-copy-3 f).After-copy-2 in let (goal.at.After-copy-3 f).Start = (goal.at.After-copy-3 f).Start in
     let e = filled-length (shape_of f.args.file) f.requires.few f.args.net.now f.requires.places f.copy.ensures f.copy-2.ensures
     f.copy-3.ensures f.args.file.source f.args.file.sink (tails-many (goal.at.After-copy-3 f).Start) (heads-many (goal.at.After-copy-3 f).Start) (capacities-many (goal.at.After-copy-3 f).Start) in
     (f.requires.few, omega (arith, e, f.requires.places))

@@ -28,7 +28,6 @@ through-x-requires c =
 -- the length of v is read by the index; it is small, and so is v's entry
 own : (c : After-through-x) → c.through-x.result ≡ node_length (net_in c.args.s c.args.net.now) c.args.lengths.now c.args.v
 own c =
-    let (goal.at.After-through-x c).Start = (goal.at.After-through-x c).Start in
     c.through-x.ensures ∙
     through-is (net_in c.args.s c.args.net.now) c.args.lengths.now c.args.into.now c.requires.index.places c.requires.searching.fit.lengths c.args.v c.requires.node
 

@@ -10,15 +10,15 @@ use Rattle.site.specs.Parts.{begins, numbers_in}
 use Rattle.site.specs.declared.parts.Span.{Span}
 use Rattle.site.proofs.Begins.{begins-most}
 use Rattle.site.proofs.parts.part_of.Goals as goal
-use Rattle.site.proofs.parts.part_of.Goals.{After-begins-from, After-fit-size, Start}
+use Rattle.site.proofs.parts.part_of.Goals.{After-begins-from, After-fit-size}
 
 -- the part's size is in the list
 place : (c : After-begins-from) → floor_numbers * c.args.i + c.args.j < count c.args.floors.now
-place c = let (goal.at.After-begins-from c).Start = (goal.at.After-begins-from c).Start in member_below c.args.floors.now floor_numbers c.args.j c.args.i c.requires.0 c.requires.1
+place c = member_below c.args.floors.now floor_numbers c.args.j c.args.i c.requires.0 c.requires.1
 
 -- where it begins, and how many numbers it has
 from_is : (c : After-begins-from) → c.begins-from.result ≡ begins c.args.floors.now c.args.j (count c.args.s.now) c.args.i
-from_is c = let (goal.at.After-begins-from c).Start = (goal.at.After-begins-from c).Start in c.begins-from.ensures ∙ ap (λ n. begins c.args.floors.now c.args.j n c.args.i) c.count-room.ensures
+from_is c = c.begins-from.ensures ∙ ap (λ n. begins c.args.floors.now c.args.j n c.args.i) c.count-room.ensures
 
 within : (c : After-begins-from) → c.begins-from.result ≤ c.count-room.result
 within c =

@@ -76,7 +76,7 @@ loaded c =
 
 -- The part of the slice of indexes that is lent has the capacities of the resources.
 caps-are : (c : After-run-p) → part resource_capacities_from c.args.s.resources c.args.indexes.now ≡ resource_capacities (net (goal.at.After-run-p c).Start)
-caps-are c = let (goal.at.After-run-p c).Start = (goal.at.After-run-p c).Start in ap (λ n. part resource_capacities_from n c.args.indexes.now) c.requires.room.lent.counted ∙ c.requires.room.indexed.capacities
+caps-are c = ap (λ n. part resource_capacities_from n c.args.indexes.now) c.requires.room.lent.counted ∙ c.requires.room.indexed.capacities
 
 -- The end of that part is within the slice.
 pub overflow_add-m-2 : goal.overflow_add-m-2

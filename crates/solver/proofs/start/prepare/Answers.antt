@@ -44,7 +44,6 @@ start-weight-requires c =
 started : (c : After-start-weight) → let T = c.args.tables.now in
     Tabled (m (goal.at.After-start-weight c).Start) (put lengths_from (m (goal.at.After-start-weight c).Start) T c.start-weight.new.1.0) c.start-weight.new.1.0 (part loads_from (m (goal.at.After-start-weight c).Start) T) (part kept_from (m (goal.at.After-start-weight c).Start) T)
 started c =
-    let (goal.at.After-start-weight c).Start = (goal.at.After-start-weight c).Start in
     with-lengths (tabled (m (goal.at.After-start-weight c).Start) c.args.tables.now (few (goal.at.After-start-weight c).Start) c.requires.tabled) c.start-weight.new.1.0 c.start-weight.auto.1.0
 
 unloaded : (c : After-clear) → let T = c.args.tables.now in

@@ -20,7 +20,6 @@ arc c = get_or c.args.path.now c.loop-j.j 0
 
 place : (c : In-loop-j) → (arc c < c.args.s.arcs) × (c.args.commodity * c.args.s.arcs + arc c < length c.args.flow.now)
 place c =
-    let (goal.at.In-loop-j c).Start = (goal.at.In-loop-j c).Start in
     let here = c.requires.pushing.places c.loop-j.j c.loop-j-test.true in
     (omega (arith, here, arcs-is c.requires.packed), omega (arith, here, c.requires.pushing.row, ap (λ m. c.args.commodity * m) (arcs-is c.requires.packed), arcs-is c.requires.packed))
 
