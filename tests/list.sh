@@ -110,32 +110,42 @@ if [ $? -ne 2 ] || [ -s "$work/out" ] || [ "$(tail -n 1 "$work/err")" != "list: 
     fault "without a scratch folder: $(cat "$work/err")"
 fi
 
-# A tree of four crates, of which the program rests on three. The stand-in makes, as rt does where a source has changed, a program; that writes
-# the file rows.
+# A tree of four crates, of which the program rests on three. The stand-in makes, as rt does where a source or the file itself has changed, a
+# program, which it runs, or an archive; that program writes the file rows.
 tree="$work/a tree"
 mkdir -p "$tree/crates/"{ground,middle,listing,other}/{src,must-fail} "$work/stand_in"
 cp list build "$tree"
 touch "$tree/crates/"{ground,middle,other}/src/lib.rt "$tree/crates/listing/src/main.rt"
-printf '%s\n' '# NAME: DEP' 'ground:' 'middle: ground' 'other: middle' 'listing: middle io' >"$tree/crates.txt"
+printf '%s\n' '# NAME: DEP' 'ground:' 'middle: ground' 'other staticlib: middle' 'listing: middle io' >"$tree/crates.txt"
 printf '#!/bin/sh\ncat rows\n' >"$work/program"
 chmod +x "$work/program"
 cat >"$work/stand_in/rt" <<'END'
 #!/bin/sh
-echo "$*" >>asked
-mkdir -p target/bin target/staticlib target/stamp && touch target/stamp/listing
-echo "rt: ground proved (unchanged since it was last proved)"
-if [ -e unproved ]; then echo "rt: middle NOT PROVED (exit 1, 2 s)" && exit 1; fi
-echo "fn middle::f: proved"
+name=${PWD##*/}
+echo "$name: $*" >>../../asked
+proved() { printf '%s\n' "fn $1::f: proved" "crate $1: modules loaded=0 checked=1" "logic=proved functions=1"; }
+mkdir -p out
 case $1 in
-check)
-    printf '%s\n' "rt: middle proved (2 s)" "rt: listing proved (1 s)"
-    sources=$(cat crates.txt crates/*/src/* | cksum)
-    [ "$sources" = "$(cat target/stamp/listing)" ] || cp ../program target/bin/listing
-    echo "$sources" >target/stamp/listing
+run)
+    if [ -e ../../unproved ]; then
+        printf '%s\n' "fn middle::f: no proof" "crate middle: modules loaded=0 checked=1" "logic=not-proved" >&2
+        echo "rt: the library middle did not build, so nothing above it was checked" >&2
+        exit 1
+    fi
+    sources=$(cd ../.. && cksum crates.txt crates/*/src/*)
+    if [ "$sources" = "$(cat out/listing.stamp 2>&1)" ] && cmp -s ../../../program out/listing; then
+        echo "rt: nothing has changed since the last proved build, by out/listing.stamp, so nothing is checked now" >&2
+    else
+        { proved middle && proved listing; } >&2
+        cp ../../../program out/listing
+        echo "$sources" >out/listing.stamp
+    fi
+    echo "rt: running out/listing; to give it other input, run that file yourself" >&2
+    out/listing
     ;;
-staticlib)
-    echo archive >"target/staticlib/lib$2.a"
-    echo "rt: target/staticlib/lib$2.a has the functions of $2"
+lib)
+    proved "$name"
+    echo archive >"out/lib$name.a"
     ;;
 esac
 END
@@ -144,17 +154,23 @@ cd "$tree" || exit 2
 with=(env PATH="$work/stand_in:$work/tools:$PATH") without=(env PATH="$work/tools")
 : >rows
 needs_rt='has to be built, and rt, the command of the Rattle kit, is not on the PATH'
-building='every function is proved first, which takes three to five minutes from nothing'
+building='every function is proved first, which takes long where none is proved yet'
+as_it_was='(unchanged since it was last proved)'
 expect 2 $none "build: target/bin/listing $needs_rt" "${without[@]}" ./list rows
-expect 2 $none "build: target/staticlib/libmiddle.a $needs_rt" "${without[@]}" ./build middle
+expect 2 $none "build: target/staticlib/libother.a $needs_rt" "${without[@]}" ./build other
 progress="build: building target/bin/listing; $building
-build: 1 of 3: ground proved (unchanged since it was last proved)
-build: 2 of 3: middle proved (2 s)
-build: 3 of 3: listing proved (1 s)"
+build: 1 of 3: ground proved $as_it_was
+build: 2 of 3: middle proved
+build: 3 of 3: listing proved"
 expect 0 $none "$progress" "${with[@]}" ./list rows
-expect 0 $none "build: building target/staticlib/libmiddle.a; $building
-build: 1 of 2: ground proved (unchanged since it was last proved)
-build: 2 of 2: middle proved" "${with[@]}" ./build middle
+expect 0 $none "build: building target/staticlib/libother.a; $building
+build: 1 of 3: ground proved $as_it_was
+build: 2 of 3: middle proved $as_it_was
+build: 3 of 3: other proved" "${with[@]}" ./build other
+cmp -s crates/other/out/libother.a target/staticlib/libother.a || fault "target/staticlib/libother.a is not what rt made"
+[ "$(tail -n 2 asked)" = "listing: run
+other: lib" ] || fault "rt was asked otherwise: $(cat asked)"
+expect 2 $none "build: crates.txt lists middle as a library for other crates, of which alone nothing is built" "${with[@]}" ./build middle
 expect 2 $none "usage: ./build NAME, a crate of crates.txt, such as listing or vithmork" "${with[@]}" ./build absent
 
 # Only what goes into the program has it built anew, and by its content.
@@ -165,8 +181,9 @@ unchanged() {
     expect 0 $none "" "${with[@]}" ./list rows
     [ "$(asked)" -eq "$before" ] || fault "built anew though $1"
 }
+# changed WHY SAID: built anew, with this said if it is not that two crates were proved
 changed() {
-    expect 0 $none "$progress" "${with[@]}" ./list rows
+    expect 0 $none "${2-$progress}" "${with[@]}" ./list rows
     cmp -s target/bin/listing ../program || fault "not built anew though $1"
     unchanged "nothing has changed since $1"
 }
@@ -178,14 +195,20 @@ echo "// ground" >crates/ground/src/lib.rt && changed "a file changed"
 touch -d 2001-01-01 crates/ground/src/older.rt && changed "an old file came in"
 rm crates/ground/src/older.rt && changed "a file went"
 echo "# new" >>crates.txt && changed "the list of crates changed"
-echo "# of other sources" >>target/bin/listing && changed "the program became another"
-rm target/bin/listing && changed "the program went"
-rm -r target/built target/bin/listing && changed "a program went that rt alone had built"
+copied="build: building target/bin/listing; $building
+build: 1 of 3: ground proved $as_it_was
+build: 2 of 3: middle proved $as_it_was
+build: 3 of 3: listing proved $as_it_was"
+echo "# of other sources" >>target/bin/listing && changed "the program became another" "$copied"
+rm target/bin/listing && changed "the program went" "$copied"
+rm -r target/built target/bin/listing && changed "a program went that rt alone had built" "$copied"
+echo "# of other sources" >>crates/listing/out/listing && unchanged "only what rt made is another"
+rm target/bin/listing && changed "the program went, and what rt made is another"
 touch unproved && echo "// middle" >crates/middle/src/lib.rt
 expect 2 $none "build: building target/bin/listing; $building
-build: 1 of 3: ground proved (unchanged since it was last proved)
-rt: ground proved (unchanged since it was last proved)
-rt: middle NOT PROVED (exit 1, 2 s)
+fn middle::f: no proof
+logic=not-proved
+rt: the library middle did not build, so nothing above it was checked
 build: target/bin/listing was not built; target/built/listing.log has all that rt said" "${with[@]}" ./list rows
 rm unproved && changed "a build failed"
 
