@@ -10,30 +10,34 @@ cd "$(dirname "$0")/.."
 
 # lines DIR SUFFIX COMMENT
 lines() { find "$1" -name "*.$2" -exec cat {} + 2>/dev/null | grep -cv -e '^[[:space:]]*$' -e "^[[:space:]]*$3" || true; }
-# seconds WORD: the sum of the times of the log's lines that begin with it
-seconds() { sed -n "s|^rt: $1.*[( ]\([0-9][0-9]*\) s).*|\1|p" "$log" | awk '{ s += $1 } END { print s + 0 }'; }
+# refused CRATE: how many of its edits the log says were refused
+refused() { grep -c "^rt: must-fail $1/.*: refused, as it must be" "$log" || true; }
+# proved CRATE: after how many seconds of the gate it was proved, or that an earlier run's proof was kept
+proved() {
+    if grep -q "^rt: $1 is kept: " "$log"; then echo kept; else sed -n "s|^gate: $1 was proved after \([0-9][0-9]*\) s\$|\1|p" "$log"; fi
+}
 # took WORDS: what the gate says of its time in these words
 took() { sed -n "s|^gate: \([0-9][0-9]*\) s $1\$|\1|p" "$log"; }
 grouped() { sed -E ':a; s/([0-9])([0-9]{3})($|,)/\1,\2\3/; ta'; }
 
 crates() {
-    echo "| crate | code | definitions | proofs | must-fail edits | proof, s | edits, s |"
+    echo "| crate | code | definitions | proofs | must-fail edits | refused | proved after, s |"
     echo "|---|---|---|---|---|---|---|"
-    local crate edits row i total=(0 0 0 0 0 0)
-    for crate in $(sed -n 's/^\([a-z_]*\):.*/\1/p' crates.txt); do
+    local crate edits row i total=(0 0 0 0 0)
+    for crate in $(sed -nE 's/^([a-z_]+)( staticlib)?:.*/\1/p' crates.txt); do
         edits=$(find "crates/$crate/must-fail" -name '*.edit' 2>/dev/null | wc -l)
         row=("$(lines "crates/$crate/src" rt //)" "$(lines "crates/$crate/specs" antt --)" "$(lines "crates/$crate/proofs" antt --)"
-            "$edits" "$(seconds "$crate proved")" "$(seconds "must-fail $crate/")")
+            "$edits" "$(refused "$crate")")
         printf '| `%s`' "$crate"
-        for i in 0 1 2 3 4 5; do
+        for i in "${!total[@]}"; do
             printf ' | %s' "${row[$i]}"
             total[i]=$((total[i] + row[i]))
         done
-        echo ' |'
+        echo " | $(proved "$crate") |"
     done
     printf '| in all'
     printf ' | %s' "${total[@]}"
-    echo ' |'
+    echo ' | |'
 }
 
 # a row for each script of tests/, with the last line that it printed, if any
@@ -49,9 +53,10 @@ tests() {
 cat <<END
 # Status
 
-Made by \`bash docs/figures.sh --gate LOG\` from the log of one whole gate, \`bash .ci/run\` in a fresh clone on a machine with two processors and nothing else running:
+Made by \`bash docs/figures.sh --gate LOG\` from the log of one whole gate, \`bash .ci/run\` in a fresh clone on a machine with $(sed -n 's/^gate: \([0-9]*\) processors here$/\1/p' "$log") processors:
 $(tail -n 1 "$log"), $(took "in all" | grouped) s in all, $(took "of processor time" | grouped) s of processor time. Lines are counted without comments and blank ones, imports included; of \`length\`'s code 3,328 are the table.
-Times are those that \`rt\` prints, with two checks at a time. What a request moved of them is in its note, [changes/](changes).
+\`rt ci\` proves crates and tries their edits side by side. So the last column has the seconds of the gate after which a crate was proved, or \`kept\` where an earlier
+run on the same machine had proved the same files. What a request moved of the times, by an older kit that told those of each crate, is in its note, [changes/](changes).
 
 $(crates)
 

@@ -1,6 +1,6 @@
 #!/usr/bin/env bash
 # The gate itself and docs/status.sh, on a tree of next to nothing with a stand-in for rt: the note about another kit, the counts and the
-# status, and what status.sh asks for.
+# status, bad edits, and what status.sh asks for.
 set -u
 cd "$(dirname "$0")/.." || exit 2
 work=$(mktemp -d) || exit 2
@@ -15,9 +15,22 @@ cat >"$work/bin/rt" <<'END'
 #!/bin/sh
 case $1 in
 version) [ -n "$KIT" ] && echo "$KIT" ;;
-ci) echo "3 passed, 0 failed" ;;
+ci)
+    [ $# -eq 1 ] || exit 2
+    cat said
+    exit "$(cat ended)"
+    ;;
 esac
 END
+# says STATUS LINE..: rt ci prints these and ends so
+says() {
+    echo "$1" >"$work/ended"
+    shift
+    printf '%s\n' "$@" >"$work/said"
+}
+ok="rt: ok; handles allowed: none; must-fail edits"
+all="every proof and must-fail edit was done in this run"
+says 0 "rt: arith proved" "$ok: 2 refused; $all" "3 passed, 0 failed"
 chmod +x "$work/bin/rt"
 echo 'echo said' >"$work/tests/good.sh"
 echo 'exit 77' >"$work/tests/lacking.sh"
@@ -39,6 +52,32 @@ gate 0 "4 passed, 0 failed" "rattle-kit-0 logic 0"
 [ "$note" = "gate: note: README names the kit $kit; the one here is rattle-kit-0 logic 0" ] || fault "with another kit it says '$note'"
 gate 0 "4 passed, 0 failed" ""
 [ "$note" = "gate: note: README names the kit $kit; the one here is none" ] || fault "with a kit that has no name it says '$note'"
+grep -qxE 'gate: arith was proved after [0-9]+ s' "$work/log" || fault "a proved crate has no time"
+
+# Bad edits, which rt ci passes, and what it prints where it fails or its words are others.
+share="done in this run: 1 of the 3 proofs (of crates and of their tests); the others are kept from earlier runs of the same files on this machine"
+for edits in "2 refused, 1 of them only by a limit" "2 refused"; do
+    says 0 "$ok: $edits; $share" "3 passed, 0 failed"
+    gate 0 "4 passed, 0 failed" "$kit"
+    says 0 "$ok: $edits, 2 bad; $share" "3 passed, 0 failed"
+    gate 1 "4 passed, 2 failed" "$kit"
+    grep -q '^gate: 2 must-fail edits are bad' "$work/log" || fault "bad edits are not told of"
+done
+says 0 "rt: ok; handles allowed: none; $all" "3 passed, 0 failed (1 bad egg)"
+gate 0 "4 passed, 0 failed" "$kit"
+says 0 "3 passed, 0 failed"
+gate 1 "4 passed, 1 failed" "$kit"
+says 1 "rt: FAILED: arith" "2 passed, 1 failed"
+gate 1 "3 passed, 1 failed" "$kit"
+says 2 "rt: crates.txt lists no crate: there is nothing to prove" "0 passed, 1 failed"
+gate 1 "1 passed, 1 failed" "$kit"
+says 1 "$ok: 2 refused; $all" "3 passed, 0 failed"
+gate 1 "4 passed, 1 failed" "$kit"
+says 0 "$ok: 2 refused; $all" "all passed"
+gate 1 "1 passed, 1 failed" "$kit"
+
+says 0 "rt: arith proved" "rt: bounds is kept: an earlier run on this machine proved the same files over the same libraries" \
+    "rt: must-fail arith/one.edit: refused, as it must be" "rt: must-fail arith/two.edit: BAD EDIT: it changes nothing" "$ok: 1 refused; $all" "3 passed, 0 failed"
 echo 'exit 1' >"$work/tests/bad.sh"
 gate 1 "4 passed, 1 failed" "$kit"
 
@@ -50,9 +89,9 @@ for words in "" "absent.log" "README.md README.md"; do
     fi
 done
 gate 1 "4 passed, 1 failed" "$kit"
-sed -i '1i rt: arith proved (7 s)' "$work/log"
+sed -i 's/^gate: arith was proved after .*/gate: arith was proved after 7 s/' "$work/log"
 (cd "$work" && "$OLDPWD/docs/status.sh" log) >"$work/out"
-for row in '^4 passed, 1 failed, [0-9]+ s in all, [0-9]+ s of processor time' '^\| `arith` \| .* \| 7 \| 0 \|$' '^\| `good.sh` \| [0-9]+ \| said \|$' \
+for row in '^4 passed, 1 failed, [0-9]+ s in all, [0-9]+ s of processor time' '^\| `arith` \| .* \| 1 \| 7 \|$' '^\| `bounds` \| .* \| 0 \| kept \|$' '^\| `good.sh` \| [0-9]+ \| said \|$' \
     '^\| `bad.sh` \| [0-9]+ \| FAILED \|$' '^\| `lacking.sh` \|  \| skipped'; do
     grep -qE "$row" "$work/out" || fault "docs/status.sh makes no $row of a log"
 done
