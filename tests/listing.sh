@@ -7,7 +7,7 @@ program=target/bin/listing
 second=target/second/listings
 mkdir -p target/second
 rustc --edition 2021 -O -C overflow-checks=on -o "$second" tests/second/listings.rs
-rt check listing >target/second/listing.log 2>&1 || { tail -n 20 target/second/listing.log; exit 1; }
+./build listing 2>target/second/listing.log || { tail -n 20 target/second/listing.log; exit 1; }
 files=0
 for floor in tests/listing/*.max examples/*.max; do
     if ! "$program" <"$floor" | cmp - "${floor%.max}.csv" || ! "$second" --list <"$floor" | cmp - "${floor%.max}.csv"; then
