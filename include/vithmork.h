@@ -160,7 +160,8 @@ enum {
  * A call cannot be interrupted; it always ends. Of eleven floors of 64 stations,
  * 256 belts and 32 pairs the slowest took 15 ms at q = 4 and 0.3 s at q = 16, on
  * one core of an Intel Xeon, and two to three times that with every belt
- * reversible (docs/SPEED.md of the sources has them all). */
+ * reversible (docs/SPEED.md of the sources has them all). The archive that was
+ * timed so was built by an older kit, rattle-kit-5b-plain. */
 uint64_t vithmork_solve(uint64_t n, uint64_t q, uint64_t office,
                         const uint8_t *belts, size_t belts_len,
                         const uint8_t *pairs, size_t pairs_len,

@@ -10,19 +10,22 @@ cd "$(dirname "$0")/.." || exit 2
 faults=0
 fault() { echo "docs: $*"; faults=$((faults + 1)); }
 
+# the crates as a pattern: what begins with the name of another library is the kit's
+ours=$(sed -nE 's/^([a-z_]+)( staticlib)?:.*/\1/p' crates.txt | paste -sd '|')
+
 # the kit's words that a definition file imports, without the places of their arguments
-kit() { sed -nE '/Rattle·/d; s/^use [A-Za-z.]+\.\{(.*)\}.*/\1/p' "$1" | tr ',' '\n' | sed 's/^ *//; s/^_//; s/_$//'; }
+kit() { sed -nE "/^use Rattle\.($ours)\./d"'; s/^use [A-Za-z.]+\.\{(.*)\}.*/\1/p' "$1" | tr ',' '\n' | sed 's/^ *//; s/◌//g'; }
 
 # definition files that a file uses, but for the types declared in code
-uses() { sed -nE '/\.declared\./d; s/^use Rattle·([a-z_]+)(·specs)?\.(specs|proofs)\.([A-Za-z]+)\..*/\1\/\3\/\4.antt/p' "$1"; }
+uses() { sed -nE '/\.declared\./d; s/^(pub )?use Rattle\.('"$ours"')\.(specs|proofs)\.([A-Za-z]+)\..*/\2\/\3\/\4.antt/p' "$1"; }
 
 # "FILE NAME" for each name in `name` (crate/proofs/File), `name`, `name` and `name` (all crate/proofs/File), and with
 # a comma for the bracket
 mentions() {
     tr '\n' ' ' <"$1" | sed 's/  */ /g' |
-        grep -oE '(`[A-Za-z][A-Za-z-]*`(,| and| \(|;)? ?)+(both |all )?[a-z]+/(specs|proofs)/[A-Za-z]+' |
+        grep -oE '(`[A-Za-z][A-Za-z0-9_-]*`(,| and| \(|;)? ?)+(both |all )?[a-z_]+/(specs|proofs)/[A-Za-z]+' |
         while read -r mention; do
-            for name in $(grep -oE '`[A-Za-z][A-Za-z-]*`' <<<"$mention" | tr -d '`'); do
+            for name in $(grep -oE '`[A-Za-z][A-Za-z0-9_-]*`' <<<"$mention" | tr -d '`'); do
                 echo "crates/${mention##*[ (]}.antt $name"
             done
         done
