@@ -11,6 +11,8 @@ if ! command -v glpsol >/dev/null; then
     exit 77
 fi
 program=target/bin/listing
+mkdir -p target/second
+./build listing 2>target/second/listing.log || { tail -n 20 target/second/listing.log; exit 1; }
 work=$(mktemp -d)
 trap 'rm -rf "$work"' EXIT
 samples=0 held=0
