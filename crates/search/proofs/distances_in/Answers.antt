@@ -32,7 +32,7 @@ begun {net} {l = l} {t = t} old S s q E =
 
 -- the page is as large as it was lent, so the order has room
 whole : (c : At-loop-size) → length c.loop-size.page ≡ length c.args.page.now
-whole c = c.loop-size.invariant.pages ∙ c.reset.auto.1.1.0
+whole c = c.loop-size.invariant.pages ∙ c.reset.auto.dist
 
 room : (c : At-loop-size) → order_from + (net_in c.args.s c.args.net.now).nodes ≤ length c.loop-size.page
 room c = let S = c.requires.seeking in omega (arith, whole c, S.room, S.index.arcs.nodes)
@@ -49,7 +49,7 @@ pub loop-size-init : goal.loop-size-init
 unfolding net_in
 loop-size-init c =
     record {
-      searching = begun c.args.page.now c.requires.seeking c.reset.auto.1.1.0 c.reset.ensures (c.enlist-size.ensures.came refl);
+      searching = begun c.args.page.now c.requires.seeking c.reset.auto.dist c.reset.ensures (c.enlist-size.ensures.came refl);
       pages = refl;
       flags = refl;
     }
@@ -121,10 +121,10 @@ unfolding net_in
 sort-requires c = ordered-arranged c.loop-size.invariant.searching.ordered (room (goal.at.sort-requires c).At-loop-size)
 
 pub shape_of-page-then-rounds-eq-MOST_ROUNDS : goal.shape_of-page-then-rounds-eq-MOST_ROUNDS
-shape_of-page-then-rounds-eq-MOST_ROUNDS c = c.sort.auto.1.0 ∙ whole (goal.at.shape_of-page-then-rounds-eq-MOST_ROUNDS c).At-loop-size
+shape_of-page-then-rounds-eq-MOST_ROUNDS c = c.sort.auto.page ∙ whole (goal.at.shape_of-page-then-rounds-eq-MOST_ROUNDS c).At-loop-size
 
 pub shape_of-listed-then-rounds-eq-MOST_ROUNDS : goal.shape_of-listed-then-rounds-eq-MOST_ROUNDS
-shape_of-listed-then-rounds-eq-MOST_ROUNDS c = c.loop-size.invariant.flags ∙ c.enlist-size.auto.1.1.1.0
+shape_of-listed-then-rounds-eq-MOST_ROUNDS c = c.loop-size.invariant.flags ∙ c.enlist-size.auto.listed
 
 pub returns-then-rounds-eq-MOST_ROUNDS : goal.returns-then-rounds-eq-MOST_ROUNDS
 unfolding net_in
@@ -136,7 +136,7 @@ pub shape_of-page-else-rounds-eq-MOST_ROUNDS : goal.shape_of-page-else-rounds-eq
 shape_of-page-else-rounds-eq-MOST_ROUNDS c = whole (goal.at.shape_of-page-else-rounds-eq-MOST_ROUNDS c).At-loop-size
 
 pub shape_of-listed-else-rounds-eq-MOST_ROUNDS : goal.shape_of-listed-else-rounds-eq-MOST_ROUNDS
-shape_of-listed-else-rounds-eq-MOST_ROUNDS c = c.loop-size.invariant.flags ∙ c.enlist-size.auto.1.1.1.0
+shape_of-listed-else-rounds-eq-MOST_ROUNDS c = c.loop-size.invariant.flags ∙ c.enlist-size.auto.listed
 
 pub returns-else-rounds-eq-MOST_ROUNDS : goal.returns-else-rounds-eq-MOST_ROUNDS
 returns-else-rounds-eq-MOST_ROUNDS c =

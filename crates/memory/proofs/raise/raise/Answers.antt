@@ -91,10 +91,10 @@ raise_at-bound-requires c =
 
 -- the memory behind the raising has as many numbers, and the leader's bound is read in it
 abbrev memory-at : After-raise_at-bound → List ℕ
-memory-at c = c.raise_at-bound.new.1.1.1.1.1.1.0
+memory-at c = c.raise_at-bound.new.memory
 
 numbers : (c : After-raise_at-bound) → length (memory-at c) ≡ length c.args.memory.now
-numbers c = c.raise_at-bound.auto.1.1.1.1.1.1.0 ∙ c.loop-i.invariant.raised.numbers
+numbers c = c.raise_at-bound.auto.memory ∙ c.loop-i.invariant.raised.numbers
 
 read : (c : After-raise_at-bound) → let b = c.loop-i.b in
     get_or (memory-at c) (0 + b) 0 ≡ get_or (bounds_in c.args.s (memory-at c)) b 0

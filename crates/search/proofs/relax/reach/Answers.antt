@@ -61,7 +61,7 @@ way s = omega (arith, s.requires.own)
 
 relaxes : (c : After-relax-nearer) → let n = net_in c.args.s c.args.net.now in let i = c.args.into.now in
     Relaxed c.args.lengths.now (node_length n c.args.lengths.now c.args.v) (end_at i c.args.p) (arc_at i c.args.p) c.args.v c.args.dist.now c.relax-nearer.result
-    c.relax-nearer.new.1.1.0
+    c.relax-nearer.new.dist
 relaxes c = taken-relaxed (way (goal.at.After-relax-nearer c).Start) c.relax-nearer.ensures
 
 pub offset_bounds-lengths-e : goal.offset_bounds-lengths-e
