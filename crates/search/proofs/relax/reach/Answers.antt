@@ -71,10 +71,10 @@ pub bounds-lengths-e : goal.bounds-lengths-e
 bounds-lengths-e c = (crossed (goal.at.bounds-lengths-e c).Start).crossing.arc
 
 pub overflow_mul-way : goal.overflow_mul-way
-overflow_mul-way c = omega (arith, way (goal.at.overflow_mul-way c).Start, (crossed (goal.at.overflow_mul-way c).Start).crossing.ranges)
+overflow_mul-way c = omega (arith, way (goal.at.overflow_mul-way c).Start, (crossed (goal.at.overflow_mul-way c).Start).crossing.fits)
 
 pub overflow_add-way : goal.overflow_add-way
-overflow_add-way c = omega (arith, way (goal.at.overflow_add-way c).Start, (crossed (goal.at.overflow_add-way c).Start).crossing.ranges)
+overflow_add-way c = omega (arith, way (goal.at.overflow_add-way c).Start, (crossed (goal.at.overflow_add-way c).Start).crossing.fits)
 
 pub passed_by-requires : goal.passed_by-requires
 passed_by-requires c = (crossed (goal.at.passed_by-requires c).Start).start
@@ -93,7 +93,10 @@ relax-nearer-requires c = (crossed (goal.at.relax-nearer-requires c).Start).star
 pub enlist-requires : goal.enlist-requires
 unfolding net_in
 enlist-requires c =
-    (c.requires.searching.worklist, leads-from _ _ _ _ (arc (goal.at.enlist-requires c).Start) c.requires.searching.fit.ends)
+    record {
+      worklist = c.requires.searching.worklist;
+      node = leads-from _ _ _ _ (arc (goal.at.enlist-requires c).Start) c.requires.searching.fit.ends;
+    }
 
 pub returns : goal.returns
 unfolding net_in
