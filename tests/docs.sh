@@ -14,7 +14,7 @@ fault() { echo "docs: $*"; faults=$((faults + 1)); }
 ours=$(sed -nE 's/^([a-z_]+)( staticlib)?:.*/\1/p' crates.txt | paste -sd '|')
 
 # the kit's words that a definition file imports, without the places of their arguments
-kit() { sed -nE "/^use Rattle\.($ours)\./d"'; s/^use [A-Za-z.]+\.\{(.*)\}.*/\1/p' "$1" | tr ',' '\n' | sed 's/^ *//; s/◌//g'; }
+kit() { sed -nE "/^use Rattle\.($ours)\./d"'; s/^use [^{]+\.\{(.*)\}.*/\1/p' "$1" | tr ',' '\n' | sed 's/^ *//; s/◌//g'; }
 
 # definition files that a file uses, but for the types declared in code
 uses() { sed -nE '/\.declared\./d; s/^(pub )?use Rattle\.('"$ours"')\.(specs|proofs)\.([A-Za-z]+)\..*/\2\/\3\/\4.antt/p' "$1"; }
