@@ -54,7 +54,7 @@ cat <<END
 # Status
 
 Made by \`bash docs/figures.sh --gate LOG\` from the log of one whole gate, \`bash .ci/run\` in a fresh clone on a machine with $(sed -n 's/^gate: \([0-9]*\) processors here$/\1/p' "$log") processors:
-$(tail -n 1 "$log"), $(took "in all" | grouped) s in all, $(took "of processor time" | grouped) s of processor time. Lines are counted without comments and blank ones, imports included; of \`length\`'s code 3,328 are the table.
+$(tail -n 1 "$log"), $(took "in all" | grouped) s in all, $(took "of processor time" | grouped) s of processor time. Lines are counted without comments and blank ones, imports included; of \`length\`'s code $(grep -cE '^ *[0-9]+, ' crates/length/src/table.rt) are the table.
 \`rt ci\` proves crates and tries their edits side by side. So the last column has the seconds of the gate after which a crate was proved, or \`kept\` where an earlier
 run on the same machine had proved the same files. What a request moved of the times, by an older kit that told those of each crate, is in its note, [changes/](changes).
 
