@@ -16,7 +16,7 @@ complete-requires c =
 
 pub check_items-requires : goal.check_items-requires
 check_items-requires c =
-    packs c.args.pairs.now c.args.limits.now c.shape-s.ensures c.requires _ (omega (arith, c.complete.auto.1.1.1.0, c.well_formed.1.1.0))
+    packs c.args.pairs.now c.args.limits.now c.shape-s.ensures c.requires _ (omega (arith, c.complete.auto.net, c.well_formed.1.1.0))
 
 pub returns : goal.returns
 returns c =

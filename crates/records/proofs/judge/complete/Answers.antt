@@ -21,7 +21,7 @@ put_pairs-requires c =
             few-limits = h.few-limits;
             few-arcs = h.few-arcs;
             few-commodities = h.few-commodities;
-            places = omega (arith, h.places, c.put_limits.auto.1.1.0);
+            places = omega (arith, h.places, c.put_limits.auto.net);
           };
       each = p.each;
     }
