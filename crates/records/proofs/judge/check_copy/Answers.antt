@@ -1,7 +1,6 @@
 -- `records::judge::check_copy` meets its contract: what is checked is the network of the copied arcs, the pairs and the limits. Assumes nothing.
 use mathlib.Core.Path.{ap, ◌∙◌}
 use native.Mathlib.Omega.{arith}
-use borrow.Author.Rules.{rules}
 use Rattle.network.specs.Network.{Network}
 use Rattle.network.specs.Verdict.{verdict, item_conditions}
 use Rattle.records.proofs.Shaped.{packs, completing, copied_is}

@@ -1,7 +1,6 @@
 -- `records::judge::complete` meets its contract: pairs and limits stand beside the arcs. Assumes nothing.
 use mathlib.Core.Path.{◌∙◌}
 use native.Mathlib.Omega.{arith}
-use borrow.Author.Rules.{rules}
 use Rattle.records.proofs.Completed.{completed}
 use Rattle.records.proofs.judge.complete.Goals as goal
 

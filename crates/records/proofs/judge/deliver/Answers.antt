@@ -2,7 +2,6 @@
 use mathlib.Core.Path.{◌≡◌, ap, ◌∙◌}
 use native.Mathlib.Omega.{arith}
 use lib.ListN.{take}
-use borrow.Author.Rules.{rules}
 use Rattle.network.specs.Network.{Network}
 use Rattle.network.specs.Verdict.{verdict, item_conditions}
 use Rattle.packed.specs.Packed.{net_in}

@@ -5,7 +5,6 @@ use Prim.Native.Nat.{ℕ, ◌+◌, ◌*◌, ◌≤◌}
 use native.Mathlib.Omega.{arith}
 use lib.ListN.{length, take, length-replicate}
 use lib.Seq.{length-take-le}
-use borrow.Author.Rules.{rules}
 use Rattle.packed.proofs.Columns.{part_length, arcs-is, commodities-is}
 use Rattle.records.proofs.Judged.{placed, replied-accepted}
 use Rattle.records.proofs.judge.deliver_in.Goals as goal

@@ -1,7 +1,7 @@
 -- `records::sizes::count_given` meets its contract. The loop's invariant: so many of the first i are not 0. The measure is what is left of c.
 -- Assumes nothing.
-use mathlib.Core.Path.{◌≡◌, refl, sym, ap, ◌∙◌}
-use Prim.Native.Nat.{◌+◌, ◌-◌, ◌≤◌}
+use mathlib.Core.Path.{refl, sym, ap, ◌∙◌}
+use Prim.Native.Nat.{◌+◌}
 use native.Mathlib.Nat.{le_antisymm}
 use native.Mathlib.Omega.{arith}
 use Rattle.network.specs.Given.{given}
@@ -23,8 +23,8 @@ loop-i-preserved c =
     let i = c.loop-i.i in (
       omega arith,
       elim c.if-limits-i-ne0.branch [
-        then-limits-i-ne0 w ↦ w.r-is ∙ (ap (λ r. r + 1) c.loop-i.invariant.1 ∙ sym (given-one xs i w.if-limits-i-ne0.true))
-      | else-limits-i-ne0 w ↦ w.r-is ∙ (c.loop-i.invariant.1 ∙ sym (given-zero xs i w.if-limits-i-ne0.false))
+        | then-limits-i-ne0 w ↦ w.r-is ∙ (ap (λ r. r + 1) c.loop-i.invariant.1 ∙ sym (given-one xs i w.if-limits-i-ne0.true))
+        | else-limits-i-ne0 w ↦ w.r-is ∙ (c.loop-i.invariant.1 ∙ sym (given-zero xs i w.if-limits-i-ne0.false))
       ],
     )
 
