@@ -3,7 +3,6 @@
 use Rattle.std.proofs.Common.{◌≡◌, ◌≤◌, List, ℕ, length, take, slice_index_or, arith, ap, sym, ◌∙◌}
 use native.Mathlib.Nat.{le_antisymm}
 use Rattle.network.specs.Verdict.{verdict, item_conditions}
-use Rattle.network.specs.declared.Verdict.{Verdict}
 use Rattle.records.specs.Parts.{SizesPassed, network_copied}
 use Rattle.records.proofs.Copying.{nil, put, filled, filled_none, filled_more}
 use Rattle.records.proofs.Judged.{replied-same}
