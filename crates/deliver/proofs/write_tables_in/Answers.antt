@@ -40,10 +40,10 @@ returns c =
     let r = c.solve-a.ensures in
     record {
       answers = r.answers;
-      flows = c.write_signed.ensures ∙ ap (λ (xs : List ℤ). written c.args.flow.now (map twos xs)) (take-length c.solve-a.last.1.1.1.0 ∙ r.flows);
+      flows = c.write_signed.ensures ∙ ap (λ (xs : List ℤ). written c.args.flow.now (map twos xs)) (take-length c.solve-a.new.1.1.1.0 ∙ r.flows);
       bests =
           c.write_all.ensures ∙
           ap (written c.args.lengths.now)
-          (take_all c.args.s.resources (kept_in c.args.s c.solve-a.last.1.1.1.1.0) (le_of_eq (kept-size (goal.at.returns c).After-solve-a)) ∙ r.lengths);
+          (take_all c.args.s.resources (kept_in c.args.s c.solve-a.new.1.1.1.1.0) (le_of_eq (kept-size (goal.at.returns c).After-solve-a)) ∙ r.lengths);
       guarantee = r.guarantee;
     }

@@ -54,6 +54,6 @@ deliver-requires c =
 
 pub returns : goal.returns
 returns c =
-    let l = c.deliver.last.1.1.1 in
+    let l = c.deliver.new.1.1.1 in
     judged-of c.decode.ensures
     (served-accepted (net (goal.at.returns c).After-decode) c.args.q (verdict (item_conditions (net (goal.at.returns c).After-decode))) (lent (goal.at.returns c).Start) 0 (slices l.0 l.1.0 l.1.1.0 l.1.1.1.0) (accepted (goal.at.returns c).In_default) refl c.deliver.ensures)
