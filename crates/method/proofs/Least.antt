@@ -10,7 +10,7 @@ use native.Mathlib.Omega.{arith}
 use lib.Dec.{leb}
 use borrow.Author.Tests.{leb-true, leb-false}
 use Rattle.arith.specs.Member.{Member, first, later, no_member, first-or-later}
-use Rattle.arith.proofs.Sorted.{Sorted, before}
+use Rattle.arith.proofs.Sorted.{Sorted, empty, before}
 use Rattle.method.specs.Choice.{sooner, least}
 
 module _ {A : Type 0} (f : A → ℕ) where
@@ -39,6 +39,7 @@ module _ {A : Type 0} {f : A → ℕ} where
       (λ (e : z ≡ y). absurd (anti y y (rw e at b) (rw e at b)))
       (λ (r : Member z zs). absurd (anti z y b (s z r)))
       (first-or-later m)
+  first-lt anti empty h z m b = elim h [ ]
   first-lt anti (before s t) (there {x = x} {xs = zs} l k) z m b =
       ⊎_elim (λ (e : z ≡ x). omega (arith, ap f e)) (λ (r : Member z zs). first-lt anti t k z r b) (first-or-later m)
 

@@ -10,6 +10,7 @@ use Rattle.arith.proofs.Order.{Compared, below, equal, above, compare}
 use Rattle.method.specs.Order.{Before, ends, smaller, agrees}
 
 pub before-not-after : {p q : List ℕ} → Before p q → Before q p → ⊥
+before-not-after (ends {e = e} {q = q}) h = elim h [ ]
 before-not-after (smaller a) (smaller b) = omega arith
 before-not-after (smaller a) (agrees b k) = omega arith
 before-not-after (agrees a h) (smaller b) = omega arith

@@ -48,6 +48,7 @@ module _ {net : Network} {l d : List ℕ} {t : ℕ} where
       {v : ℕ} {p : List ℕ} → Feasible net l d t → Walk net l d t v p → (q : List ℕ) → Path net v t q → Before q p →
       get_or d v 0 < path_key net l v q
   unfolding follow onward
+  walk_first F stop q h b = elim b [ ]
   walk_first F (step {v = v} apart way low w) q h ends = absurd (apart (some-injective v t h))
   walk_first F (step {v = v} apart way low w) q h (smaller {d = j} {p = r} b) =
       let s = path-step net v t j r h in

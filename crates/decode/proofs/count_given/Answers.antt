@@ -12,7 +12,7 @@ use Rattle.network.proofs.Given.{given-most, given-zero, given-one}
 use Rattle.numbers.specs.Numbers.{number_at, column}
 use Rattle.numbers.proofs.Columns.{get_or-column}
 use Rattle.decode.proofs.count_given.Goals as goal
-use Rattle.decode.proofs.count_given.Goals.{Joined-read-ne0}
+use Rattle.decode.proofs.count_given.Goals.{Joined-read-ne0, then-read-ne0, else-read-ne0}
 
 pub loop-i-init : goal.loop-i-init
 unfolding given
@@ -34,12 +34,12 @@ pub loop-i-preserved : goal.loop-i-preserved
 loop-i-preserved c =
     let xs = column c.args.limits.now 1 0 c.args.c in
     let i = c.loop-i.i in
-    let e = present c in (
+    let e = present (goal.at.loop-i-preserved c).Joined-read-ne0 in (
       omega arith,
-      ⊎_elim
-          (λ w. w.1 ∙ (ap (λ r. r + 1) c.loop-i.invariant.1 ∙ sym (given-one xs i (λ z. w.0.taken (sym e ∙ z)))))
-          (λ w. w.1 ∙ (c.loop-i.invariant.1 ∙ sym (given-zero xs i (e ∙ w.0.left))))
-          c.if-read-ne0.branch,
+      elim c.if-read-ne0.branch [
+        | then-read-ne0 w ↦ w.r-is ∙ (ap (λ r. r + 1) c.loop-i.invariant.1 ∙ sym (given-one xs i (λ z. w.if-read-ne0.true (sym e ∙ z))))
+        | else-read-ne0 w ↦ w.r-is ∙ (c.loop-i.invariant.1 ∙ sym (given-zero xs i (e ∙ w.if-read-ne0.false)))
+      ],
     )
 
 pub returns : goal.returns

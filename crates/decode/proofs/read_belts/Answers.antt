@@ -5,7 +5,7 @@ use Rattle.decode.proofs.read_belts.Goals as goal
 
 pub returns : goal.returns
 returns c =
-    belts-read c.requires (fills _ _ _ _ _ _ _ c.read_column.auto.1.1.1.1.0 c.read_column.ensures)
-    (fills _ _ _ _ _ _ _ c.read_column-2.auto.1.1.1.1.0 c.read_column-2.ensures)
-    (fills _ _ _ _ _ _ _ c.read_column-3.auto.1.1.1.1.0 c.read_column-3.ensures)
-    (fills _ _ _ _ _ _ _ c.read_column-4.auto.1.1.1.1.0 c.read_column-4.ensures)
+    belts-read c.requires (fills _ _ _ _ _ _ _ c.read_column.auto.out c.read_column.ensures)
+    (fills _ _ _ _ _ _ _ c.read_column-2.auto.out c.read_column-2.ensures)
+    (fills _ _ _ _ _ _ _ c.read_column-3.auto.out c.read_column-3.ensures)
+    (fills _ _ _ _ _ _ _ c.read_column-4.auto.out c.read_column-4.ensures)

@@ -5,4 +5,4 @@ use Rattle.decode.proofs.read_limits.Goals as goal
 
 pub returns : goal.returns
 returns c =
-    limits-read c.requires (fills _ _ _ _ _ _ _ c.read_column.auto.1.1.1.1.0 c.read_column.ensures)
+    limits-read c.requires (fills _ _ _ _ _ _ _ c.read_column.auto.out c.read_column.ensures)

@@ -5,5 +5,5 @@ use Rattle.decode.proofs.read_pairs.Goals as goal
 
 pub returns : goal.returns
 returns c =
-    pairs-read c.requires (fills _ _ _ _ _ _ _ c.read_column.auto.1.1.1.1.0 c.read_column.ensures)
-    (fills _ _ _ _ _ _ _ c.read_column-2.auto.1.1.1.1.0 c.read_column-2.ensures)
+    pairs-read c.requires (fills _ _ _ _ _ _ _ c.read_column.auto.out c.read_column.ensures)
+    (fills _ _ _ _ _ _ _ c.read_column-2.auto.out c.read_column-2.ensures)

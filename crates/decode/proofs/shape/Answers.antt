@@ -8,12 +8,12 @@ use Rattle.network.proofs.Given.{given-most}
 use Rattle.numbers.specs.Numbers.{count, items, column}
 use Rattle.decode.proofs.Shapes.{counts}
 use Rattle.decode.proofs.shape.Goals as goal
-use Rattle.decode.proofs.shape.Goals.{Joined-n-all}
+use Rattle.decode.proofs.shape.Goals.{Joined-n-all, then-n-all, else-n-all}
 
 read : (c : Joined-n-all) → c.if-n-all.c ≡ min c.args.n (count c.args.limits.now)
 read c =
     let all = c.count-all.ensures in
-    ⊎_elim (λ w. omega (arith, all, w.0.taken, w.1)) (λ w. omega (arith, all, w.0.left, w.1)) c.if-n-all.branch
+    elim c.if-n-all.branch [ then-n-all w ↦ omega (arith, all) | else-n-all w ↦ omega (arith, all) ]
 
 pub count_given-requires : goal.count_given-requires
 count_given-requires c = omega (arith, read c)

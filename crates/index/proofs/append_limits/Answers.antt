@@ -11,7 +11,7 @@ use Rattle.packed.specs.Packed.{net_in}
 use Rattle.packed.proofs.Columns.{arcs-is, capacities-length}
 use Rattle.index.proofs.Gathering.{Gathering, gathering-none, gathering-on, gathering-place, gathering-more, gathering-all}
 use Rattle.index.proofs.append_limits.Goals as goal
-use Rattle.index.proofs.append_limits.Goals.{After-limit-x, In-loop-v, Start, Then-x-ne0}
+use Rattle.index.proofs.append_limits.Goals.{After-limit-x, In-loop-v, Start, Then-x-ne0, then-x-ne0, else-x-ne0}
 
 abbrev net : Start → Network
 net s = net_in s.args.s s.args.net.now
@@ -38,10 +38,10 @@ loop-v-init c =
 pub loop-v-preserved : goal.loop-v-preserved
 loop-v-preserved c =
     let I = c.loop-v.invariant in
-    ⊎_elim
-    (λ w. rw (w.1, w.2) (gathering-more I (node (goal.at.loop-v-preserved c).In-loop-v) (λ z. w.0.taken (read (goal.at.loop-v-preserved c).After-limit-x ∙ z)) (read (goal.at.loop-v-preserved c).After-limit-x)))
-    (λ w. rw (w.1, w.2) (gathering-on I (node (goal.at.loop-v-preserved c).In-loop-v) (sym (read (goal.at.loop-v-preserved c).After-limit-x) ∙ w.0.left)))
-    c.if-x-ne0.branch
+    elim c.if-x-ne0.branch [
+      | then-x-ne0 w ↦ rw (w.table-is, w.end-is) (gathering-more I (node (goal.at.loop-v-preserved c).In-loop-v) (λ z. w.if-x-ne0.true (read (goal.at.loop-v-preserved c).After-limit-x ∙ z)) (read (goal.at.loop-v-preserved c).After-limit-x))
+      | else-x-ne0 w ↦ rw (w.table-is, w.end-is) (gathering-on I (node (goal.at.loop-v-preserved c).In-loop-v) (sym (read (goal.at.loop-v-preserved c).After-limit-x) ∙ w.if-x-ne0.false))
+    ]
 
 pub shape_of-table : goal.shape_of-table
 shape_of-table c =
@@ -59,3 +59,6 @@ offset_bounds-table-end c = omega (arith, place c)
 
 pub overflow_add-end : goal.overflow_add-end
 overflow_add-end c = omega (arith, place c)
+
+pub bounds-table-end : goal.bounds-table-end
+bounds-table-end c = place c

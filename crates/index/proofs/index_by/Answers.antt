@@ -35,7 +35,7 @@ loop-v-preserved c =
     record {
       building = R.ensures;
       within = omega (arith, c.loop-v-test.true);
-      size = R.auto.1.1.1.1.0 ∙ c.loop-v.invariant.size;
+      size = R.auto.ix ∙ c.loop-v.invariant.size;
     }
 
 pub shape_of-ix : goal.shape_of-ix

@@ -11,12 +11,12 @@ unfolding net_in
 index_by-requires c = into-indexing c.requires
 
 pub place_nodes-requires : goal.place_nodes-requires
-place_nodes-requires c = still-indexable c.requires c.index_by.auto.1.1.1.1.0
+place_nodes-requires c = still-indexable c.requires c.index_by.auto.ix
 
 pub returns : goal.returns
 unfolding net_in
 returns c =
     record {
-      arcs = index-located (into-index c.requires c.index_by.ensures) c.place_nodes.ensures.before c.place_nodes.auto.1.1.0;
+      arcs = index-located (into-index c.requires c.index_by.ensures) c.place_nodes.ensures.before c.place_nodes.auto.ix;
       places = c.place_nodes.ensures.places;
     }

@@ -13,7 +13,7 @@ use Rattle.index.specs.Index.{places_from}
 use Rattle.index.proofs.Limits.{place-most}
 use Rattle.index.proofs.Locating.{Locating, locating-none, locating-none-limited, locating-limited, locating-all}
 use Rattle.index.proofs.place_nodes.Goals as goal
-use Rattle.index.proofs.place_nodes.Goals.{After-limit, In-loop-v, Joined-limit-ne0, Start}
+use Rattle.index.proofs.place_nodes.Goals.{After-limit, In-loop-v, Joined-limit-ne0, Start, then-limit-ne0, else-limit-ne0}
 
 abbrev net : Start → Network
 net s = net_in s.args.s s.args.net.now
@@ -57,10 +57,10 @@ loop-v-preserved c =
     let I = c.loop-v.invariant in
     let b = place (goal.at.loop-v-preserved c).In-loop-v in
     let n = node (goal.at.loop-v-preserved c).In-loop-v in
-    ⊎_elim
-    (λ w. rw (w.1, w.2) (locating-limited I b n (λ z. w.0.taken (read (goal.at.loop-v-preserved c).After-limit ∙ z))))
-    (λ w. rw (w.1, w.2) (locating-none-limited I b n (sym (read (goal.at.loop-v-preserved c).After-limit) ∙ w.0.left) c.requires.counted))
-    c.if-limit-ne0.branch
+    elim c.if-limit-ne0.branch [
+      | then-limit-ne0 w ↦ rw (w.r-is, w.next-is) (locating-limited I b n (λ z. w.if-limit-ne0.true (read (goal.at.loop-v-preserved c).After-limit ∙ z)))
+      | else-limit-ne0 w ↦ rw (w.r-is, w.next-is) (locating-none-limited I b n (sym (read (goal.at.loop-v-preserved c).After-limit) ∙ w.if-limit-ne0.false) c.requires.counted)
+    ]
 
 pub shape_of-ix : goal.shape_of-ix
 shape_of-ix c = c.loop-v.invariant.size

@@ -19,6 +19,6 @@ unfolding net_in
 append_limits-requires c =
     let p = c.requires in
     record {
-      roomy = record { packed = p.packed; counted = p.counted; whole = c.copy.auto.1.0 ∙ p.whole };
-      capacities = ap (λ n. take n c.copy.new.1.0) (sym (capacities-length p.packed ∙ arcs-is p.packed)) ∙ c.copy.ensures;
+      roomy = record { packed = p.packed; counted = p.counted; whole = c.copy.auto.table ∙ p.whole };
+      capacities = ap (λ n. take n c.copy.new.table) (sym (capacities-length p.packed ∙ arcs-is p.packed)) ∙ c.copy.ensures;
     }

@@ -24,7 +24,7 @@ loop-e-preserved c =
     record {
       building = A.ensures;
       within = omega (arith, c.loop-e-test.true);
-      size = A.auto.1.1.1.1.1.0 ∙ c.loop-e.invariant.size;
+      size = A.auto.ix ∙ c.loop-e.invariant.size;
     }
 
 pub shape_of-ix : goal.shape_of-ix

@@ -2,21 +2,20 @@
 -- Assumes nothing.
 use mathlib.Core.Path.{◌≡◌, sym, ◌∙◌}
 use mathlib.Core.Bool.{◌||◌}
-use mathlib.Core.Logic.{⊎_elim}
 use borrow.Author.Rules.{rules}
 use Rattle.network.specs.Verdict.{outside, loose}
 use Rattle.network.proofs.Or.{or-stop, or-on}
 use Rattle.checks.proofs.items.loose.Goals as goal
-use Rattle.checks.proofs.items.loose.Goals.{Joined-outside}
+use Rattle.checks.proofs.items.loose.Goals.{Joined-outside, then-outside, else-outside}
 
 -- the first two tests, where their ways meet
 ends : (c : Joined-outside) →
     c.if-outside.value ≡ outside 1 c.args.n c.args.a || outside 1 c.args.n c.args.b
 ends c =
-    ⊎_elim
-    (λ w. or-stop _ c.outside.ensures w.0.taken w.1)
-    (λ w. or-on c.outside.ensures w.0.left (w.2 ∙ w.1.ensures))
-    c.if-outside.branch
+    elim c.if-outside.branch [
+      | then-outside w ↦ or-stop _ c.outside.ensures w.if-outside.true w.value-is
+      | else-outside w ↦ or-on c.outside.ensures w.if-outside.false (w.value-is ∙ w.outside-else-outside.ensures)
+    ]
 
 pub returns-then-outside-2 : goal.returns-then-outside-2
 unfolding loose

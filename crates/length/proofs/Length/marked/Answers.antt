@@ -6,4 +6,4 @@ use Rattle.length.proofs.Length.marked.Goals as goal
 
 pub returns : goal.returns
 unfolding mark
-returns c = (refl, refl)
+returns c = record { value = refl; mark = refl }

@@ -7,4 +7,4 @@ use Rattle.length.proofs.Length.start.Goals as goal
 
 pub returns : goal.returns
 unfolding scale start
-returns c = (c.quotient.ensures, refl)
+returns c = record { value = c.quotient.ensures; scale = refl }
