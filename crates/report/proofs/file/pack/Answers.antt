@@ -31,22 +31,22 @@ module _ (s : Start) where
 
 -- the slice after each
 abbrev tailed : After-copy → List ℕ
-tailed c = put tails_from (m (goal.at.After-copy c).Start) c.args.net.now c.copy.new.1.0
+tailed c = put tails_from (m (goal.at.After-copy c).Start) c.args.net.now c.copy.new.to
 
 abbrev headed : After-copy-2 → List ℕ
-headed c = put heads_from (m (goal.at.After-copy-2 c).Start) (tailed (goal.at.After-copy-2 c).After-copy) c.copy-2.new.1.0
+headed c = put heads_from (m (goal.at.After-copy-2 c).Start) (tailed (goal.at.After-copy-2 c).After-copy) c.copy-2.new.to
 
 abbrev arced : After-copy-3 → List ℕ
-arced c = put capacities_from (m (goal.at.After-copy-3 c).Start) (headed (goal.at.After-copy-3 c).After-copy-2) c.copy-3.new.1.0
+arced c = put capacities_from (m (goal.at.After-copy-3 c).Start) (headed (goal.at.After-copy-3 c).After-copy-2) c.copy-3.new.to
 
 tailed-long : (c : After-copy) → net_numbers ≤ length (tailed c)
 tailed-long c =
-    let e = put-length tails_from (m (goal.at.After-copy c).Start) c.args.net.now c.copy.new.1.0 (omega (arith, c.requires.few, c.requires.places)) (ap length c.copy.ensures ∙ tails-many (goal.at.After-copy c).Start) in
+    let e = put-length tails_from (m (goal.at.After-copy c).Start) c.args.net.now c.copy.new.to (omega (arith, c.requires.few, c.requires.places)) (ap length c.copy.ensures ∙ tails-many (goal.at.After-copy c).Start) in
     omega (arith, e, c.requires.places)
 
 headed-long : (c : After-copy-2) → net_numbers ≤ length (headed c)
 headed-long c =
-    let e = put-length heads_from (m (goal.at.After-copy-2 c).Start) (tailed (goal.at.After-copy-2 c).After-copy) c.copy-2.new.1.0 (omega (arith, c.requires.few, tailed-long (goal.at.After-copy-2 c).After-copy)) (ap length c.copy-2.ensures ∙ heads-many (goal.at.After-copy-2 c).Start) in
+    let e = put-length heads_from (m (goal.at.After-copy-2 c).Start) (tailed (goal.at.After-copy-2 c).After-copy) c.copy-2.new.to (omega (arith, c.requires.few, tailed-long (goal.at.After-copy-2 c).After-copy)) (ap length c.copy-2.ensures ∙ heads-many (goal.at.After-copy-2 c).Start) in
     omega (arith, e, tailed-long (goal.at.After-copy-2 c).After-copy)
 
 pub slice_bounds-copy-end : goal.slice_bounds-copy-end

@@ -21,8 +21,8 @@ unfolding net_in
 put_belts-requires c =
     let v = c.solve-a in
     let p = c.put_answer-next in
-    rw p.auto.0
-    (belted c.requires.ready v.ensures _ (v.kept.1.1.1.0 ∙ c.requires.flows) (put-within p.ensures (answer-length _)))
+    rw p.auto.out
+    (belted c.requires.ready v.ensures _ (v.auto.flow ∙ c.requires.flows) (put-within p.ensures (answer-length _)))
 
 pub returns : goal.returns
 unfolding net_in
