@@ -11,7 +11,7 @@ use lib.ListN.{length, get_or}
 use Rattle.lengths.specs.Calls.{Growing}
 use Rattle.lengths.proofs.Lengthened.{Lengthened, lengthen-none, lengthen-more, lengthen-all, next_place, next-short, next-longer, next-rise}
 use Rattle.lengths.proofs.grow.Goals as goal
-use Rattle.lengths.proofs.grow.Goals.{After-growth-longer, In-loop-j}
+use Rattle.lengths.proofs.grow.Goals.{After-growth-longer, In-loop-j, then-marked, else-marked}
 
 -- the arc at the present place, which is among the arcs, and its length
 abbrev arc : In-loop-j → ℕ
@@ -29,13 +29,13 @@ module _ (c : After-growth-longer) where
   turn = (goal.at.After-growth-longer c).In-loop-j
 
   abbrev old : ℕ
-  old = get_or turn.before.loop.lengths (arc turn) 0
+  old = get_or c.loop-j.lengths (arc turn) 0
 
   longer : old ≤ c.growth-longer.result.value
-  longer = next-longer (entry turn).pre.0 turn.before.loop.inv turn.loop-test.taken _ c.growth-longer.ensures
+  longer = next-longer c.requires.growing c.loop-j.invariant c.loop-j-test.true _ c.growth-longer.ensures
 
-  rise : get_or (entry turn).args.capacities.now (arc turn) 0 * (c.growth-longer.result.value - old) ≤ 2 ^ 51
-  rise = next-rise (entry turn).pre.0 turn.before.loop.inv turn.loop-test.taken _ c.growth-longer.ensures
+  rise : get_or c.args.capacities.now (arc turn) 0 * (c.growth-longer.result.value - old) ≤ 2 ^ 51
+  rise = next-rise c.requires.growing c.loop-j.invariant c.loop-j-test.true _ c.growth-longer.ensures
 
 pub loop-j-init : goal.loop-j-init
 loop-j-init c = lengthen-none c.requires.growing _ c.requires.weight
@@ -70,20 +70,24 @@ pub bounds-lengths-e-in-loop-j : goal.bounds-lengths-e-in-loop-j
 bounds-lengths-e-in-loop-j c = omega (arith, place (goal.at.bounds-lengths-e-in-loop-j c).In-loop-j)
 
 pub overflow_sub-d : goal.overflow_sub-d
-overflow_sub-d c = omega (arith, longer c)
+overflow_sub-d c = omega (arith, longer (goal.at.overflow_sub-d c).After-growth-longer)
 
 pub overflow_mul-d : goal.overflow_mul-d
-overflow_mul-d c = omega (arith, rise c)
+overflow_mul-d c = omega (arith, rise (goal.at.overflow_mul-d c).After-growth-longer)
 
 pub overflow_add-d : goal.overflow_add-d
-overflow_add-d c = omega (arith, rise c, (turn c).before.loop.invariant.most, (entry (turn c)).pre.0.few)
+overflow_add-d c =
+    omega (arith, rise (goal.at.overflow_add-d c).After-growth-longer, c.loop-j.invariant.most, c.requires.growing.few)
 
 pub loop-j-preserved : goal.loop-j-preserved
 loop-j-preserved c =
-    let b = (turn (goal.at.loop-j-preserved c).After-growth-longer).before.loop.marked in
-    lengthen-more (entry (turn (goal.at.loop-j-preserved c).After-growth-longer)).pre.0 (turn (goal.at.loop-j-preserved c).After-growth-longer).before.loop.invariant (turn (goal.at.loop-j-preserved c).After-growth-longer).loop-test.true c.growth-longer.result.value c.growth-longer.ensures c.if-marked.marked
-    (⊎_elim (λ w. w.1 ∙ (sym (or-true b) ∙ ap (λ x. b || x) (sym w.0.taken ∙ c.marked.ensures.0)))
-    (λ w. w.1 ∙ (sym (or-false b) ∙ ap (λ x. b || x) (sym w.0.left ∙ c.marked.ensures.0))) c.if-marked.branch)
+    let b = c.loop-j.marked in
+    lengthen-more c.requires.growing c.loop-j.invariant c.loop-j-test.true c.growth-longer.result.value c.growth-longer.ensures
+    c.if-marked.marked
+    (elim c.if-marked.branch [
+      | then-marked w ↦ w.marked-is ∙ (sym (or-true b) ∙ ap (λ x. b || x) (sym w.if-marked.true ∙ c.marked.ensures.value))
+      | else-marked w ↦ w.marked-is ∙ (sym (or-false b) ∙ ap (λ x. b || x) (sym w.if-marked.false ∙ c.marked.ensures.value))
+    ])
 
 pub returns : goal.returns
 returns c = lengthen-all c.loop-j.invariant (omega arith)

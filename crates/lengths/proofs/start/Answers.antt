@@ -25,7 +25,7 @@ unfolding mark
 part c =
     let capacity = get_or c.args.capacities.now c.loop-e.e 0 in
     let p = c.requires.sizes in
-    mul-le-mul {m₂ = 2 ^ 40} (p.most _ (omega arith)) (omega (arith, c.start-first.ensures.0, start_fits capacity (p.least _ (omega arith))))
+    mul-le-mul {m₂ = 2 ^ 40} (p.most _ (omega arith)) (omega (arith, c.start-first.ensures.value, start_fits capacity (p.least _ (omega arith))))
 
 pub overflow_mul-d : goal.overflow_mul-d
 overflow_mul-d c = omega (arith, part c)
@@ -35,7 +35,7 @@ overflow_add-d c = omega (arith, part c, weighing-most (first-weighable c.requir
 
 pub loop-e-preserved : goal.loop-e-preserved
 loop-e-preserved c =
-    weigh-more _ c.loop-e.invariant (omega (arith, c.requires.same)) (c.start-first.ensures.0 ∙ sym (map_at start c.args.capacities.now c.loop-e.e c.loop-e-test.true))
+    weigh-more _ c.loop-e.invariant (omega (arith, c.requires.same)) (c.start-first.ensures.value ∙ sym (map_at start c.args.capacities.now c.loop-e.e c.loop-e-test.true))
 
 pub returns : goal.returns
 returns c =

@@ -19,10 +19,10 @@ pub returns-then-net-e : goal.returns-then-net-e
 returns-then-net-e c =
     let x = amount (goal.at.returns-then-net-e c).Start in
     from_tail c.requires c.args.v c.if-net-e.true
-    (to_z-of_z w64 _ (record { sfits = c.more-y.type-inv }) ∙ (c.more-y.ensures ∙ ap (λ y. y +ℤ pos c.args.g) (to_z-of_z w64 x (record { sfits = c.x-1.given }))))
+    (to_z-of_z w64 _ (record { sfits = c.more-y.type_inv }) ∙ (c.more-y.ensures ∙ ap (λ y. y +ℤ pos c.args.g) (to_z-of_z w64 x (record { sfits = c.x-1.given }))))
 
 pub returns : goal.returns
 returns c =
     let x = amount (goal.at.returns c).Start in
     from-head c.requires c.args.v c.if-net-e.false
-    (to_z-of_z w64 _ (record { sfits = c.less-y.type-inv }) ∙ (c.less-y.ensures ∙ ap (λ y. y -ℤ pos c.args.g) (to_z-of_z w64 x (record { sfits = c.x-1.given }))))
+    (to_z-of_z w64 _ (record { sfits = c.less-y.type_inv }) ∙ (c.less-y.ensures ∙ ap (λ y. y -ℤ pos c.args.g) (to_z-of_z w64 x (record { sfits = c.x-1.given }))))

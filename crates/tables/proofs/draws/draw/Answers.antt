@@ -6,7 +6,7 @@ use native.Mathlib.Omega.{arith}
 use lib.ListN.{length, get_or}
 use Rattle.tables.proofs.Lowered.{Lowered, lower-first, lower-more, lower-all}
 use Rattle.tables.proofs.draws.draw.Goals as goal
-use Rattle.tables.proofs.draws.draw.Goals.{In-loop-j, Start}
+use Rattle.tables.proofs.draws.draw.Goals.{In-loop-j, Start, then-capacities-e, else-capacities-e}
 
 -- the arc at the first place and that at the present one are among the arcs
 first : (c : Start) → get_or c.args.path.now 0 0 < length c.args.capacities.now
@@ -39,7 +39,10 @@ bounds-capacities-e-then-capacities-e c = omega (arith, place (goal.at.bounds-ca
 pub loop-j-preserved : goal.loop-j-preserved
 loop-j-preserved c =
     let turn = c.loop-j in
-    ⊎_elim (λ w. lower-more _ turn.invariant (omega arith) (omega arith)) (λ w. lower-more _ turn.invariant (omega arith) (omega arith)) c.if-capacities-e.branch
+    elim c.if-capacities-e.branch [
+      | then-capacities-e w ↦ lower-more _ turn.invariant (omega arith) (omega arith)
+      | else-capacities-e w ↦ lower-more _ turn.invariant (omega arith) (omega arith)
+    ]
 
 pub returns : goal.returns
 returns c = lower-all c.loop-j.invariant (omega arith)

@@ -7,7 +7,7 @@ use native.Mathlib.Omega.{arith}
 use lib.ListN.{length, get_or}
 use Rattle.tables.proofs.Fuller.{Ranked, rank-first, rank-fuller, rank-other, rank-all}
 use Rattle.tables.proofs.loads.fullest.Goals as goal
-use Rattle.tables.proofs.loads.fullest.Goals.{In-loop-e}
+use Rattle.tables.proofs.loads.fullest.Goals.{In-loop-e, then-loads-b, else-loads-b}
 
 -- the load of arc i times the capacity of arc j
 abbrev product : In-loop-e → ℕ → ℕ → ℕ
@@ -34,8 +34,10 @@ overflow_mul-loads-in-loop-e c = omega (arith, small (goal.at.overflow_mul-loads
 pub loop-e-preserved : goal.loop-e-preserved
 loop-e-preserved c =
     let turn = c.loop-e in
-    ⊎_elim (λ w. rw w.1 (rank-fuller turn.invariant (omega arith) w.0.taken))
-    (λ w. rw w.1 (rank-other turn.invariant (omega arith) w.0.left)) c.if-loads-b.branch
+    elim c.if-loads-b.branch [
+      | then-loads-b w ↦ rw w.b-is (rank-fuller turn.invariant (omega arith) w.if-loads-b.true)
+      | else-loads-b w ↦ rw w.b-is (rank-other turn.invariant (omega arith) w.if-loads-b.false)
+    ]
 
 pub returns : goal.returns
 returns c = (rank-all c.loop-e.invariant (omega arith), omega arith)

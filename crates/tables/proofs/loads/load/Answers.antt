@@ -10,7 +10,7 @@ use borrow.Author.Tests.{le-leb, lt-leb}
 use lib.ListN.{length, get_or}
 use Rattle.tables.proofs.Loadings.{Raised, raise-none, raise-more, raise-all, next_place, next-load, next-limit}
 use Rattle.tables.proofs.loads.load.Goals as goal
-use Rattle.tables.proofs.loads.load.Goals.{In-loop-j}
+use Rattle.tables.proofs.loads.load.Goals.{In-loop-j, then-threshold-capacities, else-threshold-capacities}
 
 -- the arc at the present place, which is among the arcs; its load, and what that is compared with
 abbrev arc : In-loop-j → ℕ
@@ -56,8 +56,10 @@ pub loop-j-preserved : goal.loop-j-preserved
 loop-j-preserved c =
     let b = c.loop-j.full in
     raise-more c.requires c.loop-j.invariant c.loop-j-test.true c.if-threshold-capacities.full
-    (⊎_elim (λ w. w.1 ∙ (sym (or-true b) ∙ ap (λ x. b || x) (sym (le-leb _ _ w.0.taken))))
-    (λ w. w.1 ∙ (sym (or-false b) ∙ ap (λ x. b || x) (sym (lt-leb _ _ w.0.left)))) c.if-threshold-capacities.branch)
+    (elim c.if-threshold-capacities.branch [
+      | then-threshold-capacities w ↦ w.full-is ∙ (sym (or-true b) ∙ ap (λ x. b || x) (sym (le-leb _ _ w.if-threshold-capacities.true)))
+      | else-threshold-capacities w ↦ w.full-is ∙ (sym (or-false b) ∙ ap (λ x. b || x) (sym (lt-leb _ _ w.if-threshold-capacities.false)))
+    ])
 
 pub returns : goal.returns
 returns c = raise-all c.loop-j.invariant (omega arith)
