@@ -2,7 +2,8 @@
 // The program ends with status 0 whatever happens; ./list tells by the line on standard error that the listing is not whole.
 #![tactic(auto)]
 
-ghost use Rattle.std.specs.Prelude.{◌≡◌, ◌≤◌, length};
+ghost use Rattle.std.specs.Prelude.{◌≡◌, ◌≤◌, length, take};
+ghost use Rattle.std.specs.Io.KnownBytes.{Consumes};
 
 use std::io::Read;
 
@@ -22,7 +23,8 @@ fn output() -> [u8; 24576]
 
 // Reads until the room is full, the input ends or a read fails; returns how many bytes stand in front.
 fn read_full<R: Read>(from: &mut R, room: &mut [u8]) -> usize
-    ensures { result ≤ length room.new }
+    ensures within { result ≤ length room.new }
+    ensures bytes { Consumes (R.remaining from.old) (R.remaining from.new) (take result room.new) }
 {
     let mut done = 0;
     while done < room.len() {
@@ -44,7 +46,9 @@ fn main(rt: HostRuntime) {
     let k = report::listing(&text[..n], &mut out);
     let whole = rt.write_all(&out[..k]);
     if whole.is_err() {
-        let told = eprintln!(rt; "listing: the listing is not whole: standard output is full or closed");
+        let told = eprintln!(rt;
+            "listing: the listing is not whole: standard output is full or closed"
+        );
         told.unwrap_or(());
     }
 }
