@@ -19,10 +19,10 @@ net s = net_in s.args.s s.args.net.now
 
 -- the memory and the path behind the search
 abbrev memory-at : After-nearest-arcs → List ℕ
-memory-at c = c.nearest-arcs.new.1.1.1.1.0
+memory-at c = c.nearest-arcs.new.memory
 
 abbrev path-at : After-nearest-arcs → List ℕ
-path-at c = c.nearest-arcs.new.1.1.1.1.1.0
+path-at c = c.nearest-arcs.new.path
 
 -- the nearest is one of the commodities, and has a bound in the memory
 among : (c : After-nearest-arcs) → least_in (memory-at c) < c.args.s.commodities
@@ -66,7 +66,7 @@ visit-used-requires c =
       to = sink (net (goal.at.visit-used-requires c).Start) (least_in (memory-at (goal.at.visit-used-requires c).After-nearest-arcs));
       leads-to = selects-path p.survey N (own (goal.at.visit-used-requires c).After-nearest-arcs) c.if-alpha-ge-FAR_LENGTH.false (from (goal.at.visit-used-requires c).After-nearest-arcs);
       few = omega (arith, (selects-closest p.survey N (own (goal.at.visit-used-requires c).After-nearest-arcs) c.if-alpha-ge-FAR_LENGTH.false (from (goal.at.visit-used-requires c).After-nearest-arcs)).arrived.few, p.survey.few);
-      room = omega (arith, p.room, c.nearest-arcs.auto.1.1.1.1.1.0);
+      room = omega (arith, p.room, c.nearest-arcs.auto.path);
     }
 
 pub returns : goal.returns

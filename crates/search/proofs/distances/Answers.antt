@@ -8,4 +8,4 @@ use Rattle.search.proofs.distances.Goals as goal
 pub distances_in-requires : goal.distances_in-requires
 distances_in-requires c =
     let n = c.requires.index.arcs.nodes in
-    (c.requires, worklist-zeros _ 65 (omega (arith, n)))
+    record { seeking = c.requires; empty = worklist-zeros _ 65 (omega (arith, n)) }

@@ -21,7 +21,7 @@ use Rattle.paths.proofs.Orders.{ordered-arranged, ordered-scanning, ordered-wait
 use Rattle.paths.proofs.Pages.{searched}
 use Rattle.paths.proofs.Searches.{searching-out}
 use Rattle.search.proofs.distances_in.Goals as goal
-use Rattle.search.proofs.distances_in.Goals.{After-scan-at, After-slice_known-4-1, At-loop-size, In-loop-size, Joined-at-n}
+use Rattle.search.proofs.distances_in.Goals.{At-loop-size, In-loop-size, Joined-at-n, then-at-n, else-at-n}
 
 begun :
     {net : Network} {into l new : List ℕ} {t : ℕ} (old : List ℕ) {flags listed : List ℕ} {size r : ℕ} → Seeking net into l t old →
@@ -32,7 +32,7 @@ begun {net} {l = l} {t = t} old S s q E =
 
 -- the page is as large as it was lent, so the order has room
 whole : (c : At-loop-size) → length c.loop-size.page ≡ length c.args.page.now
-whole c = c.loop-size.invariant.pages ∙ c.reset.auto.1.1.0
+whole c = c.loop-size.invariant.pages ∙ c.reset.auto.dist
 
 room : (c : At-loop-size) → order_from + (net_in c.args.s c.args.net.now).nodes ≤ length c.loop-size.page
 room c = let S = c.requires.seeking in omega (arith, whole c, S.room, S.index.arcs.nodes)
@@ -43,13 +43,13 @@ reset-requires c = let S = c.requires.seeking in (S.fit.room, S.sink.1)
 
 pub enlist-size-requires : goal.enlist-size-requires
 unfolding net_in
-enlist-size-requires c = (c.requires.empty, c.requires.seeking.sink)
+enlist-size-requires c = record { worklist = c.requires.empty; node = c.requires.seeking.sink }
 
 pub loop-size-init : goal.loop-size-init
 unfolding net_in
 loop-size-init c =
     record {
-      searching = begun c.args.page.now c.requires.seeking c.reset.auto.1.1.0 c.reset.ensures (c.enlist-size.ensures.came refl);
+      searching = begun c.args.page.now c.requires.seeking c.reset.auto.dist c.reset.ensures (c.enlist-size.ensures.came refl);
       pages = refl;
       flags = refl;
     }
@@ -60,7 +60,7 @@ scanning c = let S = c.loop-size.invariant.searching in ordered-scanning S.order
 
 pub scan-at-requires : goal.scan-at-requires
 unfolding net_in
-scan-at-requires c = scanning (goal.at.scan-at-requires c).After-slice_known-4-1
+scan-at-requires c = scanning (goal.at.scan-at-requires c).In-loop-size
 
 pub scan-at-requires-then-at-n : goal.scan-at-requires-then-at-n
 unfolding net_in
@@ -75,10 +75,10 @@ waits : (c : Joined-at-n) → let s = c.args in
 unfolding net_in
 waits c =
     let S = c.loop-size.invariant.searching in
-    ⊎_elim
-    (λ w. at_place w.6 (ordered-waits S.ordered S.worklist (omega (arith, c.loop-size-test.true)) w.4.ensures))
-    (λ w. at_place w.2 (record { place = w.0.left; flag = c.scan-at.ensures.flag w.0.left }))
-    c.if-at-n.branch
+    elim c.if-at-n.branch [
+      | then-at-n w ↦ at_place w.at-is (ordered-waits S.ordered S.worklist (omega (arith, c.loop-size-test.true)) w.scan-at-then-at-n.ensures)
+      | else-at-n w ↦ at_place w.at-is (record { place = w.if-at-n.false; flag = c.scan-at.ensures.flag w.if-at-n.false })
+    ]
 
 pub overflow_add-from : goal.overflow_add-from
 unfolding net_in
@@ -88,7 +88,7 @@ pub take_out-v-requires : goal.take_out-v-requires
 unfolding net_in
 take_out-v-requires c =
     let S = c.loop-size.invariant.searching in
-    record { arranged = ordered-arranged S.ordered (room (goal.at.take_out-v-requires c).At-loop-size); worklist = S.worklist; waits = waits (goal.at.take_out-v-requires c).After-scan-at }
+    record { arranged = ordered-arranged S.ordered (room (goal.at.take_out-v-requires c).At-loop-size); worklist = S.worklist; waits = waits (goal.at.take_out-v-requires c).Joined-at-n }
 
 pub overflow_sub-size : goal.overflow_sub-size
 overflow_sub-size c = omega (arith, c.loop-size-test.true)
@@ -109,11 +109,11 @@ loop-size-smaller c =
 pub loop-size-preserved : goal.loop-size-preserved
 loop-size-preserved c =
     let I = c.loop-size.invariant in
-    let k = c.relax_into-size.auto.1.1.1.1.1.1 in
+    let k = c.relax_into-size.auto in
     record {
       searching = c.relax_into-size.ensures.searching;
-      pages = k.0 ∙ I.pages;
-      flags = k.1.0 ∙ (c.take_out-v.auto.1.1.1.0 ∙ I.flags);
+      pages = k.dist ∙ I.pages;
+      flags = k.listed ∙ (c.take_out-v.auto.listed ∙ I.flags);
     }
 
 pub sort-requires : goal.sort-requires
@@ -121,10 +121,10 @@ unfolding net_in
 sort-requires c = ordered-arranged c.loop-size.invariant.searching.ordered (room (goal.at.sort-requires c).At-loop-size)
 
 pub shape_of-page-then-rounds-eq-MOST_ROUNDS : goal.shape_of-page-then-rounds-eq-MOST_ROUNDS
-shape_of-page-then-rounds-eq-MOST_ROUNDS c = c.sort.auto.1.0 ∙ whole (goal.at.shape_of-page-then-rounds-eq-MOST_ROUNDS c).At-loop-size
+shape_of-page-then-rounds-eq-MOST_ROUNDS c = c.sort.auto.page ∙ whole (goal.at.shape_of-page-then-rounds-eq-MOST_ROUNDS c).At-loop-size
 
 pub shape_of-listed-then-rounds-eq-MOST_ROUNDS : goal.shape_of-listed-then-rounds-eq-MOST_ROUNDS
-shape_of-listed-then-rounds-eq-MOST_ROUNDS c = c.loop-size.invariant.flags ∙ c.enlist-size.auto.1.1.1.0
+shape_of-listed-then-rounds-eq-MOST_ROUNDS c = c.loop-size.invariant.flags ∙ c.enlist-size.auto.listed
 
 pub returns-then-rounds-eq-MOST_ROUNDS : goal.returns-then-rounds-eq-MOST_ROUNDS
 unfolding net_in
@@ -136,7 +136,7 @@ pub shape_of-page-else-rounds-eq-MOST_ROUNDS : goal.shape_of-page-else-rounds-eq
 shape_of-page-else-rounds-eq-MOST_ROUNDS c = whole (goal.at.shape_of-page-else-rounds-eq-MOST_ROUNDS c).At-loop-size
 
 pub shape_of-listed-else-rounds-eq-MOST_ROUNDS : goal.shape_of-listed-else-rounds-eq-MOST_ROUNDS
-shape_of-listed-else-rounds-eq-MOST_ROUNDS c = c.loop-size.invariant.flags ∙ c.enlist-size.auto.1.1.1.0
+shape_of-listed-else-rounds-eq-MOST_ROUNDS c = c.loop-size.invariant.flags ∙ c.enlist-size.auto.listed
 
 pub returns-else-rounds-eq-MOST_ROUNDS : goal.returns-else-rounds-eq-MOST_ROUNDS
 returns-else-rounds-eq-MOST_ROUNDS c =

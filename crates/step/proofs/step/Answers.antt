@@ -43,7 +43,7 @@ Y s = part loads_from (m s) s.args.tables.now
 abbrev K : After-keep → List ℕ
 K c = cond c.less_product-better.result (L (goal.at.After-keep c).Start) (part kept_from (m (goal.at.After-keep c).Start) c.args.tables.now)
 
-kept : (c : After-keep) → Tabled (m (goal.at.After-keep c).Start) c.keep.new.1.1.0 (L (goal.at.After-keep c).Start) (Y (goal.at.After-keep c).Start) (K c)
+kept : (c : After-keep) → Tabled (m (goal.at.After-keep c).Start) c.keep.new.tables (L (goal.at.After-keep c).Start) (Y (goal.at.After-keep c).Start) (K c)
 kept c =
     with-keeping (tabled (m (goal.at.After-keep c).Start) c.args.tables.now c.requires.few c.requires.places) c.less_product-better.result c.keep.ensures
 
@@ -51,11 +51,11 @@ kept c =
 drawn : (f : After-draw-g) → f.draw-g.result ≡ draw (resource_capacities (net-of (goal.at.After-draw-g f).Start)) (used_by (net-of (goal.at.After-draw-g f).Start) (chosen (goal.at.After-draw-g f).Start))
 drawn f = f.draw-g.ensures ∙ ap₂ draw f.requires.caps-are f.requires.path-is
 
-loaded : (c : After-load-ended) → Tabled (m (goal.at.After-load-ended c).Start) (put loads_from (m (goal.at.After-load-ended c).Start) c.keep.last.1.1.0 c.load-ended.new.0) (L (goal.at.After-load-ended c).Start) c.load-ended.new.0 (K (goal.at.After-load-ended c).After-keep)
-loaded c = with-loads (kept (goal.at.After-load-ended c).After-keep) c.load-ended.new.0 c.load-ended.auto.0
+loaded : (c : After-load-ended) → Tabled (m (goal.at.After-load-ended c).Start) (put loads_from (m (goal.at.After-load-ended c).Start) c.keep.new.tables c.load-ended.new.loads) (L (goal.at.After-load-ended c).Start) c.load-ended.new.loads (K (goal.at.After-load-ended c).After-keep)
+loaded c = with-loads (kept (goal.at.After-load-ended c).After-keep) c.load-ended.new.loads c.load-ended.auto.loads
 
-lengthened : (c : After-lengthen-grown) → Tabled (m (goal.at.After-lengthen-grown c).Start) (put lengths_from (m (goal.at.After-lengthen-grown c).Start) (put loads_from (m (goal.at.After-lengthen-grown c).Start) c.keep.last.1.1.0 c.load-ended.new.0) c.lengthen-grown.new.0) c.lengthen-grown.new.0 c.load-ended.new.0 (K (goal.at.After-lengthen-grown c).After-keep)
-lengthened c = with-lengths (loaded (goal.at.After-lengthen-grown c).After-load-ended) c.lengthen-grown.new.0 c.lengthen-grown.auto.0
+lengthened : (c : After-lengthen-grown) → Tabled (m (goal.at.After-lengthen-grown c).Start) (put lengths_from (m (goal.at.After-lengthen-grown c).Start) (put loads_from (m (goal.at.After-lengthen-grown c).Start) c.keep.new.tables c.load-ended.new.loads) c.lengthen-grown.new.lengths) c.lengthen-grown.new.lengths c.load-ended.new.loads (K (goal.at.After-lengthen-grown c).After-keep)
+lengthened c = with-lengths (loaded (goal.at.After-lengthen-grown c).After-load-ended) c.lengthen-grown.new.lengths c.lengthen-grown.auto.lengths
 
 pub draw-g-requires : goal.draw-g-requires
 draw-g-requires c = let p = c.requires in rw (p.caps-are, p.path-is) (p.stepping.some-arc, p.stepping.growing.places)
@@ -65,16 +65,16 @@ slice_bounds-push-end c = sym (length-take-le _ _ c.requires.arcs-first)
 
 pub push-requires : goal.push-requires
 push-requires c =
-    (c.requires.packed, pushing c.requires.stepping c.requires.kept (drawn (goal.at.push-requires c).After-draw-g))
+    record { packed = c.requires.packed; pushing = pushing c.requires.stepping c.requires.kept (drawn (goal.at.push-requires c).After-draw-g) }
 
 pub load-ended-requires : goal.load-ended-requires
 load-ended-requires c =
-    subst₂ (λ x y. Loading (part loads_from (m (goal.at.load-ended-requires c).Start) c.keep.last.1.1.0) x c.args.threshold y c.draw-g.result) (sym c.requires.caps-are) (sym c.requires.path-is)
+    subst₂ (λ x y. Loading (part loads_from (m (goal.at.load-ended-requires c).Start) c.keep.new.tables) x c.args.threshold y c.draw-g.result) (sym c.requires.caps-are) (sym c.requires.path-is)
     (loading c.requires.stepping c.requires.kept (drawn (goal.at.load-ended-requires c).After-draw-g) (kept (goal.at.load-ended-requires c).After-keep).loads)
 
 pub lengthen-grown-requires : goal.lengthen-grown-requires
 lengthen-grown-requires c =
-    subst₂ (λ x y. Lengthening (part lengths_from (m (goal.at.lengthen-grown-requires c).Start) (put loads_from (m (goal.at.lengthen-grown-requires c).Start) c.keep.last.1.1.0 c.load-ended.new.0)) x c.args.q c.draw-g.result y c.args.p.weight) (sym c.requires.caps-are) (sym c.requires.path-is)
+    subst₂ (λ x y. Lengthening (part lengths_from (m (goal.at.lengthen-grown-requires c).Start) (put loads_from (m (goal.at.lengthen-grown-requires c).Start) c.keep.new.tables c.load-ended.new.loads)) x c.args.q c.draw-g.result y c.args.p.weight) (sym c.requires.caps-are) (sym c.requires.path-is)
     (lengthening c.requires.stepping c.requires.kept (drawn (goal.at.lengthen-grown-requires c).After-draw-g) (loaded (goal.at.lengthen-grown-requires c).After-load-ended).lengths)
 
 pub count-requires : goal.count-requires
@@ -86,11 +86,11 @@ pub returns : goal.returns
 returns c =
     let z = c.args in
     in-slice (lengthened (goal.at.returns c).After-lengthen-grown)
-    (λ L' Y' K'. Stepped (net-of (goal.at.returns c).Start) z.q z.threshold (chosen (goal.at.returns c).Start) (state_in z.s z.flow.now z.tables.now z.p) (state_of L' c.push.last.0 Y' K' c.count.result) c.count.result)
+    (λ L' Y' K'. Stepped (net-of (goal.at.returns c).Start) z.q z.threshold (chosen (goal.at.returns c).Start) (state_in z.s z.flow.now z.tables.now z.p) (state_of L' c.push.new.flow Y' K' c.count.result) c.count.result)
     (put-together (net-of (goal.at.returns c).Start) z.q z.threshold (chosen (goal.at.returns c).Start) (L (goal.at.returns c).Start) z.flow.now (Y (goal.at.returns c).Start) (part kept_from (m (goal.at.returns c).Start) z.tables.now) z.p
     c.requires.stepping.growing.same c.requires.kept.weight c.requires.stepping.alpha (drawn (goal.at.returns c).After-draw-g)
     c.less_product-better.ensures refl c.push.ensures (kept (goal.at.returns c).After-keep).loads
-    (subst₂ (λ x y. Loaded (part loads_from (m (goal.at.returns c).Start) c.keep.last.1.1.0) x z.threshold y c.draw-g.result c.load-ended.last.0 c.load-ended.result) c.requires.caps-are c.requires.path-is c.load-ended.ensures)
+    (subst₂ (λ x y. Loaded (part loads_from (m (goal.at.returns c).Start) c.keep.new.tables) x z.threshold y c.draw-g.result c.load-ended.new.loads c.load-ended.result) c.requires.caps-are c.requires.path-is c.load-ended.ensures)
     (loaded (goal.at.returns c).After-load-ended).lengths
-    (subst₂ (λ x y. Lengthened (part lengths_from (m (goal.at.returns c).Start) (put loads_from (m (goal.at.returns c).Start) c.keep.last.1.1.0 c.load-ended.last.0)) x z.q c.draw-g.result y c.lengthen-grown.last.0 c.lengthen-grown.result) c.requires.caps-are c.requires.path-is c.lengthen-grown.ensures)
+    (subst₂ (λ x y. Lengthened (part lengths_from (m (goal.at.returns c).Start) (put loads_from (m (goal.at.returns c).Start) c.keep.new.tables c.load-ended.new.loads)) x z.q c.draw-g.result y c.lengthen-grown.new.lengths c.lengthen-grown.result) c.requires.caps-are c.requires.path-is c.lengthen-grown.ensures)
     c.count.ensures)

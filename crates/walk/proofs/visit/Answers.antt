@@ -16,7 +16,7 @@ within : (s : Start) → s.args.arcs ≤ length s.args.path.now
 within s = omega (arith, s.requires.few, s.requires.room)
 
 room : (c : At-loop-i) → 2 * most_nodes ≤ length c.loop-i.path
-room c = omega (arith, c.requires.room, c.enter-used.auto.1.1.1.1.1.0, c.loop-i.invariant.1)
+room c = omega (arith, c.requires.room, c.enter-used.auto.path, c.loop-i.invariant.1)
 
 fits : (c : At-loop-i) → c.args.arcs ≤ length c.loop-i.path
 fits c = omega (arith, room c, c.requires.few)
@@ -71,11 +71,11 @@ loop-i-preserved c =
     let I = c.loop-i.invariant in
     let p = c.requires in (
       collecting-more I.0 p.ends (fits (goal.at.loop-i-preserved c).At-loop-i) c.loop-i-test.true c.beyond-to.ensures (omega (arith, place (goal.at.loop-i-preserved c).In-loop-i)) c.enter-used-in-loop-i.ensures,
-      c.enter-used-in-loop-i.auto.1.1.1.1.1.0 ∙ I.1,
+      c.enter-used-in-loop-i.auto.path ∙ I.1,
     )
 
 pub shape_of-path : goal.shape_of-path
-shape_of-path c = c.loop-i.invariant.1 ∙ c.enter-used.auto.1.1.1.1.1.0
+shape_of-path c = c.loop-i.invariant.1 ∙ c.enter-used.auto.path
 
 pub returns : goal.returns
 returns c =

@@ -29,8 +29,8 @@ few s = omega (arith, node s, s.requires.survey.few)
 page : (s : Start) → length (page_in s.args.t s.args.memory.now) ≡ page_numbers
 page s = part_length (page_from s.args.t) page_numbers s.args.memory.now (omega (arith, few s, s.requires.known.places))
 
-size : (c : After-distances) → length c.distances.new.1.1.1.1.1.0 ≡ page_numbers
-size c = c.distances.auto.1.1.1.1.1.0 ∙ page (goal.at.After-distances c).Start
+size : (c : After-distances) → length c.distances.new.page ≡ page_numbers
+size c = c.distances.auto.page ∙ page (goal.at.After-distances c).Start
 
 pub distances-requires : goal.distances-requires
 distances-requires c =
@@ -48,8 +48,9 @@ pub raise-requires : goal.raise-requires
 raise-requires c =
     let p = c.requires in
     let ends = p.survey.fit.ends in
-    let k = commodities-is p.packed in (
-      record {
+    let k = commodities-is p.packed in
+    record {
+      raising = record {
         packed = p.packed;
         node = few (goal.at.raise-requires c).Start;
         sources = λ i b. omega (arith, ends.sources i (omega (arith, k)), p.survey.few);
@@ -66,14 +67,14 @@ raise-requires c =
         places =
             omega (
               arith,
-              put-length (page_from c.args.t) page_numbers c.args.memory.now c.distances.new.1.1.1.1.1.0
+              put-length (page_from c.args.t) page_numbers c.args.memory.now c.distances.new.page
                   (omega (arith, few (goal.at.raise-requires c).Start, p.known.places))
                   (size (goal.at.raise-requires c).After-distances),
               p.known.places,
             );
-      },
-      omega (arith, p.survey.some, k),
-    )
+      };
+      some = omega (arith, p.survey.some, k);
+    }
 
 pub returns : goal.returns
 returns c =

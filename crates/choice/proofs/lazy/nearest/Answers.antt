@@ -16,17 +16,17 @@ use Rattle.choice.specs.Looked.{Looked, Followed}
 use Rattle.choice.proofs.Slack.{slack}
 use Rattle.choice.proofs.Turns.{turn-falls, turn-noted}
 use Rattle.choice.proofs.lazy.nearest.Goals as goal
-use Rattle.choice.proofs.lazy.nearest.Goals.{After-follow-arcs, After-look-arg-in-loop-s-1, After-look-i, At-loop-s, Joined-then-arcs-gt0, Start}
+use Rattle.choice.proofs.lazy.nearest.Goals.{After-follow-arcs, After-look-i, At-loop-s, Joined-then-arcs-gt0, Start, then-arcs-gt0-via-then-arcs-gt0, then-arcs-gt0-via-else-arcs-gt0+then-net-i}
 
 abbrev net : Start → Network
 net s = net_in s.args.s s.args.net.now
 
 -- the memory behind the search, and the path behind the walk
 abbrev memory-at : After-look-i → List ℕ
-memory-at c = c.look-i.new.1.1.1.1.1.1.0
+memory-at c = c.look-i.new.memory
 
 abbrev path-at : After-follow-arcs → List ℕ
-path-at c = c.follow-arcs.new.1.1.1.1.1.1.0
+path-at c = c.follow-arcs.new.path
 
 -- a commodity is one of few, and its sink is read
 module _ (s : Start) {i : ℕ} (b : i < commodities (net s)) where
@@ -55,10 +55,10 @@ chosen : (c : After-look-i) → c.look-i.result < commodities (net (goal.at.Afte
 chosen c = (looks c).known.least.among
 
 numbers : (c : After-look-i) → length (memory-at c) ≡ length c.args.memory.now
-numbers c = c.look-i.auto.1.1.1.1.1.1.0 ∙ c.loop-s.invariant.1.0
+numbers c = c.look-i.auto.memory ∙ c.loop-s.invariant.1.0
 
 paths : (c : After-follow-arcs) → length (path-at c) ≡ length c.args.path.now
-paths c = c.follow-arcs.auto.1.1.1.1.1.1.0 ∙ c.loop-s.invariant.1.1
+paths c = c.follow-arcs.auto.path ∙ c.loop-s.invariant.1.1
 
 pub look-i-requires : goal.look-i-requires
 look-i-requires c =
@@ -78,14 +78,14 @@ follow-arcs-requires c =
       packed = p.packed;
       survey = p.survey;
       indexed = p.indexed;
-      known = (looks (goal.at.follow-arcs-requires c).After-look-arg-in-loop-s-1).known;
+      known = (looks (goal.at.follow-arcs-requires c).After-look-i).known;
       room = omega (arith, p.room, c.loop-s.invariant.1.1);
     }
 
 pub loop-s-smaller : goal.loop-s-smaller
 loop-s-smaller c =
     turn-falls c.requires.survey c.loop-s.invariant.0 (looks (goal.at.loop-s-smaller c).After-look-i) (follows (goal.at.loop-s-smaller c).After-follow-arcs)
-    (λ q. eqb-false _ _ c.if-net-i.false-raw (to (goal.at.loop-s-smaller c).Start (chosen (goal.at.loop-s-smaller c).After-look-i) ∙ (q ∙ sym (to (goal.at.loop-s-smaller c).Start (among (goal.at.loop-s-smaller c).At-loop-s)))))
+    (λ q. c.if-net-i.false (to (goal.at.loop-s-smaller c).Start (chosen (goal.at.loop-s-smaller c).After-look-i) ∙ (q ∙ sym (to (goal.at.loop-s-smaller c).Start (among (goal.at.loop-s-smaller c).At-loop-s)))))
 
 pub loop-s-preserved : goal.loop-s-preserved
 loop-s-preserved c =
@@ -100,14 +100,16 @@ shape_of-memory c = length-set (memory-at (goal.at.shape_of-memory c).After-look
 -- the walk has arrived, or the sink is the one searched
 ended : (c : Joined-then-arcs-gt0) → (1 ≤ c.follow-arcs.result) ⊎ (sink (net (goal.at.Joined-then-arcs-gt0 c).Start) c.look-i.result ≡ sink (net (goal.at.Joined-then-arcs-gt0 c).Start) c.loop-s.i)
 ended c =
-    ⊎_elim
-    (λ w. inl (omega (arith, w.taken)))
-    (λ w. inr (sym (to (goal.at.Joined-then-arcs-gt0 c).Start (chosen (goal.at.Joined-then-arcs-gt0 c).After-look-i)) ∙ (eqb-true _ _ w.2.taken ∙ to (goal.at.Joined-then-arcs-gt0 c).Start (among (goal.at.Joined-then-arcs-gt0 c).At-loop-s))))
-    c.then-arcs-gt0.branch
+    elim c.then-arcs-gt0.branch [
+      | then-arcs-gt0-via-then-arcs-gt0 w ↦ inl (omega arith)
+      | then-arcs-gt0-via-else-arcs-gt0+then-net-i w ↦
+          inr (sym (to (goal.at.Joined-then-arcs-gt0 c).Start (chosen (goal.at.Joined-then-arcs-gt0 c).After-look-i)) ∙
+          (w.if-net-i.true ∙ to (goal.at.Joined-then-arcs-gt0 c).Start (among (goal.at.Joined-then-arcs-gt0 c).At-loop-s)))
+    ]
 
 pub returns : goal.returns
 returns c =
-    turn-noted c.requires.survey c.loop-s.invariant.0 (looks (goal.at.returns c).After-look-i) (follows (goal.at.returns c).After-follow-arcs) (ended c) c.requires.packed.few-commodities
+    turn-noted c.requires.survey c.loop-s.invariant.0 (looks (goal.at.returns c).After-look-i) (follows (goal.at.returns c).After-follow-arcs) (ended (goal.at.returns c).Joined-then-arcs-gt0) c.requires.packed.few-commodities
 
 pub bounds-memory-32 : goal.bounds-memory-32
 bounds-memory-32 c = omega (arith, c.requires.memory-of.places)

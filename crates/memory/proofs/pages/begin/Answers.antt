@@ -28,7 +28,7 @@ line_up-requires c = omega (arith, size (goal.at.line_up-requires c).In-loop-t, 
 
 pub loop-t-preserved : goal.loop-t-preserved
 loop-t-preserved c =
-    paged-more c.loop-t.invariant (room (goal.at.loop-t-preserved c).In-loop-t) c.line_up.new.1.0 (c.line_up.auto.1.0 ∙ size (goal.at.loop-t-preserved c).In-loop-t) c.line_up.ensures
+    paged-more c.loop-t.invariant (room (goal.at.loop-t-preserved c).In-loop-t) c.line_up.new.page (c.line_up.auto.page ∙ size (goal.at.loop-t-preserved c).In-loop-t) c.line_up.ensures
 
 pub shape_of-memory : goal.shape_of-memory
 shape_of-memory c = c.loop-t.invariant.size

@@ -29,7 +29,7 @@ fill-requires c = omega (arith, size (goal.at.fill-requires c).In-loop-t, c.requ
 
 pub loop-t-preserved : goal.loop-t-preserved
 loop-t-preserved c =
-    paged-more c.loop-t.invariant (room (goal.at.loop-t-preserved c).In-loop-t) c.fill.new.1.1.0 (c.fill.auto.1.1.0 ∙ size (goal.at.loop-t-preserved c).In-loop-t) c.fill.ensures
+    paged-more c.loop-t.invariant (room (goal.at.loop-t-preserved c).In-loop-t) c.fill.new.table (c.fill.auto.table ∙ size (goal.at.loop-t-preserved c).In-loop-t) c.fill.ensures
 
 pub shape_of-memory : goal.shape_of-memory
 shape_of-memory c = c.loop-t.invariant.size

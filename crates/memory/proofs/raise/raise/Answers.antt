@@ -15,7 +15,7 @@ use Rattle.memory.proofs.Leasts.{least_first, least-less, least_other, least-sam
 use Rattle.memory.proofs.Raises.{raised-in-none, raised-in-more, raised-in-bound, raised-in-other}
 use Rattle.memory.proofs.raise.raise.Invariants.{Passed}
 use Rattle.memory.proofs.raise.raise.Goals as goal
-use Rattle.memory.proofs.raise.raise.Goals.{After-raise_at-bound, In-loop-i, Start}
+use Rattle.memory.proofs.raise.raise.Goals.{After-raise_at-bound, In-loop-i, Start, then-bound-memory, else-bound-memory}
 
 module _ {s : Shape} {net ix l : List ℕ} {t : ℕ} {old : List ℕ} (few : s.commodities ≤ most_commodities) (places : memory_numbers ≤ length old) where
   module _ {mid : List ℕ} {i b : ℕ} (P : Passed s net ix l t old mid i b) (among : i < s.commodities) where
@@ -76,8 +76,9 @@ loop-i-init c = record { raised = raised-in-none; leading = inl (refl, refl); wi
 
 pub raise_at-bound-requires : goal.raise_at-bound-requires
 raise_at-bound-requires c =
-    let p = c.requires.raising in (
-      record {
+    let p = c.requires.raising in
+    record {
+      raising = record {
         packed = p.packed;
         node = p.node;
         sources = p.sources;
@@ -85,16 +86,16 @@ raise_at-bound-requires c =
         small = p.small;
         numbers = p.numbers;
         places = omega (arith, p.places, c.loop-i.invariant.raised.numbers);
-      },
-      c.loop-i-test.true,
-    )
+      };
+      among = c.loop-i-test.true;
+    }
 
 -- the memory behind the raising has as many numbers, and the leader's bound is read in it
 abbrev memory-at : After-raise_at-bound → List ℕ
-memory-at c = c.raise_at-bound.new.1.1.1.1.1.1.0
+memory-at c = c.raise_at-bound.new.memory
 
 numbers : (c : After-raise_at-bound) → length (memory-at c) ≡ length c.args.memory.now
-numbers c = c.raise_at-bound.auto.1.1.1.1.1.1.0 ∙ c.loop-i.invariant.raised.numbers
+numbers c = c.raise_at-bound.auto.memory ∙ c.loop-i.invariant.raised.numbers
 
 read : (c : After-raise_at-bound) → let b = c.loop-i.b in
     get_or (memory-at c) (0 + b) 0 ≡ get_or (bounds_in c.args.s (memory-at c)) b 0
@@ -124,10 +125,10 @@ loop-i-preserved c =
     let A = c.raise_at-bound.ensures in
     let P = c.loop-i.invariant in
     let on = c.loop-i-test.true in
-    ⊎_elim
-    (λ w. rw w.1 (passed-less (few-of (goal.at.loop-i-preserved c).Start) c.requires.raising.places P on A (rw (← read (goal.at.loop-i-preserved c).After-raise_at-bound) w.0.taken)))
-    (λ w. rw w.1 (passed-other (few-of (goal.at.loop-i-preserved c).Start) c.requires.raising.places P on A (rw (← read (goal.at.loop-i-preserved c).After-raise_at-bound) w.0.left)))
-    c.if-bound-memory.branch
+    elim c.if-bound-memory.branch [
+      | then-bound-memory w ↦ rw w.b-is (passed-less (few-of (goal.at.loop-i-preserved c).Start) c.requires.raising.places P on A (rw (← read (goal.at.loop-i-preserved c).After-raise_at-bound) w.if-bound-memory.true))
+      | else-bound-memory w ↦ rw w.b-is (passed-other (few-of (goal.at.loop-i-preserved c).Start) c.requires.raising.places P on A (rw (← read (goal.at.loop-i-preserved c).After-raise_at-bound) w.if-bound-memory.false))
+    ]
 
 pub shape_of-memory : goal.shape_of-memory
 shape_of-memory c = c.loop-i.invariant.raised.numbers

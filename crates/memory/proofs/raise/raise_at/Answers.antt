@@ -14,7 +14,7 @@ use Rattle.paths.specs.Through.{through}
 use Rattle.memory.specs.Memory.{page_from, distances_in}
 use Rattle.memory.specs.Raised.{told_by, Greater}
 use Rattle.memory.proofs.raise.raise_at.Goals as goal
-use Rattle.memory.proofs.raise.raise_at.Goals.{After-told-x, Start}
+use Rattle.memory.proofs.raise.raise_at.Goals.{After-told-x, Start, then-bound-x, else-bound-x}
 
 few : (s : Start) → s.args.i < most_commodities
 few s = omega (arith, s.requires.among, s.requires.raising.packed.few-commodities)
@@ -58,9 +58,9 @@ returns c =
     let place : 0 + c.args.i ≡ c.args.i = omega arith in
     rw place (record {
       greater =
-          ⊎_elim
-          (λ w. risen (tells (goal.at.returns c).After-told-x) (rw place at w.0.taken) w.1)
-          (λ w. left (tells (goal.at.returns c).After-told-x) (rw place at w.0.left) (rw place at w.1))
-          c.if-bound-x.branch;
+          elim c.if-bound-x.branch [
+            | then-bound-x w ↦ risen (tells (goal.at.returns c).After-told-x) (rw place at w.if-bound-x.true) w.bound-is
+            | else-bound-x w ↦ left (tells (goal.at.returns c).After-told-x) (rw place at w.if-bound-x.false) (rw place at w.bound-is)
+          ];
       stored = refl;
     })

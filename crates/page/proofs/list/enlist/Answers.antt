@@ -8,17 +8,23 @@ use borrow.Author.Rules.{rules}
 use Rattle.paths.proofs.Enlisting.{met-came, met-stayed}
 use Rattle.paths.proofs.Worklists.{worklist-within}
 use Rattle.page.proofs.list.enlist.Goals as goal
-use Rattle.page.proofs.list.enlist.Goals.{Joined-come}
+use Rattle.page.proofs.list.enlist.Goals.{Joined-come, then-come, else-come}
 
 -- the flag that is written is 0 or 1, and no less than the one that was there
 rises : (c : Joined-come) → let was = get_or c.args.listed.now c.args.v 0 in (was ≤ c.if-come.flag) × (c.if-come.flag ≤ 1)
 rises c =
     let was = c.requires.worklist.flags c.args.v c.requires.node.1 in
-    ⊎_elim (λ w. (omega (arith, w.1, was), omega (arith, w.1))) (λ w. (omega (arith, w.1), omega (arith, w.1, was))) c.if-come.branch
+    elim c.if-come.branch [
+      | then-come w ↦ (omega (arith, w.flag-is, was), omega (arith, w.flag-is))
+      | else-come w ↦ (omega (arith, w.flag-is), omega (arith, w.flag-is, was))
+    ]
 
 pub returns : goal.returns
 returns c =
-    ⊎_elim (λ w. met-came c.requires.worklist c.args.v c.requires.node w.0.taken w.1) (λ w. met-stayed c.requires.worklist c.args.v c.requires.node w.0.left w.1) c.if-come.branch
+    elim c.if-come.branch [
+      | then-come w ↦ met-came c.requires.worklist c.args.v c.requires.node w.if-come.true w.flag-is
+      | else-come w ↦ met-stayed c.requires.worklist c.args.v c.requires.node w.if-come.false w.flag-is
+    ]
 
 pub overflow_sub-result : goal.overflow_sub-result
 overflow_sub-result c = (rises (goal.at.overflow_sub-result c).Joined-come).0

@@ -27,7 +27,7 @@ use Rattle.run.proofs.Longer.{memory-next}
 use Rattle.run.proofs.Noted.{kept-ready}
 use Rattle.run.proofs.Ready.{ready}
 use Rattle.run.proofs.iterations.iterate.Goals as goal
-use Rattle.run.proofs.iterations.iterate.Goals.{After-choose-arg-3-1, After-choose-c, After-keep, Start}
+use Rattle.run.proofs.iterations.iterate.Goals.{After-choose-c, After-keep, Start}
 
 -- the network and the state at entry
 abbrev net : Start → Network
@@ -45,7 +45,7 @@ choose-c-requires c =
     choosing c.requires.room (state (goal.at.choose-c-requires c).Start) (reached (goal.at.choose-c-requires c).Start) refl c.requires.iterating.memory-of
 
 abbrev path : After-choose-c → List ℕ
-path c = c.choose-c.new.1.1.1.1.1.0
+path c = c.choose-c.new.path
 
 abbrev used : After-choose-c → List ℕ
 used c = take c.choose-c.result.used (path c)
@@ -58,7 +58,7 @@ picked c =
     picks (net (goal.at.After-choose-c c).Start) c.requires.iterating.chooses (state (goal.at.After-choose-c c).Start).lengths c.choose-c.result (path c) c.choose-c.ensures.chose
 
 room : (c : After-choose-c) → c.choose-c.result.used ≤ length (path c)
-room c = omega (arith, (picked c).few-used, c.choose-c.auto.1.1.1.1.1.0, c.requires.room.path)
+room c = omega (arith, (picked c).few-used, c.choose-c.auto.path, c.requires.room.path)
 
 is-chosen : (c : After-choose-c) → choice (net (goal.at.After-choose-c c).Start) (state (goal.at.After-choose-c c).Start).lengths ≡ some (chosen c)
 is-chosen c = selected-chosen (net (goal.at.After-choose-c c).Start) (state (goal.at.After-choose-c c).Start).lengths c.choose-c.result (path c) (picked c) (room c)
@@ -68,23 +68,23 @@ slice_bounds-step-end-2 c = room (goal.at.slice_bounds-step-end-2 c).After-choos
 
 pub slice_bounds-step-end-3 : goal.slice_bounds-step-end-3
 slice_bounds-step-end-3 c =
-    sym (length-take-le c.choose-c.result.used (path (goal.at.slice_bounds-step-end-3 c).After-choose-arg-3-1) (room (goal.at.slice_bounds-step-end-3 c).After-choose-arg-3-1))
+    sym (length-take-le c.choose-c.result.used (path (goal.at.slice_bounds-step-end-3 c).After-choose-c) (room (goal.at.slice_bounds-step-end-3 c).After-choose-c))
 
 pub step-r-requires : goal.step-r-requires
 step-r-requires c =
     let a = c.requires.room.lent in
-    let uses = selected-uses (net (goal.at.step-r-requires c).Start) (state (goal.at.step-r-requires c).Start).lengths c.choose-c.result (path (goal.at.step-r-requires c).After-choose-arg-3-1) (picked (goal.at.step-r-requires c).After-choose-arg-3-1) (room (goal.at.step-r-requires c).After-choose-arg-3-1) in
+    let uses = selected-uses (net (goal.at.step-r-requires c).Start) (state (goal.at.step-r-requires c).Start).lengths c.choose-c.result (path (goal.at.step-r-requires c).After-choose-c) (picked (goal.at.step-r-requires c).After-choose-c) (room (goal.at.step-r-requires c).After-choose-c) in
     record {
       packed = a.packed;
       counted = a.counted;
       few = omega (arith, a.counted, a.sound.counts.of-resources);
       places = c.requires.room.tables;
       caps-are = ap (λ n. part resource_capacities_from n c.args.indexes.now) a.counted ∙ c.requires.room.indexed.capacities;
-      arcs-first = omega (arith, (picked (goal.at.step-r-requires c).After-choose-arg-3-1).some_more, length-take-le c.choose-c.result.used (path (goal.at.step-r-requires c).After-choose-arg-3-1) (room (goal.at.step-r-requires c).After-choose-arg-3-1));
+      arcs-first = omega (arith, (picked (goal.at.step-r-requires c).After-choose-c).some_more, length-take-le c.choose-c.result.used (path (goal.at.step-r-requires c).After-choose-c) (room (goal.at.step-r-requires c).After-choose-c));
       path-is = uses;
       stepping =
-          rw (← (picked (goal.at.step-r-requires c).After-choose-arg-3-1).alpha) (subst (λ p. Stepping (net (goal.at.step-r-requires c).Start) c.args.q (chosen (goal.at.step-r-requires c).After-choose-arg-3-1) (path_length (state (goal.at.step-r-requires c).Start).lengths p) (state (goal.at.step-r-requires c).Start)) (sym uses)
-          (ready (net (goal.at.step-r-requires c).Start) c.args.q a.sound (state (goal.at.step-r-requires c).Start) (reached (goal.at.step-r-requires c).Start) (chosen (goal.at.step-r-requires c).After-choose-arg-3-1) (is-chosen (goal.at.step-r-requires c).After-choose-arg-3-1)));
+          rw (← (picked (goal.at.step-r-requires c).After-choose-c).alpha) (subst (λ p. Stepping (net (goal.at.step-r-requires c).Start) c.args.q (chosen (goal.at.step-r-requires c).After-choose-c) (path_length (state (goal.at.step-r-requires c).Start).lengths p) (state (goal.at.step-r-requires c).Start)) (sym uses)
+          (ready (net (goal.at.step-r-requires c).Start) c.args.q a.sound (state (goal.at.step-r-requires c).Start) (reached (goal.at.step-r-requires c).Start) (chosen (goal.at.step-r-requires c).After-choose-c) (is-chosen (goal.at.step-r-requires c).After-choose-c)));
       kept = kept-ready (net (goal.at.step-r-requires c).Start) c.args.q a.sound (state (goal.at.step-r-requires c).Start) (reached (goal.at.step-r-requires c).Start) c.args.threshold c.args.p c.requires.iterating.noted;
     }
 
@@ -94,7 +94,7 @@ keep-requires c =
     (c.requires.room.lent.packed.few-nodes, c.choose-c.ensures.memory-of.places)
 
 -- what was kept, of the network's nodes
-kept : (c : After-keep) → Kept c.step-r.result.halved (net (goal.at.After-keep c).Start).nodes c.choose-c.last.1.1.1.1.0 c.keep.new.1.1.0
+kept : (c : After-keep) → Kept c.step-r.result.halved (net (goal.at.After-keep c).Start).nodes c.choose-c.new.memory c.keep.new.memory
 unfolding net_in
 kept c = c.keep.ensures
 
@@ -107,6 +107,6 @@ returns c =
           iterated (net (goal.at.returns c).Start) z.q z.threshold c.requires.iterating.noted.threshold (state (goal.at.returns c).Start) (reached (goal.at.returns c).Start).valid.table.places (chosen (goal.at.returns c).After-choose-c) (is-chosen (goal.at.returns c).After-choose-c) _ _ c.step-r.ensures;
       memory-of =
           memory-next (net (goal.at.returns c).Start) z.q (chosen (goal.at.returns c).After-choose-c) (state (goal.at.returns c).Start) (reached (goal.at.returns c).Start).valid.lengths c.step-r.result.halved (sound-ends (net (goal.at.returns c).Start) z.q a.sound)
-          a.sound.counts.of-nodes.most a.packed.few-commodities (sym (commodities-is a.packed)) c.choose-c.ensures.memory-of c.keep.auto.1.1.0
+          a.sound.counts.of-nodes.most a.packed.few-commodities (sym (commodities-is a.packed)) c.choose-c.ensures.memory-of c.keep.auto.memory
           c.step-r.ensures.halved (ap (λ x. x.lengths) c.step-r.ensures.state) (kept (goal.at.returns c).After-keep);
     }

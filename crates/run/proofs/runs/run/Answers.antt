@@ -48,39 +48,40 @@ pub iterate-p-requires : goal.iterate-p-requires
 iterate-p-requires c =
     let p = c.requires in
     let i = c.loop-p.invariant in
-    let same = i.1.1.1 in (
-      record {
-        lent = p.0.lent;
-        indexed = p.0.indexed;
-        tables = omega (arith, same.tabled, p.0.tables);
-        path = omega (arith, same.paths, p.0.path);
-      },
-      record { memory-of = i.1.1.0; chooses = p.1.chooses; underway = i.0.underway; noted = i.1.0 },
-    )
+    let same = i.1.1.1 in
+    record {
+      room = record {
+        lent = p.room.lent;
+        indexed = p.room.indexed;
+        tables = omega (arith, same.tabled, p.room.tables);
+        path = omega (arith, same.paths, p.room.path);
+      };
+      iterating = record { memory-of = i.1.1.0; chooses = p.starting.chooses; underway = i.0.underway; noted = i.1.0 };
+    }
 
 abbrev old : After-iterate-p → State
 old c = let l = c.loop-p in state_in c.args.s l.flow l.tables l.p
 
 abbrev new : After-iterate-p → State
 new c =
-    let l = c.iterate-p.new.1.1.1.1.1 in
-    state_in c.args.s l.0 l.1.0 c.iterate-p.result
+    let l = c.iterate-p.new in
+    state_in c.args.s l.flow l.tables c.iterate-p.result
 
 iterated : (c : After-iterate-p) → Iterated (net (goal.at.After-iterate-p c).Start) c.args.q (old c) (new c) c.iterate-p.result
 iterated c = c.iterate-p.ensures.iterated
 
 sizes : (c : After-iterate-p) →
     let z = c.args in
-    let l = c.iterate-p.new.1.1.1.1.1 in
-    Same z.flow.now z.tables.now z.memory.now z.path.now l.0 l.1.0 l.1.1.0 l.1.1.1.0
+    let l = c.iterate-p.new in
+    Same z.flow.now z.tables.now z.memory.now z.path.now l.flow l.tables l.memory l.path
 sizes c =
-    let k = c.iterate-p.auto.1.1.1.1.1 in
+    let k = c.iterate-p.auto in
     let i = c.loop-p.invariant.1.1.1 in
     record {
-      flows = k.0 ∙ i.flows;
-      tabled = k.1.0 ∙ i.tabled;
-      memorised = k.1.1.0 ∙ i.memorised;
-      paths = k.1.1.1.0 ∙ i.paths;
+      flows = k.flow ∙ i.flows;
+      tabled = k.tables ∙ i.tabled;
+      memorised = k.memory ∙ i.memorised;
+      paths = k.path ∙ i.paths;
     }
 
 pub loop-p-smaller : goal.loop-p-smaller

@@ -61,7 +61,7 @@ way s = omega (arith, s.requires.own)
 
 relaxes : (c : After-relax-nearer) → let n = net_in c.args.s c.args.net.now in let i = c.args.into.now in
     Relaxed c.args.lengths.now (node_length n c.args.lengths.now c.args.v) (end_at i c.args.p) (arc_at i c.args.p) c.args.v c.args.dist.now c.relax-nearer.result
-    c.relax-nearer.new.1.1.0
+    c.relax-nearer.new.dist
 relaxes c = taken-relaxed (way (goal.at.After-relax-nearer c).Start) c.relax-nearer.ensures
 
 pub offset_bounds-lengths-e : goal.offset_bounds-lengths-e
@@ -71,10 +71,10 @@ pub bounds-lengths-e : goal.bounds-lengths-e
 bounds-lengths-e c = (crossed (goal.at.bounds-lengths-e c).Start).crossing.arc
 
 pub overflow_mul-way : goal.overflow_mul-way
-overflow_mul-way c = omega (arith, way (goal.at.overflow_mul-way c).Start, (crossed (goal.at.overflow_mul-way c).Start).crossing.ranges)
+overflow_mul-way c = omega (arith, way (goal.at.overflow_mul-way c).Start, (crossed (goal.at.overflow_mul-way c).Start).crossing.fits)
 
 pub overflow_add-way : goal.overflow_add-way
-overflow_add-way c = omega (arith, way (goal.at.overflow_add-way c).Start, (crossed (goal.at.overflow_add-way c).Start).crossing.ranges)
+overflow_add-way c = omega (arith, way (goal.at.overflow_add-way c).Start, (crossed (goal.at.overflow_add-way c).Start).crossing.fits)
 
 pub passed_by-requires : goal.passed_by-requires
 passed_by-requires c = (crossed (goal.at.passed_by-requires c).Start).start
@@ -93,7 +93,10 @@ relax-nearer-requires c = (crossed (goal.at.relax-nearer-requires c).Start).star
 pub enlist-requires : goal.enlist-requires
 unfolding net_in
 enlist-requires c =
-    (c.requires.searching.worklist, leads-from _ _ _ _ (arc (goal.at.enlist-requires c).Start) c.requires.searching.fit.ends)
+    record {
+      worklist = c.requires.searching.worklist;
+      node = leads-from _ _ _ _ (arc (goal.at.enlist-requires c).Start) c.requires.searching.fit.ends;
+    }
 
 pub returns : goal.returns
 unfolding net_in

@@ -4,6 +4,11 @@ use mathlib.Core.Logic.{⊎_elim}
 use borrow.Author.Rules.{rules}
 use Rattle.paths.proofs.Relaxing.{takes, takes_back}
 use Rattle.search.proofs.relax.relax.Goals as goal
+use Rattle.search.proofs.relax.relax.Goals.{then-way-old, else-way-old}
 
 pub returns : goal.returns
-returns c = ⊎_elim (λ w. takes w.0.taken w.1) (λ w. takes_back w.0.left w.1) c.if-way-old.branch
+returns c =
+    elim c.if-way-old.branch [
+      | then-way-old w ↦ takes w.if-way-old.true w.nearest-is
+      | else-way-old w ↦ takes_back w.if-way-old.false w.nearest-is
+    ]

@@ -82,13 +82,13 @@ loop-p-smaller c = omega (arith, c.loop-p-test.true)
 pub loop-p-preserved : goal.loop-p-preserved
 loop-p-preserved c =
     let I = c.loop-p.invariant in
-    let k = c.reach-count.auto.1.1.1.1.1.1.1.1 in
+    let k = c.reach-count.auto in
     record {
       spread = spread-more I.spread c.reach-count.ensures.spread;
       head = c.reach-count.ensures.head ∙ I.head;
       from = omega (arith, I.from);
-      dists = k.0 ∙ I.dists;
-      flags = k.1.0 ∙ I.flags;
+      dists = k.dist ∙ I.dists;
+      flags = k.listed ∙ I.flags;
     }
 
 pub shape_of-dist : goal.shape_of-dist
@@ -102,10 +102,10 @@ returns c =
     spread-all c.loop-p.invariant.spread c.requires.index c.requires.node c.loop-p-test.false
 
 pub overflow_mul-onward : goal.overflow_mul-onward
-overflow_mul-onward c = omega (arith, small c)
+overflow_mul-onward c = omega (arith, small (goal.at.overflow_mul-onward c).After-through-x)
 
 pub overflow_add-onward : goal.overflow_add-onward
-overflow_add-onward c = omega (arith, small c)
+overflow_add-onward c = omega (arith, small (goal.at.overflow_add-onward c).After-through-x)
 
 pub offset_bounds-dist-v : goal.offset_bounds-dist-v
 offset_bounds-dist-v c = omega (arith, c.requires.index.arcs.nodes, c.requires.node)
