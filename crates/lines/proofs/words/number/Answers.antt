@@ -4,11 +4,10 @@ use native.Mathlib.Omega.{arith}
 use borrow.Author.Tests.{ltb-false}
 use Rattle.lines.proofs.Digits.{no-digit-read, room, digit-read, number_read, no_number, no_size, too_long, digit-below, digit-above}
 use Rattle.lines.proofs.words.number.Goals as goal
-use Rattle.lines.proofs.words.number.Goals.{then-word-eq0-via-then-word-eq0, then-word-eq0-via-else-word-eq0+then-word-gt9}
+use mathlib.Core.Logic.{⊎_elim}
 
 pub returns-then-word-eq0 : goal.returns-then-word-eq0
-returns-then-word-eq0 c =
-    elim c.then-word-eq0.branch [ then-word-eq0-via-then-word-eq0 w ↦ no_size _ (omega arith) | then-word-eq0-via-else-word-eq0+then-word-gt9 w ↦ too_long _ (omega arith) ]
+returns-then-word-eq0 c = ⊎_elim (λ w. no_size _ (omega arith)) (λ w. too_long _ (omega arith)) c.then-word-eq0.either
 
 pub loop-i-init : goal.loop-i-init
 loop-i-init c = no-digit-read _ (omega arith) (omega (arith, ltb-false))
