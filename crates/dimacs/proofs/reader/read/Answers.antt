@@ -11,9 +11,6 @@ use Rattle.dimacs.proofs.LineByLine.{ReadTo, none_read, line_read, all_read, lon
 use Rattle.dimacs.proofs.Whole.{read_whole}
 use Rattle.dimacs.proofs.reader.read.Goals as goal
 
-pub returns-then-text-gt-MOST_BYTES : goal.returns-then-text-gt-MOST_BYTES
-returns-then-text-gt-MOST_BYTES c = read_whole _ (c.refuse.ensures ∙ ap result_of (long-file _ (omega arith)))
-
 pub loop-at-init : goal.loop-at-init
 loop-at-init c = none_read _
 
