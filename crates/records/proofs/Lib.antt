@@ -1,12 +1,8 @@
-pub mod Arrays
 pub mod Completed
 pub mod Copying
 pub mod Judged
-pub mod Locals
 pub mod Paired
 pub mod Pairs
-pub mod Places
 pub mod Resourced
 pub mod Served
 pub mod Shaped
-pub mod Slots

@@ -1,7 +1,7 @@
 -- A slice that takes the sources and the sinks of the pairs holds the network of its arcs and of the pairs. Assumes nothing.
 use mathlib.Core.Path.{◌≡◌, refl, sym, ap, ◌∙◌}
 use mathlib.Core.List.{List}
-use Prim.Native.Nat.{ℕ, ◌+◌, ◌-◌, ◌/◌, ◌≤◌}
+use Prim.Native.Nat.{ℕ, ◌+◌, ◌/◌, ◌≤◌}
 use native.Mathlib.Omega.{arith}
 use lib.ListN.{length}
 use Rattle.packed.specs.Packed.{part, net_in, tails_from, heads_from, capacities_from, sources_from, sinks_from, marks_from, limits_from, put, net_numbers}

@@ -44,6 +44,7 @@ pub fn shape(n: u64, m: usize, pairs: usize, limits: &[u64]) -> Shape
 }
 
 // 5, as far as it speaks of flow and lengths, which have this many places.
+#[tactic(auto, unfolding(crate::specs::Records::record_conditions, network::specs::Verdict::verdict))]
 fn check_tables(k: usize, m: usize, r: usize, flow: usize, lengths: usize) -> Verdict
     requires { (k ≤ most_commodities) × (m ≤ most_arcs) }
     ensures { result ≡ verdict (record_conditions k m r flow lengths) }

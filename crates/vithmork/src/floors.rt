@@ -16,8 +16,8 @@ pub extern "C" fn vithmork_site(
     counts: &mut [u8],
 ) -> u64
     ensures { Sited (record { office = office; floors = floors.now; belts = belts.now; pairs = pairs.now; limits = limits.now })
-        (record { flow = flow.entry.now; lengths = lengths.old; answer = answers.old; counts = counts.old })
-        (record { flow = flow.exit.now; lengths = lengths.new; answer = answers.new; counts = counts.new })
+        (record { flow = flow.old; lengths = lengths.old; answer = answers.old; counts = counts.old })
+        (record { flow = flow.new; lengths = lengths.new; answer = answers.new; counts = counts.new })
         result }
 {
     site::solve(

@@ -17,8 +17,8 @@ pub extern "C" fn vithmork_solve(
     counts: &mut [u8],
 ) -> u64
     ensures { Hosted false n q office belts.now pairs.now limits.now
-        (record { flow = flow.entry.now; lengths = lengths.old; answer = answer.old; counts = counts.old })
-        (record { flow = flow.exit.now; lengths = lengths.new; answer = answer.new; counts = counts.new })
+        (record { flow = flow.old; lengths = lengths.old; answer = answer.old; counts = counts.old })
+        (record { flow = flow.new; lengths = lengths.new; answer = answer.new; counts = counts.new })
         result }
 {
     host::solve(

@@ -23,11 +23,12 @@ slice_bounds-write_tables_in-end c =
 
 pub write_tables_in-requires : goal.write_tables_in-requires
 write_tables_in-requires c =
-    let p = c.requires.lent.packed in (
-      record {
+    let p = c.requires.lent.packed in
+    record {
+      solving = record {
         lent = c.requires.lent;
         flows = length-take-le _ (replicate 8192 (pos 0)) (few (goal.at.write_tables_in-requires c).Start) ∙ sym (ap₂ ◌*◌ (commodities-is p) (arcs-is p));
         places = search rules;
-      },
-      c.requires.room,
-    )
+      };
+      room = c.requires.room;
+    }

@@ -35,31 +35,31 @@ module _ (c : After-of_floor-p) where
   fit = fitting first.args.floors.now first.args.i _ _ _ _ _ c.of_floor-p.ensures
 
   few : first.args.i < 16
-  few = omega (arith, first.pre.0, first.pre.1.few)
+  few = omega (arith, first.requires.0, first.requires.1.few)
 
   -- the floor's item and its eight numbers are there
   item : (j : ℕ) → j < floor_numbers → floor_numbers * first.args.i + j < count first.args.floors.now
-  item j h = member_below first.args.floors.now floor_numbers j first.args.i h first.pre.0
+  item j h = member_below first.args.floors.now floor_numbers j first.args.i h first.requires.0
 
   eight-fit : 64 * first.args.i + 64 ≤ length first.args.answers.now
-  eight-fit = omega (arith, first.pre.0, first.pre.1.room)
+  eight-fit = omega (arith, first.requires.0, first.requires.1.room)
 
 -- the seven have come back
-seven : (c : After-solve-returned) → length c.solve-returned.new.1.1.1.1.1.1.1.1.0 ≡ 56
+seven : (c : After-solve-returned) → length c.solve-returned.new.answer ≡ 56
 seven c =
-    c.solve-returned.auto.1.1.1.1.1.1.1.1.0 ∙ part_length (64 * c.args.i + 8) 56 c.args.answers.now (omega (arith, eight-fit (goal.at.After-solve-returned c).After-of_floor-p))
+    c.solve-returned.auto.answer ∙ part_length (64 * c.args.i + 8) 56 c.args.answers.now (omega (arith, eight-fit (goal.at.After-solve-returned c).After-of_floor-p))
 
 answers-length :
     (c : After-solve-returned) →
-    length (put (64 * c.args.i + 8) 56 c.args.answers.now c.solve-returned.new.1.1.1.1.1.1.1.1.0) ≡ length c.args.answers.now
+    length (put (64 * c.args.i + 8) 56 c.args.answers.now c.solve-returned.new.answer) ≡ length c.args.answers.now
 answers-length c =
-    put-length (64 * c.args.i + 8) 56 c.args.answers.now c.solve-returned.new.1.1.1.1.1.1.1.1.0 (omega (arith, eight-fit (goal.at.After-solve-returned c).After-of_floor-p)) (seven c)
+    put-length (64 * c.args.i + 8) 56 c.args.answers.now c.solve-returned.new.answer (omega (arith, eight-fit (goal.at.After-solve-returned c).After-of_floor-p)) (seven c)
 
 pub write-requires : goal.write-requires
 write-requires c = omega (arith, answers-length (goal.at.write-requires c).After-solve-returned, eight-fit (goal.at.write-requires c).After-of_floor-p)
 
 pub shape_of-answers : goal.shape_of-answers
-shape_of-answers c = c.write.auto.0 ∙ answers-length (goal.at.shape_of-answers c).After-solve-returned
+shape_of-answers c = c.write.auto.s ∙ answers-length (goal.at.shape_of-answers c).After-solve-returned
 
 pub returns : goal.returns
 returns c =

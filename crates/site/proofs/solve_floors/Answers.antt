@@ -24,10 +24,10 @@ solve_floor-requires c =
 pub loop-i-preserved : goal.loop-i-preserved
 loop-i-preserved c =
     let v = c.loop-i.invariant in
-    let k = c.solve_floor.auto.1.1.1.1.1.1 in (
+    let k = c.solve_floor.auto in (
       omega (arith, c.loop-i-test.true),
       one_more v.1 c.solve_floor.ensures,
-      record { flow = k.0 ∙ v.2.flow; lengths = k.1.0 ∙ v.2.lengths; answers = k.1.1.0 ∙ v.2.answers; counts = k.1.1.1.0 ∙ v.2.counts },
+      record { flow = k.flow ∙ v.2.flow; lengths = k.lengths ∙ v.2.lengths; answers = k.answers ∙ v.2.answers; counts = k.counts ∙ v.2.counts },
     )
 
 pub returns : goal.returns

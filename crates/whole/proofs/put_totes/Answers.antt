@@ -31,7 +31,7 @@ module _ (c : In-loop-i) where
   source-place = omega (arith, member_below first.args.pairs.now 2 0 c.loop-i.i (lit≤ tt) inside)
 
   row : c.loop-i.i * items 4 first.args.belts.now + items 4 first.args.belts.now ≤ count first.args.flow.now
-  row = omega (arith, first.pre.rows, mul-le-mul_right (items 4 first.args.belts.now) inside)
+  row = omega (arith, first.requires.rows, mul-le-mul_right (items 4 first.args.belts.now) inside)
 
 -- its amounts' place, in the numbers that were read
 row_at : (c : After-read-source) → c.loop-i.i * c.items-m.result ≡ c.loop-i.i * items 4 (first (goal.at.After-read-source c).In-loop-i).args.belts.now
@@ -53,7 +53,11 @@ sent_is c = c.leaves.ensures ∙ leaves_of (goal.at.After-leaves c).After-read-s
 
 pub leaves-requires : goal.leaves-requires
 leaves-requires c =
-    (omega (arith, row (goal.at.leaves-requires c).In-loop-i, row_at c), rw (leaves_of c) ((first (goal.at.leaves-requires c).In-loop-i).pre.small _ (inside (goal.at.leaves-requires c).In-loop-i)))
+    let a = (goal.at.leaves-requires c).After-read-source in
+    record {
+      rows = omega (arith, row (goal.at.leaves-requires c).In-loop-i, row_at a);
+      small = rw (leaves_of a) (c.requires.small _ (inside (goal.at.leaves-requires c).In-loop-i));
+    }
 
 pub overflow_mul-scaled : goal.overflow_mul-scaled
 overflow_mul-scaled c =

@@ -16,7 +16,7 @@ use Rattle.call.proofs.ReadBack.{taken-up, answered, turned_down, had-room}
 use Rattle.whole.specs.Whole.{lacks}
 use Rattle.whole.proofs.Reading.{totes-are, readable}
 use Rattle.whole.proofs.solve.Goals as goal
-use Rattle.whole.proofs.solve.Goals.{After-counts-1, After-solve-result, Start, Then-result-eq0}
+use Rattle.whole.proofs.solve.Goals.{After-solve-result, Start, Then-result-eq0}
 
 -- the network and the slices at entry
 abbrev net : Start → Network
@@ -28,8 +28,8 @@ lent s = slices s.args.flow.now s.args.lengths.now s.args.answer.now s.args.coun
 -- what the shared call has left
 abbrev left : After-solve-result → Slices
 left c =
-    let t = c.solve-result.new.1.1.1.1.1.1 in
-    slices t.0 t.1.0 t.1.1.0 t.1.1.1.0
+    let t = c.solve-result.new in
+    slices t.flow t.lengths t.answer t.counts
 
 -- the table of totes is too small, as the code and as the contract say it
 lacking : (c : After-solve-result) → ltb c.count.result (2 * c.items.result) ≡ lacks (net (goal.at.After-solve-result c).Start) c.args.totes.now
@@ -51,15 +51,15 @@ accepted c = answered (hosted (goal.at.Then-result-eq0 c).After-solve-result) c.
 pub put_totes-requires : goal.put_totes-requires
 put_totes-requires c =
     let h = hosted (goal.at.put_totes-requires c).After-solve-result in
-    let a = accepted (goal.at.put_totes-requires c).After-counts-1 in
-    let kept = c.solve-result.auto.1.1.1.1.1.1 in
+    let a = accepted (goal.at.put_totes-requires c).Then-result-eq0 in
+    let kept = c.solve-result.auto in
     let room = had-room (lacks (net (goal.at.put_totes-requires c).Start) c.args.totes.now) (net (goal.at.put_totes-requires c).Start) c.args.q c.args.office (lent (goal.at.put_totes-requires c).Start) a in
-    readable _ _ _ _ h a c.args.totes.now (omega (arith, room.0.for-flow, kept.0)) (omega (arith, room.1, kept.1.1.0)) (ltb-false _ _ room.2)
+    readable _ _ _ _ h a c.args.totes.now (omega (arith, room.0.for-flow, kept.flow)) (omega (arith, room.1, kept.answer)) (ltb-false _ _ room.2)
 
 pub returns-then-result-eq0 : goal.returns-then-result-eq0
 returns-then-result-eq0 c =
     let h = hosted (goal.at.returns-then-result-eq0 c).After-solve-result in
-    let a = accepted (goal.at.returns-then-result-eq0 c).After-counts-1 in
+    let a = accepted (goal.at.returns-then-result-eq0 c).Then-result-eq0 in
     record {
       hosted = h;
       table = c.put_totes.ensures ∙ (ap (written c.args.totes.now) (totes-are _ _ _ _ h a) ∙ sym (taken-up a _ _));

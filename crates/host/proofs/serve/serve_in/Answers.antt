@@ -12,7 +12,7 @@ use Rattle.call.specs.Deliver.{slices}
 use Rattle.call.specs.Host.{Slices}
 use Rattle.call.proofs.Judged.{fits, lends, judged-of, served-refused, served-accepted}
 use Rattle.host.proofs.serve.serve_in.Goals as goal
-use Rattle.host.proofs.serve.serve_in.Goals.{After-decode, After-decode-arg-1, In_default, In_default-1, Start}
+use Rattle.host.proofs.serve.serve_in.Goals.{After-decode, In_default, Start}
 
 -- the slices at entry
 abbrev lent : Start → Slices
@@ -20,19 +20,19 @@ lent s = slices s.args.flow.now s.args.lengths.now s.args.answer.now s.args.runn
 
 -- the network as it was read
 abbrev net : After-decode → Network
-net c = net_in c.args.s c.decode.new.1.1.1.1.0
+net c = net_in c.args.s c.decode.new.net
 
-packs : (c : After-decode) → Packed c.args.s c.decode.new.1.1.1.1.0
+packs : (c : After-decode) → Packed c.args.s c.decode.new.net
 packs c =
     let p = c.requires.places in
-    record { few-nodes = p.few-nodes; few-limits = p.few-limits; few-arcs = p.few-arcs; few-commodities = p.few-commodities; places = omega (arith, p.places, c.decode.auto.1.1.1.1.0) }
+    record { few-nodes = p.few-nodes; few-limits = p.few-limits; few-arcs = p.few-arcs; few-commodities = p.few-commodities; places = omega (arith, p.places, c.decode.auto.net) }
 
 -- its resources are those that the shape counts
 counted : (c : After-decode) → c.args.s.resources ≡ resources (net c)
 counted c = c.requires.sizes.shaped.counted ∙ ap resources (sym c.decode.ensures)
 
 pub check_items-v-requires : goal.check_items-v-requires
-check_items-v-requires c = packs (goal.at.check_items-v-requires c).After-decode-arg-1
+check_items-v-requires c = packs (goal.at.check_items-v-requires c).After-decode
 
 pub host_number-requires : goal.host_number-requires
 host_number-requires c =
@@ -50,10 +50,13 @@ accepted c = sym c.check_items-v.ensures ∙ c.in_default.is
 
 pub deliver-requires : goal.deliver-requires
 deliver-requires c =
-    (lends (packs (goal.at.deliver-requires c).After-decode) c.args.q c.requires.sizes.counts (counted (goal.at.deliver-requires c).After-decode) (accepted (goal.at.deliver-requires c).In_default-1), c.requires.sizes.open-for)
+    record {
+      lent = lends (packs (goal.at.deliver-requires c).After-decode) c.args.q c.requires.sizes.counts (counted (goal.at.deliver-requires c).After-decode) (accepted (goal.at.deliver-requires c).In_default);
+      room = c.requires.sizes.open-for;
+    }
 
 pub returns : goal.returns
 returns c =
-    let l = c.deliver.last.1.1.1 in
+    let l = c.deliver.new in
     judged-of c.decode.ensures
-    (served-accepted (net (goal.at.returns c).After-decode) c.args.q (verdict (item_conditions (net (goal.at.returns c).After-decode))) (lent (goal.at.returns c).Start) 0 (slices l.0 l.1.0 l.1.1.0 l.1.1.1.0) (accepted (goal.at.returns c).In_default) refl c.deliver.ensures)
+    (served-accepted (net (goal.at.returns c).After-decode) c.args.q (verdict (item_conditions (net (goal.at.returns c).After-decode))) (lent (goal.at.returns c).Start) 0 (slices l.flow l.lengths l.answer l.running) (accepted (goal.at.returns c).In_default) refl c.deliver.ensures)

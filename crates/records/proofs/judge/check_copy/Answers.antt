@@ -1,7 +1,6 @@
 -- `records::judge::check_copy` meets its contract: what is checked is the network of the copied arcs, the pairs and the limits. Assumes nothing.
 use mathlib.Core.Path.{ap, ◌∙◌}
 use native.Mathlib.Omega.{arith}
-use borrow.Author.Rules.{rules}
 use Rattle.network.specs.Network.{Network}
 use Rattle.network.specs.Verdict.{verdict, item_conditions}
 use Rattle.records.proofs.Shaped.{packs, completing, copied_is}
@@ -16,7 +15,7 @@ complete-requires c =
 
 pub check_items-requires : goal.check_items-requires
 check_items-requires c =
-    packs c.args.pairs.now c.args.limits.now c.shape-s.ensures c.requires _ (omega (arith, c.complete.auto.1.1.1.0, c.well_formed.1.1.0))
+    packs c.args.pairs.now c.args.limits.now c.shape-s.ensures c.requires _ (omega (arith, c.complete.auto.net, c.well_formed.1.1.0))
 
 pub returns : goal.returns
 returns c =

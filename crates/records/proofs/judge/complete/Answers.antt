@@ -1,7 +1,6 @@
 -- `records::judge::complete` meets its contract: pairs and limits stand beside the arcs. Assumes nothing.
 use mathlib.Core.Path.{◌∙◌}
 use native.Mathlib.Omega.{arith}
-use borrow.Author.Rules.{rules}
 use Rattle.records.proofs.Completed.{completed}
 use Rattle.records.proofs.judge.complete.Goals as goal
 
@@ -21,7 +20,7 @@ put_pairs-requires c =
             few-limits = h.few-limits;
             few-arcs = h.few-arcs;
             few-commodities = h.few-commodities;
-            places = omega (arith, h.places, c.put_limits.auto.1.1.0);
+            places = omega (arith, h.places, c.put_limits.auto.net);
           };
       each = p.each;
     }

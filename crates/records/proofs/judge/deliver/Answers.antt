@@ -2,7 +2,6 @@
 use mathlib.Core.Path.{◌≡◌, ap, ◌∙◌}
 use native.Mathlib.Omega.{arith}
 use lib.ListN.{take}
-use borrow.Author.Rules.{rules}
 use Rattle.network.specs.Network.{Network}
 use Rattle.network.specs.Verdict.{verdict, item_conditions}
 use Rattle.packed.specs.Packed.{net_in}
@@ -24,7 +23,7 @@ complete-requires c =
 -- the network in the slice is the call's
 held : (c : After-complete) →
     let s = c.args in
-    net_in c.shape-s.result c.complete.new.1.1.1.0 ≡ network_copied s.n s.m s.arcs s.pairs.now (take s.n s.limits.now)
+    net_in c.shape-s.result c.complete.new.net ≡ network_copied s.n s.m s.arcs s.pairs.now (take s.n s.limits.now)
 held c =
     let s = c.args in
     c.complete.ensures ∙ copied_is s.pairs.now s.limits.now c.shape-s.ensures s.arcs
@@ -37,7 +36,7 @@ deliver_in-requires c =
     let ls = c.args.limits.now in
     record {
       lent =
-          lends c.args.q (packs ps ls e (checking p) _ (omega (arith, c.complete.auto.1.1.1.0, c.well_formed.1.1.1.0))) (shape-counts ps ls e p)
+          lends c.args.q (packs ps ls e (checking p) _ (omega (arith, c.complete.auto.net, c.well_formed.1.1.1.0))) (shape-counts ps ls e p)
           (counted ps ls e c.args.arcs p.counts.of-arcs.most (omega (arith, c.well_formed.1.1.1.0)) (held (goal.at.deliver_in-requires c).After-complete))
           (ap (λ (x : Network). verdict (item_conditions x)) (held (goal.at.deliver_in-requires c).After-complete) ∙ c.requires.items);
       room = shape-room ps ls e p;

@@ -5,11 +5,10 @@ use Prim.Native.Nat.{ℕ, ◌+◌, ◌*◌, ◌≤◌}
 use native.Mathlib.Omega.{arith}
 use lib.ListN.{length, take, length-replicate}
 use lib.Seq.{length-take-le}
-use borrow.Author.Rules.{rules}
 use Rattle.packed.proofs.Columns.{part_length, arcs-is, commodities-is}
 use Rattle.records.proofs.Judged.{placed, replied-accepted}
 use Rattle.records.proofs.judge.deliver_in.Goals as goal
-use Rattle.records.proofs.judge.deliver_in.Goals.{After-solve-answer, After-tables-1, Start}
+use Rattle.records.proofs.judge.deliver_in.Goals.{After-solve-answer, Start}
 
 -- what is lent of each table
 module _ (s : Start) where
@@ -37,20 +36,20 @@ solve-answer-requires c =
     record { lent = c.requires.lent; flows = rw (commodities-is p, arcs-is p) (flows (goal.at.solve-answer-requires c).Start); places = omega (arith, length-replicate {A = ℕ} 768 0) }
 
 -- the kept lengths are as many as the resources
-kept-many : (c : After-solve-answer) → 512 + r (goal.at.After-solve-answer c).Start ≤ length c.solve-answer.new.1.1.1.1.0
-kept-many c = omega (arith, few (goal.at.After-solve-answer c).Start, c.solve-answer.auto.1.1.1.1.0, length-replicate {A = ℕ} 768 0)
+kept-many : (c : After-solve-answer) → 512 + r (goal.at.After-solve-answer c).Start ≤ length c.solve-answer.new.tables
+kept-many c = omega (arith, few (goal.at.After-solve-answer c).Start, c.solve-answer.auto.tables, length-replicate {A = ℕ} 768 0)
 
 pub slice_bounds-copy-end-3 : goal.slice_bounds-copy-end-3
 slice_bounds-copy-end-3 c = sym (bests (goal.at.slice_bounds-copy-end-3 c).Start)
 
 pub copy-requires : goal.copy-requires
 copy-requires c =
-    bests (goal.at.copy-requires c).Start ∙ sym (part_length _ (r (goal.at.copy-requires c).Start) c.solve-answer.new.1.1.1.1.0 (omega (arith, kept-many (goal.at.copy-requires c).After-tables-1)))
+    bests (goal.at.copy-requires c).Start ∙ sym (part_length _ (r (goal.at.copy-requires c).Start) c.solve-answer.new.tables (omega (arith, kept-many (goal.at.copy-requires c).After-solve-answer)))
 
 pub returns : goal.returns
 returns c =
     let v = c.solve-answer in
     replied-accepted _ c.args.q c.args.flow.now c.args.lengths.now _ _ v.result v.ensures.answers
-    (placed _ _ c.args.flow.now _ v.ensures.flows (v.kept.1.1.1.0 ∙ flows (goal.at.returns c).Start))
-    (placed _ _ c.args.lengths.now _ (c.copy.ensures ∙ v.ensures.lengths) (c.copy.auto.1.0 ∙ bests (goal.at.returns c).Start))
+    (placed _ _ c.args.flow.now _ v.ensures.flows (v.auto.flow ∙ flows (goal.at.returns c).Start))
+    (placed _ _ c.args.lengths.now _ (c.copy.ensures ∙ v.ensures.lengths) (c.copy.auto.to ∙ bests (goal.at.returns c).Start))
     v.ensures.guarantee

@@ -1,11 +1,8 @@
 -- `records::judge::halve` meets its contract. The loop's invariant: the first i places have taken their numbers. The measure is what is left of the
 -- places. Assumes nothing.
 use mathlib.Core.Path.{refl, sym, ◌∙◌}
-use Prim.Native.Nat.{◌+◌, ◌*◌, ◌-◌}
 use native.Mathlib.Omega.{arith}
-use lib.ListN.{length, get_or}
-use borrow.Author.Rules.{rules}
-use Rattle.tables.proofs.Filled.{Filling, fill_none, fill_more, fill-all}
+use Rattle.tables.proofs.Filled.{fill_none, fill_more, fill-all}
 use Rattle.records.specs.Parts.{half_of}
 use Rattle.records.proofs.Pairs.{length-half, half_at}
 use Rattle.records.proofs.judge.halve.Goals as goal

@@ -1,6 +1,5 @@
 -- `records::judge::put_limits` meets its contract: the limits that are read stand in their column. Assumes nothing.
 use mathlib.Core.Path.{sym, ◌∙◌}
-use borrow.Author.Rules.{rules}
 use Rattle.packed.specs.Packed.{limits_from}
 use Rattle.packed.proofs.Columns.{part_length}
 use Rattle.records.proofs.Completed.{limits-room, limits-many, put-limits-length, limited}

@@ -1,7 +1,6 @@
 -- `records::judge::put_pairs` meets its contract: both columns take their numbers, and those of the arcs stay. Assumes nothing.
 use mathlib.Core.Path.{◌∙◌}
 use native.Mathlib.Omega.{arith}
-use borrow.Author.Rules.{rules}
 use Rattle.packed.proofs.Columns.{part_length}
 use Rattle.records.proofs.Paired.{sinks-column, paired-length, paired}
 use Rattle.records.proofs.judge.put_pairs.Goals as goal

@@ -1,7 +1,6 @@
 -- `records::sizes::check_call` meets its contract: its shape is checked. Assumes nothing.
 use mathlib.Core.Path.{ap, ◌∙◌}
 use mathlib.Core.List.{◌++◌}
-use borrow.Author.Rules.{rules}
 use Rattle.network.specs.Verdict.{verdict, size_conditions}
 use Rattle.packed.specs.declared.Shape.{Shape}
 use Rattle.records.specs.Records.{record_conditions}

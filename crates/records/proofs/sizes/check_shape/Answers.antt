@@ -1,6 +1,5 @@
 -- `records::sizes::check_shape` meets its contract: the sizes come before the tables. Assumes nothing.
 use mathlib.Core.Path.{sym, ◌∙◌}
-use borrow.Author.Rules.{rules}
 use Rattle.network.proofs.Decided.{accepted-quiet}
 use Rattle.network.proofs.First.{refused-first, accepted-first}
 use Rattle.network.proofs.Sizes.{sizes-kept}

@@ -1,13 +1,13 @@
 -- `records::sizes::count_given` meets its contract. The loop's invariant: so many of the first i are not 0. The measure is what is left of c.
 -- Assumes nothing.
-use mathlib.Core.Path.{◌≡◌, refl, sym, ap, ◌∙◌}
-use mathlib.Core.Logic.{⊎_elim}
-use Prim.Native.Nat.{◌+◌, ◌-◌, ◌≤◌}
+use mathlib.Core.Path.{refl, sym, ap, ◌∙◌}
+use Prim.Native.Nat.{◌+◌}
 use native.Mathlib.Nat.{le_antisymm}
 use native.Mathlib.Omega.{arith}
 use Rattle.network.specs.Given.{given}
 use Rattle.network.proofs.Given.{given-most, given-zero, given-one}
 use Rattle.records.proofs.sizes.count_given.Goals as goal
+use Rattle.records.proofs.sizes.count_given.Goals.{then-limits-i-ne0, else-limits-i-ne0}
 
 pub loop-i-init : goal.loop-i-init
 unfolding given
@@ -22,10 +22,10 @@ loop-i-preserved c =
     let xs = c.args.limits.now in
     let i = c.loop-i.i in (
       omega arith,
-      ⊎_elim
-          (λ w. w.1 ∙ (ap (λ r. r + 1) c.loop-i.invariant.1 ∙ sym (given-one xs i w.0.taken)))
-          (λ w. w.1 ∙ (c.loop-i.invariant.1 ∙ sym (given-zero xs i w.0.left)))
-          c.if-limits-i-ne0.branch,
+      elim c.if-limits-i-ne0.branch [
+        | then-limits-i-ne0 w ↦ w.r-is ∙ (ap (λ r. r + 1) c.loop-i.invariant.1 ∙ sym (given-one xs i w.if-limits-i-ne0.true))
+        | else-limits-i-ne0 w ↦ w.r-is ∙ (c.loop-i.invariant.1 ∙ sym (given-zero xs i w.if-limits-i-ne0.false))
+      ],
     )
 
 pub returns : goal.returns

@@ -1,14 +1,13 @@
 -- `records::sizes::shape` meets its contract: as many limits are read as there are nodes, or fewer where fewer are given. Assumes nothing.
 use mathlib.Core.Path.{◌≡◌, refl}
-use mathlib.Core.Logic.{⊎_elim}
 use native.Mathlib.Omega.{arith}
 use Rattle.network.proofs.Given.{given-most}
 use Rattle.records.specs.Parts.{limits_read}
 use Rattle.records.proofs.sizes.shape.Goals as goal
-use Rattle.records.proofs.sizes.shape.Goals.{Joined-n-all}
+use Rattle.records.proofs.sizes.shape.Goals.{Joined-n-all, then-n-all, else-n-all}
 
 read : (c : Joined-n-all) → c.if-n-all.c ≡ limits_read c.args.n c.args.limits.now
-read c = ⊎_elim (λ w. omega (arith, w.0.taken, w.1)) (λ w. omega (arith, w.0.left, w.1)) c.if-n-all.branch
+read c = elim c.if-n-all.branch [ then-n-all w ↦ omega arith | else-n-all w ↦ omega arith ]
 
 pub count_given-requires : goal.count_given-requires
 count_given-requires c = omega (arith, read c)

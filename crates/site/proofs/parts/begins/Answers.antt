@@ -23,7 +23,7 @@ module _ (c : In-loop-f) where
   first = (goal.at.In-loop-f c).Start
 
   place : floor_numbers * c.loop-f.f + first.args.j < count first.args.floors.now
-  place = member_below first.args.floors.now floor_numbers first.args.j c.loop-f.f first.pre.0 (omega (arith, c.loop-f-test.true, first.pre.1))
+  place = member_below first.args.floors.now floor_numbers first.args.j c.loop-f.f first.requires.0 (omega (arith, c.loop-f-test.true, first.requires.1))
 
   within : c.loop-f.from ≤ first.args.room
   within = omega (arith, c.loop-f.invariant.1, begins-most first.args.floors.now first.args.j first.args.room c.loop-f.f)

@@ -22,7 +22,7 @@ use Rattle.tables.specs.Calls.{Ranking}
 use Rattle.solver.specs.Solved.{answer_of}
 use Rattle.solver.proofs.Solving.{solved-none, solved-some, ranking}
 use Rattle.solver.proofs.outcomes.outcome.Goals as goal
-use Rattle.solver.proofs.outcomes.outcome.Goals.{After-choose-first, After-run-arg-4-1, After-run-p, Else-first-ge-FAR_LENGTH, Start}
+use Rattle.solver.proofs.outcomes.outcome.Goals.{After-choose-first, After-run-p, Else-first-ge-FAR_LENGTH, Start}
 
 -- the network at entry; the lengths are those of the definition's start
 abbrev net : Start → Network
@@ -35,7 +35,7 @@ pub choose-first-requires : goal.choose-first-requires
 choose-first-requires c =
     choosing c.requires.room (initial (net (goal.at.choose-first-requires c).Start)) (reached-start (net (goal.at.choose-first-requires c).Start) c.args.q c.requires.room.lent.sound) (first (goal.at.choose-first-requires c).Start) c.requires.cleared.memory-of
 
-chose : (c : After-choose-first) → Chose (net (goal.at.After-choose-first c).Start) (initial (net (goal.at.After-choose-first c).Start)).lengths c.choose-first.result c.choose-first.new.1.1.1.1.1.0
+chose : (c : After-choose-first) → Chose (net (goal.at.After-choose-first c).Start) (initial (net (goal.at.After-choose-first c).Start)).lengths c.choose-first.result c.choose-first.new.path
 chose c = rw (← (first (goal.at.After-choose-first c).Start)) c.choose-first.ensures.chose
 
 pub returns-then-first-ge-FAR_LENGTH : goal.returns-then-first-ge-FAR_LENGTH
@@ -48,7 +48,7 @@ returns-then-first-ge-FAR_LENGTH c =
     (ap (λ t. t.flow) start)
     (ap (λ t. t.best_lengths) start))
 
-picked : (c : Else-first-ge-FAR_LENGTH) → Picked (net (goal.at.Else-first-ge-FAR_LENGTH c).Start) (initial (net (goal.at.Else-first-ge-FAR_LENGTH c).Start)).lengths c.choose-first.result c.choose-first.last.1.1.1.1.1.0
+picked : (c : Else-first-ge-FAR_LENGTH) → Picked (net (goal.at.Else-first-ge-FAR_LENGTH c).Start) (initial (net (goal.at.Else-first-ge-FAR_LENGTH c).Start)).lengths c.choose-first.result c.choose-first.new.path
 picked c = (chose (goal.at.Else-first-ge-FAR_LENGTH c).After-choose-first).something c.if-first-ge-FAR_LENGTH.false
 
 chooses : (c : Else-first-ge-FAR_LENGTH) → Chooses (net (goal.at.Else-first-ge-FAR_LENGTH c).Start)
@@ -56,16 +56,23 @@ chooses c = always (net (goal.at.Else-first-ge-FAR_LENGTH c).Start) (initial (ne
 
 pub run-p-requires : goal.run-p-requires
 run-p-requires c =
-    let p = c.requires in (
-      record { lent = p.0.lent; indexed = p.0.indexed; tables = p.0.tables; path = omega (arith, c.choose-first.auto.1.1.1.1.1.0, p.0.path) },
-      record { memory-of = c.choose-first.ensures.memory-of; chooses = chooses (goal.at.run-p-requires c).Else-first-ge-FAR_LENGTH; start = p.1.state; weight = p.1.weight },
-    )
+    let r = c.requires.room in
+    let k = c.requires.cleared in
+    record {
+      room = record { lent = r.lent; indexed = r.indexed; tables = r.tables; path = omega (arith, c.choose-first.auto.path, r.path) };
+      starting = record {
+        memory-of = c.choose-first.ensures.memory-of;
+        chooses = chooses (goal.at.run-p-requires c).Else-first-ge-FAR_LENGTH;
+        start = k.state;
+        weight = k.weight;
+      };
+    }
 
 abbrev tables : After-run-p → List ℕ
-tables c = c.run-p.new.1.1.1.1.1.0
+tables c = c.run-p.new.tables
 
 room : (c : After-run-p) → table_numbers ≤ length (tables c)
-room c = omega (arith, c.run-p.auto.1.1.1.1.1.0, c.requires.room.tables)
+room c = omega (arith, c.run-p.auto.tables, c.requires.room.tables)
 
 few : (c : After-run-p) → c.args.s.resources ≤ most_arcs
 few c = let a = c.requires.room.lent in omega (arith, a.counted, a.sound.counts.of-resources)
@@ -88,22 +95,22 @@ slice_bounds-answer-end c = omega (arith, few (goal.at.slice_bounds-answer-end c
 pub answer-requires : goal.answer-requires
 answer-requires c =
     record {
-      few = few (goal.at.answer-requires c).After-run-arg-4-1;
-      places = room (goal.at.answer-requires c).After-run-arg-4-1;
+      few = few (goal.at.answer-requires c).After-run-p;
+      places = room (goal.at.answer-requires c).After-run-p;
       ranking =
-          subst (Ranking (loads_in c.args.s (tables (goal.at.answer-requires c).After-run-arg-4-1))) (sym (caps-are (goal.at.answer-requires c).After-run-arg-4-1))
-          (ranking (net (goal.at.answer-requires c).Start) c.args.q c.requires.room.lent.sound (chooses (goal.at.answer-requires c).Else-first-ge-FAR_LENGTH) (loads_in c.args.s (tables (goal.at.answer-requires c).After-run-arg-4-1)) (ap (λ t. t.loads) c.run-p.ensures) (loaded (goal.at.answer-requires c).After-run-arg-4-1));
+          subst (Ranking (loads_in c.args.s (tables (goal.at.answer-requires c).After-run-p))) (sym (caps-are (goal.at.answer-requires c).After-run-p))
+          (ranking (net (goal.at.answer-requires c).Start) c.args.q c.requires.room.lent.sound (chooses (goal.at.answer-requires c).Else-first-ge-FAR_LENGTH) (loads_in c.args.s (tables (goal.at.answer-requires c).After-run-p)) (ap (λ t. t.loads) c.run-p.ensures) (loaded (goal.at.answer-requires c).After-run-p));
     }
 
 pub returns : goal.returns
 returns c =
     rw (c.answer.ensures ∙ ap (λ caps. answer_of caps (loads_in c.args.s (tables (goal.at.returns c).After-run-p)) c.run-p.result) (caps-are (goal.at.returns c).After-run-p))
-    (solved-some (net (goal.at.returns c).Start) c.args.q c.requires.room.lent.sound _ (picked (goal.at.returns c).Else-first-ge-FAR_LENGTH).chosen c.run-p.last.1.1.1.1.0 (kept_in c.args.s (tables (goal.at.returns c).After-run-p))
+    (solved-some (net (goal.at.returns c).Start) c.args.q c.requires.room.lent.sound _ (picked (goal.at.returns c).Else-first-ge-FAR_LENGTH).chosen c.run-p.new.flow (kept_in c.args.s (tables (goal.at.returns c).After-run-p))
     (loads_in c.args.s (tables (goal.at.returns c).After-run-p)) (lengths_in c.args.s (tables (goal.at.returns c).After-run-p)) c.run-p.result c.run-p.ensures (loaded (goal.at.returns c).After-run-p))
 
 -- memory and path keep their size in the search and in the run
 pub shape_of-memory : goal.shape_of-memory
-shape_of-memory c = c.run-p.auto.1.1.1.1.1.1.0 ∙ c.choose-first.auto.1.1.1.1.0
+shape_of-memory c = c.run-p.auto.memory ∙ c.choose-first.auto.memory
 
 pub shape_of-path : goal.shape_of-path
-shape_of-path c = c.run-p.auto.1.1.1.1.1.1.1.0 ∙ c.choose-first.auto.1.1.1.1.1.0
+shape_of-path c = c.run-p.auto.path ∙ c.choose-first.auto.path

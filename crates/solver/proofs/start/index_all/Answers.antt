@@ -15,13 +15,13 @@ resource_capacities-requires c =
       counted = a.counted;
       whole =
           part_length resource_capacities_from c.args.s.resources
-          (put index_numbers index_numbers (put 0 index_numbers c.args.indexes.now c.index_into.last.1.1.0) c.index_out.new.1.1.0)
-          (space c.args.indexes.now c.index_into.last.1.1.0 c.index_out.new.1.1.0 c.args.s.resources c.requires.few c.requires.room
-          c.index_into.auto.1.1.0 c.index_out.auto.1.1.0);
+          (put index_numbers index_numbers (put 0 index_numbers c.args.indexes.now c.index_into.new.ix) c.index_out.new.ix)
+          (space c.args.indexes.now c.index_into.new.ix c.index_out.new.ix c.args.s.resources c.requires.few c.requires.room
+          c.index_into.auto.ix c.index_out.auto.ix);
     }
 
 pub returns : goal.returns
 returns c =
-    indexed c.args.indexes.now c.index_into.last.1.1.0 c.index_out.new.1.1.0 c.args.s.resources c.requires.few c.requires.room
-    c.index_into.auto.1.1.0 c.index_out.auto.1.1.0 (net_in c.args.s c.args.net.now) c.requires.indexable.counted
-    c.resource_capacities.new.1.1.0 c.resource_capacities.auto.1.1.0 c.index_into.ensures c.index_out.ensures c.resource_capacities.ensures
+    indexed c.args.indexes.now c.index_into.new.ix c.index_out.new.ix c.args.s.resources c.requires.few c.requires.room
+    c.index_into.auto.ix c.index_out.auto.ix (net_in c.args.s c.args.net.now) c.requires.indexable.counted
+    c.resource_capacities.new.table c.resource_capacities.auto.table c.index_into.ensures c.index_out.ensures c.resource_capacities.ensures

@@ -42,18 +42,18 @@ start-weight-requires c =
 
 -- the tables of the resources after each call that changes them
 started : (c : After-start-weight) → let T = c.args.tables.now in
-    Tabled (m (goal.at.After-start-weight c).Start) (put lengths_from (m (goal.at.After-start-weight c).Start) T c.start-weight.new.1.0) c.start-weight.new.1.0 (part loads_from (m (goal.at.After-start-weight c).Start) T) (part kept_from (m (goal.at.After-start-weight c).Start) T)
+    Tabled (m (goal.at.After-start-weight c).Start) (put lengths_from (m (goal.at.After-start-weight c).Start) T c.start-weight.new.lengths) c.start-weight.new.lengths (part loads_from (m (goal.at.After-start-weight c).Start) T) (part kept_from (m (goal.at.After-start-weight c).Start) T)
 started c =
-    with-lengths (tabled (m (goal.at.After-start-weight c).Start) c.args.tables.now (few (goal.at.After-start-weight c).Start) c.requires.tabled) c.start-weight.new.1.0 c.start-weight.auto.1.0
+    with-lengths (tabled (m (goal.at.After-start-weight c).Start) c.args.tables.now (few (goal.at.After-start-weight c).Start) c.requires.tabled) c.start-weight.new.lengths c.start-weight.auto.lengths
 
 unloaded : (c : After-clear) → let T = c.args.tables.now in
-    Tabled (m (goal.at.After-clear c).Start) (put loads_from (m (goal.at.After-clear c).Start) (put lengths_from (m (goal.at.After-clear c).Start) T c.start-weight.last.1.0) c.clear.new.0) c.start-weight.last.1.0 c.clear.new.0 (part kept_from (m (goal.at.After-clear c).Start) T)
-unloaded c = with-loads (started (goal.at.After-clear c).After-start-weight) c.clear.new.0 c.clear.auto.0
+    Tabled (m (goal.at.After-clear c).Start) (put loads_from (m (goal.at.After-clear c).Start) (put lengths_from (m (goal.at.After-clear c).Start) T c.start-weight.new.lengths) c.clear.new.table) c.start-weight.new.lengths c.clear.new.table (part kept_from (m (goal.at.After-clear c).Start) T)
+unloaded c = with-loads (started (goal.at.After-clear c).After-start-weight) c.clear.new.table c.clear.auto.table
 
 cleared : (c : After-clear-2) → let T = c.args.tables.now in
-    Tabled (m (goal.at.After-clear-2 c).Start) (put kept_from (m (goal.at.After-clear-2 c).Start) (put loads_from (m (goal.at.After-clear-2 c).Start) (put lengths_from (m (goal.at.After-clear-2 c).Start) T c.start-weight.last.1.0) c.clear.last.0) c.clear-2.new.0) c.start-weight.last.1.0
-    c.clear.last.0 c.clear-2.new.0
-cleared c = with-kept (unloaded (goal.at.After-clear-2 c).After-clear) c.clear-2.new.0 c.clear-2.auto.0
+    Tabled (m (goal.at.After-clear-2 c).Start) (put kept_from (m (goal.at.After-clear-2 c).Start) (put loads_from (m (goal.at.After-clear-2 c).Start) (put lengths_from (m (goal.at.After-clear-2 c).Start) T c.start-weight.new.lengths) c.clear.new.table) c.clear-2.new.table) c.start-weight.new.lengths
+    c.clear.new.table c.clear-2.new.table
+cleared c = with-kept (unloaded (goal.at.After-clear-2 c).After-clear) c.clear-2.new.table c.clear-2.auto.table
 
 pub returns : goal.returns
 unfolding net_in
@@ -61,15 +61,15 @@ returns c =
     let z = c.args in let p = c.requires in let net = net_in z.s z.net.now in
     record {
       state =
-          in-slice (cleared (goal.at.returns c).After-clear-2) (λ L Y K. state_of L c.clear_flow.last.0 Y K begun ≡ initial net)
+          in-slice (cleared (goal.at.returns c).After-clear-2) (λ L Y K. state_of L c.clear_flow.new.flow Y K begun ≡ initial net)
           (initial-is net p.caps-are c.start-weight.ensures.lengths c.clear.ensures c.clear-2.ensures c.clear_flow.ensures
           p.lent.counted (part-size (started (goal.at.returns c).After-start-weight) loads_from (omega arith)) (part-size (unloaded (goal.at.returns c).After-clear) kept_from (omega arith)) p.flows);
       memory-of =
           forgotten-memory (sound-ends net z.q p.lent.sound) p.lent.sound.counts.of-nodes.most p.lent.packed.few-commodities
           (sym (commodities-is p.lent.packed)) p.lent.sound.counts.of-commodities.least
-          (omega (arith, c.forget.auto.1.0, c.begin.auto.1.0, p.memorised)) (begun-ordered c.begin.ensures) c.forget.ensures _;
+          (omega (arith, c.forget.auto.memory, c.begin.auto.memory, p.memorised)) (begun-ordered c.begin.ensures) c.forget.ensures _;
       weight =
-          in-slice (cleared (goal.at.returns c).After-clear-2) (λ L Y K. c.start-weight.result ≡ weight net L) (weight_is net p.caps-are c.start-weight.last.1.0 c.start-weight.ensures.weight);
+          in-slice (cleared (goal.at.returns c).After-clear-2) (λ L Y K. c.start-weight.result ≡ weight net L) (weight_is net p.caps-are c.start-weight.new.lengths c.start-weight.ensures.weight);
     }
 
 pub begin-requires : goal.begin-requires
@@ -80,4 +80,4 @@ begin-requires c =
 pub forget-requires : goal.forget-requires
 forget-requires c =
     let p = c.requires in
-    (p.lent.packed.few-nodes, omega (arith, c.begin.auto.1.0, p.memorised))
+    (p.lent.packed.few-nodes, omega (arith, c.begin.auto.memory, p.memorised))

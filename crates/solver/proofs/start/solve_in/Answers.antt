@@ -23,7 +23,7 @@ prepare-weight-requires c =
     let p = c.requires in
     record {
       lent = p.lent;
-      caps-are = ap (λ n. part resource_capacities_from n c.index_all.new.1.1.0) p.lent.counted ∙ c.index_all.ensures.capacities;
+      caps-are = ap (λ n. part resource_capacities_from n c.index_all.new.indexes) p.lent.counted ∙ c.index_all.ensures.capacities;
       flows = p.flows;
       tabled = p.tabled;
       memorised = p.memorised;
@@ -31,24 +31,25 @@ prepare-weight-requires c =
 
 pub outcome-requires : goal.outcome-requires
 outcome-requires c =
-    let p = c.requires in (
-      record {
+    let p = c.requires in
+    record {
+      room = record {
         lent = p.lent;
         indexed = c.index_all.ensures;
-        tables = omega (arith, c.prepare-weight.auto.1.1.1.1.1.0, p.tabled);
+        tables = omega (arith, c.prepare-weight.auto.tables, p.tabled);
         path = p.path-of;
-      },
-      c.prepare-weight.ensures,
-    )
+      };
+      cleared = c.prepare-weight.ensures;
+    }
 
 pub shape_of-indexes : goal.shape_of-indexes
-shape_of-indexes c = c.index_all.auto.1.1.0
+shape_of-indexes c = c.index_all.auto.indexes
 
 pub shape_of-flow : goal.shape_of-flow
-shape_of-flow c = c.outcome.auto.1.1.1.1.0 ∙ c.prepare-weight.auto.1.1.1.1.0
+shape_of-flow c = c.outcome.auto.flow ∙ c.prepare-weight.auto.flow
 
 pub shape_of-tables : goal.shape_of-tables
-shape_of-tables c = c.outcome.auto.1.1.1.1.1.0 ∙ c.prepare-weight.auto.1.1.1.1.1.0
+shape_of-tables c = c.outcome.auto.tables ∙ c.prepare-weight.auto.tables
 
 pub shape_of-memory : goal.shape_of-memory
-shape_of-memory c = c.outcome.auto.1.1.1.1.1.1.0 ∙ c.prepare-weight.auto.1.1.1.1.1.1.0
+shape_of-memory c = c.outcome.auto.memory ∙ c.prepare-weight.auto.memory
