@@ -1,6 +1,5 @@
 -- `listing::read_full` meets its contract: what a read gave stands behind what stood in front. Assumes nothing.
 use Rattle.std.proofs.Common.{◌≡◌, ℕ, ◌+◌, ◌≤◌, List, ◌++◌, length, take, arith, length-append}
-use Rattle.std.specs.Io.KnownBytes.{Consumes}
 use Rattle.std.proofs.KnownBytes.{Consumes-trans}
 use Rattle.std.proofs.Math.Seq.{take-add, drop_at, length-take-le}
 use Rattle.std.proofs.lemmas.List.{take-append-le}

@@ -11,7 +11,6 @@ use Rattle.dimacs.specs.File.{holds, parsed}
 use Rattle.rows.specs.Row.{delimited, header}
 use Rattle.report.specs.Shown.{network_of_file}
 use Rattle.report.proofs.Written.{listed-refused, listed-held}
-use borrow.Author.Rules.{rules}
 use Rattle.report.proofs.file.listing.Goals as goal
 use Rattle.report.proofs.file.listing.Goals.{After-pack}
 

@@ -1,9 +1,8 @@
 -- `report::file::pack` meets its contract: each column takes its numbers, and those behind and before it stay. Assumes nothing.
 use mathlib.Core.Path.{◌≡◌, refl, sym, ap, ◌∙◌}
 use mathlib.Core.List.{List}
-use Prim.Native.Nat.{ℕ, ◌+◌, ◌-◌, ◌≤◌}
+use Prim.Native.Nat.{ℕ, ◌≤◌}
 use native.Mathlib.Omega.{arith}
-use borrow.Rule.Slice.PartMut.{put_mid}
 use lib.ListN.{length, set, take}
 use lib.Seq.{length-take-le}
 use Rattle.bounds.specs.Bounds.{most_arcs}
@@ -11,7 +10,6 @@ use Rattle.packed.specs.Packed.{net_numbers, tails_from, heads_from, capacities_
 use Rattle.packed.proofs.Columns.{part_length, put-length}
 use Rattle.report.specs.Shown.{shape_of}
 use Rattle.report.proofs.Packing.{sink-place, filled-length, packed-length, packed}
-use borrow.Author.Rules.{rules}
 use Rattle.report.proofs.file.pack.Goals as goal
 use Rattle.report.proofs.file.pack.Goals.{After-copy, After-copy-2, After-copy-3, Start}
 

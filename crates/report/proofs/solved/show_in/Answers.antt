@@ -5,7 +5,6 @@ use Rattle.packed.specs.Packed.{net_in}
 use Rattle.rows.proofs.Lengths.{answer-length}
 use Rattle.rows.proofs.Puts.{put-within}
 use Rattle.report.proofs.Showing.{one-row, total-small, belted, shown}
-use borrow.Author.Rules.{rules}
 use Rattle.report.proofs.solved.show_in.Goals as goal
 
 pub solve-a-requires : goal.solve-a-requires

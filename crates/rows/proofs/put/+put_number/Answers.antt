@@ -1,7 +1,6 @@
 -- `rows::put::put_number` meets its contract: the digits of x / 10 are put first, and the last digit behind them.
 -- Assumes nothing.
 use native.Mathlib.Omega.{arith}
-use lib.ListN.{length}
 use Rattle.rows.proofs.Numbers.{one-digit, last-digit, one-put, last-put}
 use Rattle.rows.proofs.put.+put_number.Goals as goal
 
