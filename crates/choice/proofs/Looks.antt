@@ -1,8 +1,8 @@
 -- What a search for one sink and the raising of all bounds leave of a memory; and what the walk by a page tells then.
 -- Assumes nothing.
-use mathlib.Core.Path.{◌≡◌, sym, ap, subst, ◌∙◌}
+use mathlib.Core.Path.{◌≡◌, ◌∙◌}
 use mathlib.Core.List.{List}
-use Prim.Native.Nat.{ℕ, ◌≤◌, ◌<◌}
+use Prim.Native.Nat.{ℕ}
 use native.Mathlib.Omega.{arith}
 use lib.ListN.{length, get_or}
 use Rattle.network.specs.Ends.{Node}
@@ -15,11 +15,9 @@ use Rattle.paths.specs.Distances.{Feasible}
 use Rattle.paths.specs.Far.{far}
 use Rattle.paths.specs.Graph.{Table}
 use Rattle.paths.specs.Order.{distance_numbers, page_numbers, Searched}
-use Rattle.paths.specs.Through.{through}
 use Rattle.paths.specs.Walked.{Walked}
 use Rattle.paths.proofs.NodeLengths.{through-is}
-use Rattle.memory.specs.Below.{Below}
-use Rattle.memory.specs.Memory.{bounds_in, page_from, distances_in, Known}
+use Rattle.memory.specs.Memory.{bounds_in, page_from, distances_in}
 use Rattle.memory.specs.Raised.{length_by, Raised, AllRaised}
 use Rattle.memory.proofs.Bounds.{below_raised, raised-shared}
 use Rattle.memory.proofs.Memories.{page-raised, searched-distances, searched-bounds, searched-pages}

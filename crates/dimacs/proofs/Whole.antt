@@ -1,6 +1,6 @@
 -- The tables that a caller of the reader gets have their 256 places, whatever the file.
 -- Assumes nothing.
-use mathlib.Core.Path.{◌≡◌, refl}
+use mathlib.Core.Path.{◌≡◌, refl, sym}
 use mathlib.Core.List.{List}
 use Prim.Native.Nat.{ℕ, ◌≤◌}
 use native.Mathlib.Omega.{arith}
@@ -11,6 +11,7 @@ use Rattle.dimacs.specs.OneCommodity.{OneCommodity}
 use Rattle.dimacs.specs.Result.{padded, result_of, file_code, verdict_code, Read}
 use Rattle.dimacs.specs.declared.Parsed.{Parsed}
 use Rattle.dimacs.proofs.Holds.{network-sizes}
+pub use Rattle.dimacs.proofs.LineByLine.{long-file}
 
 -- The three tables have 256 places, of which the arcs fill the first ones.
 pub record Whole (r : Parsed) : Type 0 where
@@ -38,11 +39,15 @@ outcome-whole (refused r) f = record { few = omega arith; tails = refl; heads = 
 pub whole : (text : List ℕ) {r : Parsed} → r ≡ result_of (parsed text) → Whole r
 whole text e = rw e (outcome-whole (parsed text) (λ net h. network-sizes text h))
 
+-- The number and place of a verdict are the file's.
+pub code_of : (f : File) → file_code f ≡ verdict_code (result_of f).verdict
+unfolding result_of file_code verdict_code
+code_of (holds net) = refl
+code_of (refused w) = refl
+
 -- What the reader's contract says follows from what it hands over.
 pub read_whole : (text : List ℕ) {r : Parsed} → r ≡ result_of (parsed text) → Read text r
-unfolding result_of file_code verdict_code
-read_whole text {r} e = record { result = e; code = rw e (by (parsed text)) }
-  where
-    by : (f : File) → verdict_code (result_of f).verdict ≡ file_code f
-    by (holds net) = refl
-    by (refused w) = refl
+read_whole text {r} e = record { result = e; code = rw e (sym (code_of (parsed text))) }
+
+-- by which a file that is too long is turned down
+pub ruleset long_files = (long-file, code_of)

@@ -199,6 +199,7 @@ fn finish(
 }
 
 // What a file of these bytes comes to.
+#[tactic(auto, using(crate::proofs::Whole::long_files))]
 pub fn read(text: &[u8]) -> Parsed
     ensures { Read text.now result }
 {

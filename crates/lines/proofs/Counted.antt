@@ -67,3 +67,6 @@ module _ (line : List ℕ) (n : ℕ) where
       by true d false e =
           let m : length (words_of line) ≡ n = omega (arith, ltb-true, ltb-false) in
           rw (eq-eqb _ 0 (past (words_of line) n (ltb-false _ _ e)), eq-eqb (length (words_of line)) n m)
+
+-- by which the search proves `kinds::shaped`
+pub ruleset word_counts = (not-alone, too_few, counted)

@@ -11,6 +11,7 @@ use crate::words::{number, word};
 use crate::{Line, Maybe};
 
 // The line has n words, the first of which is its letter alone.
+#[tactic(auto, using(crate::proofs::Counted::word_counts))]
 fn shaped(line: &[u8], n: usize) -> bool
     requires { 0 < n }
     ensures { result ≡ shaped n (words_of line.now) }

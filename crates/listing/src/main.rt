@@ -1,10 +1,11 @@
 // The listing program: standard input to standard output. One byte more is read than a file may have, so that a long file is known as one.
-// A program of Rattle ends with status 0 whatever happens; ./list tells by the line on standard error that the listing is not whole.
+// The program ends with status 0 whatever happens; ./list tells by the line on standard error that the listing is not whole.
 #![tactic(auto)]
 
-ghost use Rattle.std.specs.Prelude.{◌≡◌, length};
+ghost use Rattle.std.specs.Prelude.{◌≡◌, ◌≤◌, length, take};
+ghost use Rattle.std.specs.Io.KnownBytes.{Consumes};
 
-use libc::{STDERR_FILENO, STDIN_FILENO, STDOUT_FILENO};
+use std::io::Read;
 
 // Room for the file.
 fn input() -> [u8; 65537]
@@ -20,16 +21,34 @@ fn output() -> [u8; 24576]
     [0; 24576]
 }
 
-fn main() {
+// Reads until the room is full, the input ends or a read fails; returns how many bytes stand in front.
+fn read_full<R: Read>(from: &mut R, room: &mut [u8]) -> usize
+    ensures within { result ≤ length room.new }
+    ensures bytes { Consumes (R.remaining from.old) (R.remaining from.new) (take result room.new) }
+{
+    let mut done = 0;
+    while done < room.len() {
+        let Ok(n) = from.read(&mut room[done..]) else {
+            break;
+        };
+        if n == 0 {
+            break;
+        }
+        done += n;
+    }
+    done
+}
+
+fn main(rt: HostRuntime) {
     let mut text = input();
-    let n = io::read_full(STDIN_FILENO, &mut text);
+    let n = read_full(&mut rt.stdin(), &mut text);
     let mut out = output();
     let k = report::listing(&text[..n], &mut out);
-    let whole = io::write_all(STDOUT_FILENO, &out[..k]);
-    if !whole {
-        io::write_all(
-            STDERR_FILENO,
-            b"listing: the listing is not whole: standard output is full or closed\n",
+    let whole = rt.write_all(&out[..k]);
+    if whole.is_err() {
+        let told = eprintln!(rt;
+            "listing: the listing is not whole: standard output is full or closed"
         );
+        told.unwrap_or(());
     }
 }

@@ -8,7 +8,7 @@ use borrow.Author.Count.{below_more}
 use lib.ListN.{length, get_or, take, drop, set, length-set}
 use lib.Seq.{get_or-set_same, get_or-set_other, take-set-lt, drop-set-lt, drop-drop}
 use Rattle.bounds.specs.Bounds.{most_commodities}
-use Rattle.packed.specs.Packed.{part, net_in, Packed}
+use Rattle.packed.specs.Packed.{part}
 use Rattle.packed.specs.declared.Shape.{Shape}
 use Rattle.packed.proofs.Columns.{part_at, part_length}
 use Rattle.paths.specs.Order.{distance_numbers}

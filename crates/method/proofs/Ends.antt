@@ -17,7 +17,6 @@ use Rattle.network.specs.Network.{Network}
 use Rattle.network.specs.Resources.{resources, resource_capacity}
 use Rattle.network.specs.Sound.{Sound}
 use Rattle.packing.proofs.Count.{count-below}
-use Rattle.packing.proofs.Run as packing
 use Rattle.method.specs.Choice.{Choice, choice}
 use Rattle.method.specs.Iteration.{State, initial, advance, iteration}
 use Rattle.method.specs.Run.{ended, nth, runs, run}

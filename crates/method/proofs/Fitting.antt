@@ -7,7 +7,6 @@ use native.Mathlib.Nat.{mul-le-mul, mul-le-mul_right, div-add-mod', mod-lt, div-
 use native.Mathlib.Omega.{arith}
 use lib.IntN.{ℤ, pos}
 use lib.ListN.{length, get_or, length-replicate, get_or-eq_default}
-use Rattle.arith.specs.Sum.{sum}
 use Rattle.arith.proofs.Order.{le-or-lt}
 use Rattle.arith.proofs.Sums.{term-le-sum}
 use Rattle.network.specs.Flow.{sizes_on}

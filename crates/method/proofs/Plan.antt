@@ -1,11 +1,10 @@
 -- V is at most B: the plan itself is one of the flows that `upper` speaks of, so both halves of the
 -- guarantee are about the same flows.
 -- Assumes nothing.
-use mathlib.Core.Path.{◌≡◌, ap}
-use Prim.Native.Nat.{ℕ, ◌+◌, ◌*◌, ◌≤◌}
+use mathlib.Core.Path.{ap}
+use Prim.Native.Nat.{ℕ, ◌*◌, ◌≤◌}
 use native.Mathlib.Omega.{arith}
 use lib.IntN.{ℤ}
-use Rattle.network.specs.Flow.{leaving, entering}
 use Rattle.network.specs.Network.{Network}
 use Rattle.network.proofs.Scaled.{scaled, scaled-flow, scaled-keeps, leaving-times, entering-times}
 use Rattle.method.specs.Answer.{Outcome, amounts}

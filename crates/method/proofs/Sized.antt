@@ -13,7 +13,6 @@ use Rattle.network.specs.Resources.{resources, resource_capacities, resource_cap
 use Rattle.network.specs.Sound.{Sound}
 use Rattle.network.proofs.Sounds.{resources-within}
 use Rattle.packing.proofs.Count.{count-below}
-use Rattle.packing.proofs.Run as packing
 use Rattle.packing.proofs.Sizes.{length-pos, length-below, volume-below, grown-below, bound-below, alpha-below, total-le}
 use Rattle.method.specs.Choice.{Choice, used_by, choice}
 use Rattle.method.specs.Iteration.{State, weight, draw, grown, advance}

@@ -4,7 +4,7 @@ use mathlib.Core.Path.{◌≡◌, refl, sym, ap, ◌∙◌}
 use mathlib.Core.Bool.{Bool, true, false, cond}
 use mathlib.Core.Logic.{⊎_elim}
 use mathlib.Core.List.{List}
-use mathlib.Core.Option.{Option, none, some}
+use mathlib.Core.Option.{some}
 use Prim.Native.Nat.{ℕ, zero, suc, ◌*◌, ◌≤◌, ◌<◌}
 use native.Mathlib.Nat.{le_refl, eq-or-lt_of_le, le_of_suc-le-suc, lt_of_mul-lt-mul_left, mul-le-mul_right, mul-lt-mul_of_pos_right}
 use native.Mathlib.Omega.{arith}
@@ -16,7 +16,7 @@ use Rattle.network.specs.Sound.{Sound}
 use Rattle.network.proofs.Sounds.{sound-ends}
 use Rattle.method.specs.Answer.{Outcome, outcome_of, outcome}
 use Rattle.method.specs.Choice.{Choice, used_by, choice}
-use Rattle.method.specs.Iteration.{State, initial, weight, advance, iteration}
+use Rattle.method.specs.Iteration.{State, initial, weight, advance}
 use Rattle.method.specs.Run.{nth, run}
 use Rattle.method.specs.Tightest.{alpha_of, lengths_at, Tightest}
 use Rattle.method.proofs.Ends.{iteration-some, next-count, next-valid, run-final, final-count, final-at}

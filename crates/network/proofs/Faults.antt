@@ -16,7 +16,7 @@ use Rattle.network.specs.declared.Refusal.TheVariants.{Nodes, Arcs, Commodities,
 use Rattle.network.specs.declared.Verdict.{Verdict}
 use Rattle.network.specs.declared.Verdict.TheVariants.{Accepted, Refused}
 use Rattle.network.proofs.Decided.{accepted-quiet, refusal-has}
-use Rattle.network.proofs.Each.{Each, none, more, each_append, each-flat}
+use Rattle.network.proofs.Each.{none, more, each_append, each-flat}
 use Rattle.network.proofs.First.{first-refuses, first-accepts}
 use Rattle.network.proofs.Sizes.{sizes-kept}
 

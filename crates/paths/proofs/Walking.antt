@@ -7,7 +7,7 @@ use Prim.Native.Nat.{ℕ, ◌+◌, ◌≤◌, ◌<◌}
 use native.Mathlib.Nat.{le_refl}
 use native.Mathlib.Numerals.{add-one}
 use native.Mathlib.Omega.{arith}
-use lib.ListN.{length, get_or, take, set, length-append, length-set}
+use lib.ListN.{length, get_or, take, set, length-set}
 use lib.Seq.{length-take-le, take-suc-set}
 use Rattle.arith.proofs.Order.{Compared, below, equal, above, compare}
 use Rattle.network.specs.Ends.{Node}

@@ -1,5 +1,5 @@
 -- What the functions of a search and of a walk ask of the tables that they are lent.
-use Rattle.std.specs.Prelude.{◌≡◌, List, ℕ, ◌+◌, ◌≤◌, ◌<◌, length, get_or}
+use Rattle.std.specs.Prelude.{◌≡◌, List, ℕ, ◌+◌, ◌≤◌, ◌<◌, length}
 use Rattle.network.specs.Ends.{Node}
 use Rattle.network.specs.Network.{Network}
 use Rattle.network.specs.Onward.{node_length}

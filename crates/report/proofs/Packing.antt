@@ -1,9 +1,8 @@
 -- A slice that takes the columns of a network, one after the other, its one source and sink, then marks of 0, holds the network. Assumes nothing.
-use mathlib.Core.Path.{◌≡◌, refl, sym, ap, ◌∙◌}
+use mathlib.Core.Path.{◌≡◌, refl, ap, ◌∙◌}
 use mathlib.Core.List.{List, [], ◌∷◌}
 use Prim.Native.Nat.{ℕ, ◌+◌, ◌-◌, ◌≤◌, ◌<◌}
 use native.Mathlib.Omega.{arith}
-use borrow.Rule.Slice.PartMut.{put_mid, same_len_mid}
 use lib.ListN.{length, set, take, drop, replicate, length-set, length-drop, length-replicate}
 use lib.Seq.{drop-set-add, take-set-le}
 use Rattle.packed.specs.Packed.{part, net_in, net_numbers, tails_from, heads_from, capacities_from, sources_from, sinks_from, marks_from, put}

@@ -20,7 +20,7 @@ use Rattle.call.proofs.Lengths.{lengths-kept}
 use Rattle.call.proofs.ReadBack.{taken-up}
 use Rattle.site.specs.Parts.{told, own, put_own}
 use Rattle.site.specs.Singly.{own_in, Singly}
-use Rattle.site.specs.Site.{Site, networks, network_of, precision_of, lent_to, verdict_of, sent, list_conditions, Sited}
+use Rattle.site.specs.Site.{Site, networks, network_of, precision_of, lent_to, verdict_of, sent, Sited}
 use Rattle.site.specs.Turns.{Guaranteed}
 use Rattle.site.proofs.Eight.{seven-of, returned-read, answer-left}
 use Rattle.site.proofs.Listed.{listed}

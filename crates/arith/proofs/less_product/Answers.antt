@@ -1,6 +1,5 @@
 -- `arith::less_product` meets its contract: both products fit a wide number, and the limbs are compared.
 -- Assumes nothing.
-use borrow.Author.Rules.{rules}
 use native.Mathlib.Omega.{arith}
 use Rattle.arith.specs.Limbs.{from_limbs}
 use Rattle.arith.proofs.Products.{product-fits}

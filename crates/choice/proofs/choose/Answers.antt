@@ -1,5 +1,4 @@
 -- `choice::choose` meets its contract: the nearest commodity, the walk to its sink, and what the walk uses. Assumes nothing.
-use borrow.Author.Rules.{rules}
 use mathlib.Core.Path.{◌≡◌, sym}
 use mathlib.Core.List.{List}
 use Prim.Native.Nat.{ℕ, ◌+◌, ◌<◌, ◌≤◌}

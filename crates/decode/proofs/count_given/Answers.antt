@@ -1,11 +1,9 @@
 -- `decode::count_given` meets its contract. The loop's invariant: so many of the first i are not 0. The measure is what is left of c.
 -- Assumes nothing.
 use mathlib.Core.Path.{◌≡◌, refl, sym, ap, ◌∙◌}
-use mathlib.Core.Logic.{⊎_elim}
-use Prim.Native.Nat.{◌+◌, ◌*◌, ◌-◌, ◌≤◌}
+use Prim.Native.Nat.{◌+◌, ◌*◌}
 use native.Mathlib.Nat.{le_antisymm}
 use native.Mathlib.Omega.{arith}
-use borrow.Author.Rules.{rules}
 use lib.ListN.{get_or}
 use Rattle.network.specs.Given.{given}
 use Rattle.network.proofs.Given.{given-most, given-zero, given-one}

@@ -1,16 +1,9 @@
 -- `decode::count_given` meets its contract. The loop's invariant: so many of the first i are not 0. The measure is what is left of c.
 -- Assumes nothing.
-use mathlib.Core.Path.{◌≡◌, refl, sym, ap, ◌∙◌}
-use mathlib.Core.Logic.{⊎_elim}
-use Prim.Native.Nat.{◌+◌, ◌*◌, ◌-◌, ◌≤◌}
-use native.Mathlib.Nat.{le_antisymm}
-use native.Mathlib.Omega.{arith}
-use borrow.Author.Rules.{rules}
-use lib.ListN.{get_or}
+use mathlib.Core.Path.{◌≡◌}
+use Prim.Native.Nat.{◌-◌, ◌≤◌}
 use Rattle.network.specs.Given.{given}
-use Rattle.network.proofs.Given.{given-most, given-zero, given-one}
-use Rattle.numbers.specs.Numbers.{number_at, column}
-use Rattle.numbers.proofs.Columns.{get_or-column}
+use Rattle.numbers.specs.Numbers.{column}
 use Rattle.decode.proofs.count_given.Given as goal
 
 abbrev pub invariant-loop-i : goal.invariant-loop-i

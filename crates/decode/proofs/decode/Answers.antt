@@ -1,5 +1,4 @@
 -- `decode::decode` meets its contract: the columns of all are the network. Assumes nothing.
-use borrow.Author.Rules.{rules}
 use Rattle.decode.proofs.Decoded.{decoded}
 use Rattle.decode.proofs.decode.Goals as goal
 

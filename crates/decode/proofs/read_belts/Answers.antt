@@ -1,5 +1,4 @@
 -- `decode::read_belts` meets its contract: each column is read to its place, and later ones leave it there. Assumes nothing.
-use borrow.Author.Rules.{rules}
 use Rattle.decode.proofs.Decoded.{fills, belts-read}
 use Rattle.decode.proofs.read_belts.Goals as goal
 

@@ -1,5 +1,4 @@
 -- `decode::read_limits` meets its contract: the column is read to its place. Assumes nothing.
-use borrow.Author.Rules.{rules}
 use Rattle.decode.proofs.Decoded.{fills, limits-read}
 use Rattle.decode.proofs.read_limits.Goals as goal
 

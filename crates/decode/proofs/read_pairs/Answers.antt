@@ -1,5 +1,4 @@
 -- `decode::read_pairs` meets its contract: each column is read to its place, and the second leaves the first there. Assumes nothing.
-use borrow.Author.Rules.{rules}
 use Rattle.decode.proofs.Decoded.{fills, pairs-read}
 use Rattle.decode.proofs.read_pairs.Goals as goal
 

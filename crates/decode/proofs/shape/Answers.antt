@@ -1,9 +1,7 @@
 -- `decode::shape` meets its contract: as many limits are read as there are nodes, or fewer where fewer are given. Assumes nothing.
 use mathlib.Core.Path.{◌≡◌, refl, ap, ◌∙◌}
-use mathlib.Core.Logic.{⊎_elim}
 use Prim.Native.Nat.{◌+◌, min}
 use native.Mathlib.Omega.{arith}
-use borrow.Author.Rules.{rules}
 use Rattle.network.proofs.Given.{given-most}
 use Rattle.numbers.specs.Numbers.{count, items, column}
 use Rattle.decode.proofs.Shapes.{counts}

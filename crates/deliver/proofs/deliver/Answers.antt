@@ -1,5 +1,4 @@
 -- `deliver::deliver` meets its contract: tables, answer and running count take their parts of the outcome. Assumes nothing.
-use borrow.Author.Rules.{rules}
 use mathlib.Core.Path.{ap, ◌∙◌}
 use native.Mathlib.Omega.{arith}
 use Rattle.numbers.specs.Numbers.{written}

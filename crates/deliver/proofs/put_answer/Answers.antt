@@ -1,5 +1,4 @@
 -- `deliver::put_answer` meets its contract. Assumes nothing.
-use borrow.Author.Rules.{rules}
 use Rattle.method.specs.Answer.{numbers_of}
 use Rattle.deliver.proofs.put_answer.Goals as goal
 

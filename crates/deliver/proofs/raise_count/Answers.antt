@@ -1,5 +1,4 @@
 -- `deliver::raise_count` meets its contract. Assumes nothing.
-use borrow.Author.Rules.{rules}
 use mathlib.Core.Path.{◌∙◌}
 use native.Mathlib.Omega.{arith}
 use Rattle.deliver.proofs.raise_count.Goals as goal

@@ -1,5 +1,4 @@
 -- `deliver::write_tables_in` meets its contract: each table takes its part of the outcome. Assumes nothing.
-use borrow.Author.Rules.{rules}
 use mathlib.Core.Path.{◌≡◌, ap, ap₂, ◌∙◌}
 use mathlib.Core.List.{List, map}
 use Prim.Native.Nat.{◌*◌, ◌≤◌}

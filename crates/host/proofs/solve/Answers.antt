@@ -1,5 +1,4 @@
 -- `host::solve` meets its contract, for every input. Assumes nothing.
-use borrow.Author.Rules.{rules}
 use mathlib.Core.Path.{◌≡◌, sym, ap, subst, ◌∙◌}
 use mathlib.Core.List.{List}
 use Rattle.network.specs.Network.{Network}

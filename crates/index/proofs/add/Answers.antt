@@ -3,7 +3,6 @@
 use mathlib.Core.Path.{sym, subst}
 use mathlib.Core.List.{List}
 use Prim.Native.Nat.{ℕ, ◌+◌}
-use borrow.Author.Rules.{rules}
 use Rattle.index.specs.Indexing.{Side, side, Joining, Building}
 use Rattle.index.proofs.Adding.{building-room, building-put}
 use Rattle.index.proofs.Building.{building-on}

@@ -1,12 +1,8 @@
 -- `index::index_by` meets its contract: the nodes passed are in the index, with all their arcs.
 -- Assumes nothing.
 use mathlib.Core.Path.{◌≡◌, refl, ◌∙◌}
-use mathlib.Core.List.{List}
-use Prim.Native.Nat.{ℕ, ◌-◌, ◌≤◌}
 use native.Mathlib.Omega.{arith}
-use lib.ListN.{length, length-set}
-use borrow.Author.Rules.{rules}
-use Rattle.index.specs.Indexing.{Side, side, Building}
+use lib.ListN.{length-set}
 use Rattle.index.proofs.Building.{building-none, building-all}
 use Rattle.index.proofs.index_by.Goals as goal
 

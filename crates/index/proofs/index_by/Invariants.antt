@@ -1,13 +1,10 @@
 -- `index::index_by` meets its contract: the nodes passed are in the index, with all their arcs.
 -- Assumes nothing.
-use mathlib.Core.Path.{◌≡◌, refl, ◌∙◌}
+use mathlib.Core.Path.{◌≡◌}
 use mathlib.Core.List.{List}
 use Prim.Native.Nat.{ℕ, ◌-◌, ◌≤◌}
-use native.Mathlib.Omega.{arith}
-use lib.ListN.{length, length-set}
-use borrow.Author.Rules.{rules}
+use lib.ListN.{length}
 use Rattle.index.specs.Indexing.{Side, side, Building}
-use Rattle.index.proofs.Building.{building-none, building-all}
 use Rattle.index.proofs.index_by.Given as goal
 
 -- the nodes up to v are in the index, in a slice as large as at first

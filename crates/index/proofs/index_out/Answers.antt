@@ -1,6 +1,5 @@
 -- `index::index_out` meets its contract: it has the arcs by the ends at which they are, and the resources of the nodes behind them.
 -- Assumes nothing.
-use borrow.Author.Rules.{rules}
 use Rattle.packed.specs.Packed.{net_in}
 use Rattle.index.proofs.Indexes.{out-indexing, out-index, still-indexable}
 use Rattle.index.proofs.Locating.{index-located}

@@ -1,6 +1,5 @@
 -- `index::limit` meets its contract: node 0 has none, and past the last that is given there is none.
 -- Assumes nothing.
-use borrow.Author.Rules.{rules}
 use mathlib.Core.List.{List, ◌∷◌}
 use mathlib.Core.Path.{◌≡◌, refl, sym}
 use Prim.Native.Nat.{ℕ, zero, suc, ◌-◌, ◌<◌}

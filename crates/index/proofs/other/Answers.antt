@@ -1,7 +1,5 @@
 -- `index::other` meets its contract: the tests are the two ways to join, one after the other.
 -- Assumes nothing.
-use native.Mathlib.Omega.{arith}
-use borrow.Author.Rules.{rules}
 use Rattle.index.proofs.Seeing.{seen-forth, seen_back, seen-one-way, seen_none}
 use Rattle.index.proofs.other.Goals as goal
 

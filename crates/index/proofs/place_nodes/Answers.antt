@@ -1,9 +1,7 @@
 -- `index::place_nodes` meets its contract: the nodes passed have their resources, and next is the next one.
 -- Assumes nothing.
-use borrow.Author.Rules.{rules}
 use mathlib.Core.Path.{◌≡◌, sym, ◌∙◌}
-use mathlib.Core.Logic.{⊎_elim}
-use Prim.Native.Nat.{◌+◌, ◌-◌, ◌<◌, ◌≤◌}
+use Prim.Native.Nat.{◌+◌, ◌<◌, ◌≤◌}
 use native.Mathlib.Omega.{arith}
 use lib.ListN.{length}
 use Rattle.network.specs.Network.{Network, limit}
@@ -11,7 +9,7 @@ use Rattle.packed.specs.Packed.{net_in}
 use Rattle.packed.proofs.Columns.{arcs-is}
 use Rattle.index.specs.Index.{places_from}
 use Rattle.index.proofs.Limits.{place-most}
-use Rattle.index.proofs.Locating.{Locating, locating-none, locating-none-limited, locating-limited, locating-all}
+use Rattle.index.proofs.Locating.{locating-none, locating-none-limited, locating-limited, locating-all}
 use Rattle.index.proofs.place_nodes.Goals as goal
 use Rattle.index.proofs.place_nodes.Goals.{After-limit, In-loop-v, Joined-limit-ne0, Start, then-limit-ne0, else-limit-ne0}
 

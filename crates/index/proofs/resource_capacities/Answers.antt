@@ -1,6 +1,5 @@
 -- `index::resource_capacities` meets its contract: the capacities come first, and the limits behind them.
 -- Assumes nothing.
-use borrow.Author.Rules.{rules}
 use mathlib.Core.Path.{sym, ap, ◌∙◌}
 use native.Mathlib.Omega.{arith}
 use lib.ListN.{take}

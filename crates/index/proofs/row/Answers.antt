@@ -1,12 +1,8 @@
 -- `index::row` meets its contract: the arcs passed are in the index.
 -- Assumes nothing.
 use mathlib.Core.Path.{◌≡◌, refl, ◌∙◌}
-use mathlib.Core.List.{List}
-use Prim.Native.Nat.{ℕ, ◌-◌, ◌≤◌}
 use native.Mathlib.Omega.{arith}
 use lib.ListN.{length, length-set}
-use borrow.Author.Rules.{rules}
-use Rattle.index.specs.Indexing.{Side, side, Building}
 use Rattle.index.proofs.Opening.{building-next}
 use Rattle.index.proofs.row.Goals as goal
 

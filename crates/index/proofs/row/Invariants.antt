@@ -1,13 +1,10 @@
 -- `index::row` meets its contract: the arcs passed are in the index.
 -- Assumes nothing.
-use mathlib.Core.Path.{◌≡◌, refl, ◌∙◌}
+use mathlib.Core.Path.{◌≡◌}
 use mathlib.Core.List.{List}
 use Prim.Native.Nat.{ℕ, ◌-◌, ◌≤◌}
-use native.Mathlib.Omega.{arith}
-use lib.ListN.{length, length-set}
-use borrow.Author.Rules.{rules}
+use lib.ListN.{length}
 use Rattle.index.specs.Indexing.{Side, side, Building}
-use Rattle.index.proofs.Opening.{building-next}
 use Rattle.index.proofs.row.Given as goal
 
 -- the first e arcs are passed, in a slice as large as at first

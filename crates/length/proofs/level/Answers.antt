@@ -1,6 +1,5 @@
 -- `length::level` meets its contract: the constants of the code are the list of the specification.
 -- Assumes nothing.
-use borrow.Author.Rules.{rules}
 use Rattle.length.specs.Level.{level}
 use Rattle.length.specs.Levels.{levels}
 use Rattle.length.proofs.level.Goals as goal

@@ -1,7 +1,6 @@
 -- `length::quotient` meets its contract: the code is the definition.
 -- Assumes nothing.
 use mathlib.Core.Path.{refl}
-use borrow.Author.Rules.{rules}
 use Rattle.arith.specs.Ceiling.{ceil}
 use Rattle.length.proofs.quotient.Goals as goal
 

@@ -1,15 +1,13 @@
 -- `lengths::grow` meets its contract: after j turns the lengths are grown along the first j arcs of the path, with D and the test of the
 -- mark carried along. The arc at place j has not had its turn, so its length is still below the mark.
 -- Assumes nothing.
-use borrow.Author.Rules.{rules}
 use mathlib.Core.Path.{sym, ap, ◌∙◌}
 use mathlib.Core.Bool.{◌||◌, or-true, or-false}
-use mathlib.Core.Logic.{⊎_elim}
 use Prim.Native.Nat.{ℕ, ◌*◌, ◌-◌, ◌^◌, ◌≤◌, ◌<◌}
 use native.Mathlib.Omega.{arith}
 use lib.ListN.{length, get_or}
 use Rattle.lengths.specs.Calls.{Growing}
-use Rattle.lengths.proofs.Lengthened.{Lengthened, lengthen-none, lengthen-more, lengthen-all, next_place, next-short, next-longer, next-rise}
+use Rattle.lengths.proofs.Lengthened.{lengthen-none, lengthen-more, lengthen-all, next_place, next-short, next-longer, next-rise}
 use Rattle.lengths.proofs.grow.Goals as goal
 use Rattle.lengths.proofs.grow.Goals.{After-growth-longer, In-loop-j, then-marked, else-marked}
 

@@ -1,8 +1,7 @@
 -- `lengths::halve` meets its contract: after e turns the first e lengths are halved, with their part of D, and the others are as they were.
 -- Assumes nothing.
 use mathlib.Core.Path.{◌≡◌, sym, ap, ◌∙◌}
-use mathlib.Core.List.{map}
-use Prim.Native.Nat.{ℕ, ◌*◌, ◌-◌, ◌^◌, ◌≤◌, ◌<◌}
+use Prim.Native.Nat.{ℕ, ◌*◌, ◌^◌, ◌≤◌, ◌<◌}
 use native.Mathlib.Nat.{mul-le-mul, mul-le-mul_left}
 use native.Mathlib.Omega.{arith}
 use lib.ListN.{length, get_or, length-map}
@@ -12,7 +11,7 @@ use Rattle.length.proofs.Size.{halving-falls}
 use Rattle.arith.proofs.Lists.{map_at}
 use Rattle.tables.proofs.Filled.{fill-next}
 use Rattle.lengths.proofs.Weighable.{halved-weighable}
-use Rattle.lengths.proofs.Weighed.{Weighing, weigh-none, weigh-more, weigh-all, weighing-most}
+use Rattle.lengths.proofs.Weighed.{weigh-none, weigh-more, weigh-all, weighing-most}
 use Rattle.lengths.proofs.halve.Goals as goal
 use Rattle.lengths.proofs.halve.Goals.{After-halving-half, In-loop-e}
 

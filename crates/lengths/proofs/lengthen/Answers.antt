@@ -1,5 +1,4 @@
 -- `lengths::lengthen` meets its contract. Assumes nothing.
-use borrow.Author.Rules.{rules}
 use Rattle.lengths.proofs.Settling.{grown-settling, lengthened}
 use Rattle.lengths.proofs.lengthen.Goals as goal
 

@@ -1,5 +1,4 @@
 -- `lengths::settle` meets its contract: halved, the lengths come with their D; else D is at hand. Assumes nothing.
-use borrow.Author.Rules.{rules}
 use mathlib.Core.Path.{refl}
 use Rattle.lengths.proofs.settle.Goals as goal
 

@@ -1,7 +1,6 @@
 -- `listing::main` is safe and ends: the listing lies within the room for it. Assumes nothing.
 use mathlib.Core.Path.{sym}
 use lib.Seq.{length-take-le}
-use borrow.Author.Rules.{rules}
 use Rattle.listing.proofs.main.Goals as goal
 
 pub slice_bounds-out-end : goal.slice_bounds-out-end

@@ -1,6 +1,5 @@
 -- `numbers::four` meets its contract: two pairs of bytes, weighed, are the number in the four.
 -- Assumes nothing.
-use borrow.Author.Rules.{rules}
 use native.Mathlib.Omega.{arith}
 use Rattle.numbers.proofs.Parts.{value-join}
 use Rattle.numbers.proofs.four.Goals as goal

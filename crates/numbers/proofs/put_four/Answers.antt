@@ -1,6 +1,5 @@
 -- `numbers::put_four` meets its contract: two pairs of digits, put one behind the other, are the four.
 -- Assumes nothing.
-use borrow.Author.Rules.{rules}
 use native.Mathlib.Omega.{arith}
 use Rattle.numbers.proofs.Splices.{splice-digits}
 use Rattle.numbers.proofs.put_four.Goals as goal

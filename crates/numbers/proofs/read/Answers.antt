@@ -1,6 +1,5 @@
 -- `numbers::read` meets its contract: two halves, weighed, are the number in the eight bytes from 8 * i.
 -- Assumes nothing.
-use borrow.Author.Rules.{rules}
 use Prim.Native.Nat.{◌*◌}
 use native.Mathlib.Omega.{arith}
 use Rattle.numbers.specs.Numbers.{number_at}

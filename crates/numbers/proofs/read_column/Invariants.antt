@@ -1,14 +1,10 @@
 -- `numbers::read_column` meets its contract. The loop's invariant: the first i entries of the column stand over `out`'s own first i.
 -- The measure is what is left of n. Assumes nothing.
-use mathlib.Core.Path.{◌≡◌, refl}
+use mathlib.Core.Path.{◌≡◌}
 use mathlib.Core.List.{◌++◌}
-use Prim.Native.Nat.{◌+◌, ◌*◌, ◌-◌, ◌<◌, ◌≤◌}
-use native.Mathlib.Nat.{le_antisymm}
-use native.Mathlib.Omega.{arith}
-use borrow.Author.Rules.{rules}
-use lib.ListN.{length, drop, length-set}
-use Rattle.numbers.specs.Numbers.{count, column}
-use Rattle.numbers.proofs.Columns.{member_below, column-more}
+use Prim.Native.Nat.{◌-◌, ◌≤◌}
+use lib.ListN.{length, drop}
+use Rattle.numbers.specs.Numbers.{column}
 use Rattle.numbers.proofs.read_column.Given as goal
 
 abbrev pub invariant-loop-i : goal.invariant-loop-i

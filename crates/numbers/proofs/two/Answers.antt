@@ -1,6 +1,5 @@
 -- `numbers::two` meets its contract: its two bytes, weighed, are the number in them.
 -- Assumes nothing.
-use borrow.Author.Rules.{rules}
 use native.Mathlib.Omega.{arith}
 use Rattle.numbers.proofs.Parts.{value-pair}
 use Rattle.numbers.proofs.two.Goals as goal

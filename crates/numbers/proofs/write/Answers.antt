@@ -1,6 +1,5 @@
 -- `numbers::write` meets its contract: two halves, put one behind the other from 8 * i, are the eight digits of the number.
 -- Assumes nothing.
-use borrow.Author.Rules.{rules}
 use Prim.Native.Nat.{◌*◌}
 use native.Mathlib.Omega.{arith}
 use Rattle.numbers.specs.Digits.{to_bytes}

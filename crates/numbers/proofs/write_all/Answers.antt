@@ -1,11 +1,9 @@
 -- `numbers::write_all` meets its contract. The loop's invariant: the first i numbers of `xs` are written, and `s` has its length.
 -- The measure is what is left of n. Assumes nothing.
-use mathlib.Core.Path.{◌≡◌, refl}
-use Prim.Native.Nat.{◌-◌, ◌≤◌}
+use mathlib.Core.Path.{refl}
 use native.Mathlib.Nat.{le_antisymm}
 use native.Mathlib.Omega.{arith}
 use borrow.Author.Rules.{rules}
-use lib.ListN.{length, take}
 use Rattle.numbers.specs.Numbers.{encode, written}
 use Rattle.numbers.proofs.Tables.{written-more}
 use Rattle.numbers.proofs.write_all.Goals as goal

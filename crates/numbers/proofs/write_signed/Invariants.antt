@@ -1,18 +1,11 @@
 -- `numbers::write_signed` meets its contract. The loop's invariant: the first i amounts of `xs` are written, and `s` has its length.
 -- The measure is what is left of n. Assumes nothing.
-use mathlib.Core.Path.{◌≡◌, refl, ap, ◌∙◌}
+use mathlib.Core.Path.{◌≡◌}
 use mathlib.Core.List.{map}
 use Prim.Native.Nat.{◌-◌, ◌≤◌}
-use native.Mathlib.Nat.{le_antisymm}
-use native.Mathlib.Omega.{arith}
-use borrow.Author.Rules.{rules}
-use lib.IntN.{pos}
-use lib.ListN.{length, take, get_or}
-use mir.Syntax.{w64}
-use mir.ValLaws.{to_z-of_z}
+use lib.ListN.{length, take}
 use Rattle.signed.specs.Signed.{twos}
-use Rattle.numbers.specs.Numbers.{encode, written}
-use Rattle.numbers.proofs.Signed.{signed-more}
+use Rattle.numbers.specs.Numbers.{written}
 use Rattle.numbers.proofs.write_signed.Given as goal
 
 abbrev pub invariant-loop-i : goal.invariant-loop-i

@@ -1,6 +1,5 @@
 -- `paths::through` meets its contract: past the last length there is none.
 -- Assumes nothing.
-use borrow.Author.Rules.{rules}
 use mathlib.Core.Path.{sym}
 use lib.ListN.{get_or-eq_default}
 use Rattle.paths.proofs.through.Goals as goal

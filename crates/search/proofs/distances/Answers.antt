@@ -1,7 +1,6 @@
 -- `search::distances` meets its contract: its list is empty, and has room for each node.
 -- Assumes nothing.
 use native.Mathlib.Omega.{arith}
-use borrow.Author.Rules.{rules}
 use Rattle.paths.proofs.Worklists.{worklist-zeros}
 use Rattle.search.proofs.distances.Goals as goal
 

@@ -2,7 +2,6 @@
 -- none.
 -- Assumes nothing.
 use mathlib.Core.Path.{◌≡◌, refl, sym, ap, ◌∙◌}
-use mathlib.Core.Logic.{⊎_elim}
 use mathlib.Core.List.{List, ◌++◌}
 use Prim.Native.Nat.{ℕ, ◌+◌, ◌≤◌}
 use native.Mathlib.Omega.{arith}
@@ -14,7 +13,7 @@ use Rattle.paths.specs.Far.{far}
 use Rattle.paths.specs.Worklist.{Enlisted}
 use Rattle.paths.specs.Order.{order_from}
 use Rattle.paths.specs.Scan.{Waits, Scanning}
-use Rattle.paths.specs.Searching.{total, Searching, Any}
+use Rattle.paths.specs.Searching.{Searching, Any}
 use Rattle.paths.proofs.Exchanging.{rearranged-none}
 use Rattle.paths.proofs.Fars.{searching-start}
 use Rattle.paths.proofs.Orders.{ordered-arranged, ordered-scanning, ordered-waits}

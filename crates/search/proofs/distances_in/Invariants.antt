@@ -1,25 +1,13 @@
 -- `search::distances_in` meets its contract: a node is put on the list only where an entry falls, and each turn takes one off; so it ends, with
 -- none.
 -- Assumes nothing.
-use mathlib.Core.Path.{◌≡◌, refl, sym, ap, ◌∙◌}
-use mathlib.Core.Logic.{⊎_elim}
-use mathlib.Core.List.{List, ◌++◌}
-use Prim.Native.Nat.{ℕ, ◌+◌, ◌≤◌}
-use native.Mathlib.Omega.{arith}
-use lib.ListN.{length, set, drop, replicate}
+use mathlib.Core.Path.{◌≡◌}
+use mathlib.Core.List.{List}
+use Prim.Native.Nat.{ℕ, ◌+◌}
+use lib.ListN.{length}
 use Rattle.network.specs.Network.{Network}
 use Rattle.packed.specs.Packed.{net_in}
-use Rattle.paths.specs.Calls.{Seeking}
-use Rattle.paths.specs.Far.{far}
-use Rattle.paths.specs.Worklist.{Enlisted}
-use Rattle.paths.specs.Order.{order_from}
-use Rattle.paths.specs.Scan.{Waits, Scanning}
 use Rattle.paths.specs.Searching.{total, Searching, Any}
-use Rattle.paths.proofs.Exchanging.{rearranged-none}
-use Rattle.paths.proofs.Fars.{searching-start}
-use Rattle.paths.proofs.Orders.{ordered-arranged, ordered-scanning, ordered-waits}
-use Rattle.paths.proofs.Pages.{searched}
-use Rattle.paths.proofs.Searches.{searching-out}
 use Rattle.search.proofs.distances_in.Given as goal
 
 -- no arc into a node that is not on the list shortens, in tables as large as at first

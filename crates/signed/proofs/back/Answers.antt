@@ -1,5 +1,4 @@
 -- `signed::back` meets its contract. Assumes nothing.
-use borrow.Author.Rules.{rules}
 use mathlib.Core.Path.{refl}
 use native.Mathlib.Omega.{arith}
 use Rattle.signed.specs.Signed.{back}

@@ -1,5 +1,4 @@
 -- `signed::more` meets its contract: the sum's size is at most that required. Assumes nothing.
-use borrow.Author.Rules.{rules}
 use lib.IntN.{pos, ◌+ℤ◌}
 use mir.Syntax.{w64}
 use mir.Val.{of_z}

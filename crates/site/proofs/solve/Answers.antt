@@ -1,5 +1,4 @@
 -- `site::solve` meets its contract, for every input. Assumes nothing.
-use borrow.Author.Rules.{rules}
 use mathlib.Core.Path.{◌≡◌, sym, ap, ◌∙◌}
 use Rattle.network.specs.Refusal.{host_number}
 use Rattle.network.specs.Verdict.{verdict}

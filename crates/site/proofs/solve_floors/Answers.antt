@@ -1,15 +1,9 @@
 -- `site::solve_floors` meets its contract. The loop's invariant: the floors before i are sent, and each table has its length. The measure is what is
 -- left of k. Assumes nothing.
-use borrow.Author.Rules.{rules}
 use mathlib.Core.Path.{◌≡◌, refl, ◌∙◌}
-use Prim.Native.Nat.{◌-◌, ◌≤◌}
 use native.Mathlib.Omega.{arith}
-use lib.ListN.{length}
 use Rattle.bounds.specs.Sites.{floor_numbers}
 use Rattle.numbers.specs.Numbers.{items}
-use Rattle.call.specs.Deliver.{slices}
-use Rattle.call.specs.Host.{Slices}
-use Rattle.site.specs.Turns.{site, FloorsServed}
 use Rattle.site.proofs.Floors.{none_yet, one_more}
 use Rattle.site.proofs.solve_floors.Goals as goal
 

@@ -1,5 +1,4 @@
 -- `solver::solve` meets its contract: the work space is large enough for every accepted network. Assumes nothing.
-use borrow.Author.Rules.{rules}
 use lib.Dec.{lit≤}
 use Rattle.solver.proofs.solve.Goals as goal
 

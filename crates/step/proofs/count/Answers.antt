@@ -1,5 +1,4 @@
 -- `step::count` meets its contract: the two ways of the branch are the two cases of the definition. Assumes nothing.
-use borrow.Author.Rules.{rules}
 use mathlib.Core.Path.{refl}
 use Rattle.step.proofs.count.Goals as goal
 

@@ -1,6 +1,4 @@
 -- `step::keep` meets its contract. Assumes nothing.
-use borrow.Author.Rules.{rules}
-use Rattle.step.specs.Progress.{keeping}
 use Rattle.step.proofs.keep.Goals as goal
 
 pub returns-then-better : goal.returns-then-better

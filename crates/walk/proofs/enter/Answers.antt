@@ -1,6 +1,5 @@
 -- `walk::enter` meets its contract: the index has a resource's number for a limited node, and one past them all for any other.
 -- Assumes nothing.
-use borrow.Author.Rules.{rules}
 use native.Mathlib.Omega.{arith}
 use Rattle.paths.proofs.Collecting.{entered-limited, entered-none}
 use Rattle.walk.proofs.enter.Goals as goal

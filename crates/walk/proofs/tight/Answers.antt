@@ -1,10 +1,10 @@
 -- `walk::tight` meets its contract: no place passed has a tight arc.
 -- Assumes nothing.
 use mathlib.Core.Path.{sym, ◌∙◌}
-use Prim.Native.Nat.{◌+◌, ◌-◌, ◌≤◌}
+use Prim.Native.Nat.{◌+◌, ◌≤◌}
 use native.Mathlib.Omega.{arith}
 use Rattle.index.specs.Index.{begins, most_places}
-use Rattle.paths.proofs.Passing.{Passing, passing-first, passing-none, passing-offered, passing-more, passing-found}
+use Rattle.paths.proofs.Passing.{passing-first, passing-none, passing-offered, passing-more, passing-found}
 use Rattle.walk.proofs.tight.Goals as goal
 use Rattle.walk.proofs.tight.Goals.{At-loop-p}
 

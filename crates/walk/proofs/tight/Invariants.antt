@@ -1,10 +1,8 @@
 -- `walk::tight` meets its contract: no place passed has a tight arc.
 -- Assumes nothing.
-use mathlib.Core.Path.{sym, ◌∙◌}
-use Prim.Native.Nat.{◌+◌, ◌-◌, ◌≤◌}
-use native.Mathlib.Omega.{arith}
-use Rattle.index.specs.Index.{begins, most_places}
-use Rattle.paths.proofs.Passing.{Passing, passing-first, passing-none, passing-offered, passing-more, passing-found}
+use Prim.Native.Nat.{◌-◌}
+use Rattle.index.specs.Index.{most_places}
+use Rattle.paths.proofs.Passing.{Passing}
 use Rattle.walk.proofs.tight.Given as goal
 
 abbrev pub invariant-loop-p : goal.invariant-loop-p

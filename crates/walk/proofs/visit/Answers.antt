@@ -1,13 +1,12 @@
 -- `walk::visit` meets its contract: the limited nodes up to the present one are written.
 -- Assumes nothing.
-use mathlib.Core.Path.{◌≡◌, refl, ◌∙◌}
-use Prim.Native.Nat.{◌*◌, ◌-◌, ◌≤◌, ◌<◌}
+use mathlib.Core.Path.{refl, ◌∙◌}
+use Prim.Native.Nat.{◌*◌, ◌≤◌, ◌<◌}
 use native.Mathlib.Omega.{arith}
-use lib.ListN.{length, take}
+use lib.ListN.{length}
 use Rattle.bounds.specs.Bounds.{most_nodes}
-use Rattle.packed.specs.Packed.{net_in}
 use Rattle.packed.proofs.Columns.{arcs-is}
-use Rattle.paths.proofs.Collecting.{visits-none, Collecting, collecting-first, collecting-end, collecting-room, collecting-arc, collecting-node, collecting-more}
+use Rattle.paths.proofs.Collecting.{visits-none, collecting-first, collecting-end, collecting-room, collecting-arc, collecting-node, collecting-more}
 use Rattle.walk.proofs.visit.Goals as goal
 use Rattle.walk.proofs.visit.Goals.{At-loop-i, In-loop-i, Start}
 

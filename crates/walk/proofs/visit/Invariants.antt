@@ -1,13 +1,10 @@
 -- `walk::visit` meets its contract: the limited nodes up to the present one are written.
 -- Assumes nothing.
-use mathlib.Core.Path.{◌≡◌, refl, ◌∙◌}
-use Prim.Native.Nat.{◌*◌, ◌-◌, ◌≤◌, ◌<◌}
-use native.Mathlib.Omega.{arith}
+use mathlib.Core.Path.{◌≡◌}
+use Prim.Native.Nat.{◌-◌}
 use lib.ListN.{length, take}
-use Rattle.bounds.specs.Bounds.{most_nodes}
 use Rattle.packed.specs.Packed.{net_in}
-use Rattle.packed.proofs.Columns.{arcs-is}
-use Rattle.paths.proofs.Collecting.{visits-none, Collecting, collecting-first, collecting-end, collecting-room, collecting-arc, collecting-node, collecting-more}
+use Rattle.paths.proofs.Collecting.{Collecting}
 use Rattle.walk.proofs.visit.Given as goal
 
 abbrev pub invariant-loop-i : goal.invariant-loop-i

@@ -1,12 +1,8 @@
 -- `walk::walk` meets its contract: the arcs written are the walk so far, and each arc leads to a nearer node.
 -- Assumes nothing.
-use mathlib.Core.Path.{refl}
-use Prim.Native.Nat.{◌+◌, ◌<◌}
-use native.Mathlib.Omega.{arith}
 use lib.ListN.{length, get_or}
 use Rattle.packed.specs.Packed.{net_in}
-use Rattle.paths.specs.Tight.{Tight}
-use Rattle.paths.proofs.Walking.{Walking, walking_start, walking-few, walking-end, walking_on, walking-stuck, walking-step, next-nearer}
+use Rattle.paths.proofs.Walking.{Walking}
 use Rattle.walk.proofs.walk.Given as goal
 
 abbrev pub invariant-loop-v : goal.invariant-loop-v

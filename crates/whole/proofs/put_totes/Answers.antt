@@ -2,11 +2,10 @@
 -- measure is what is left of k. Assumes nothing.
 use borrow.Author.Rules.{rules}
 use mathlib.Core.Path.{◌≡◌, refl, ap, ap₂, ◌∙◌}
-use Prim.Native.Nat.{◌+◌, ◌*◌, ◌-◌, ◌≤◌, ◌<◌}
+use Prim.Native.Nat.{◌+◌, ◌*◌, ◌≤◌, ◌<◌}
 use native.Mathlib.Nat.{mul-le-mul_right}
 use native.Mathlib.Omega.{arith}
 use lib.Dec.{lit≤}
-use lib.ListN.{length}
 use Rattle.numbers.specs.Numbers.{count, items, encode, written}
 use Rattle.numbers.proofs.Columns.{member_below}
 use Rattle.whole.specs.Read.{leaves_in, sent_in}

@@ -1,17 +1,11 @@
 -- `whole::put_totes` meets its contract. The loop's invariant: the numbers of the pairs before i are written, and the table has its length. The
 -- measure is what is left of k. Assumes nothing.
-use borrow.Author.Rules.{rules}
-use mathlib.Core.Path.{◌≡◌, refl, ap, ap₂, ◌∙◌}
-use Prim.Native.Nat.{◌+◌, ◌*◌, ◌-◌, ◌≤◌, ◌<◌}
-use native.Mathlib.Nat.{mul-le-mul_right}
-use native.Mathlib.Omega.{arith}
-use lib.Dec.{lit≤}
+use mathlib.Core.Path.{◌≡◌}
+use Prim.Native.Nat.{◌-◌, ◌≤◌}
 use lib.ListN.{length}
-use Rattle.numbers.specs.Numbers.{count, items, encode, written}
-use Rattle.numbers.proofs.Columns.{member_below}
-use Rattle.whole.specs.Read.{leaves_in, sent_in}
+use Rattle.numbers.specs.Numbers.{written}
+use Rattle.whole.specs.Read.{sent_in}
 use Rattle.whole.specs.Whole.{parted}
-use Rattle.whole.proofs.Parted.{parted-more}
 use Rattle.whole.proofs.put_totes.Given as goal
 
 abbrev pub invariant-loop-i : goal.invariant-loop-i

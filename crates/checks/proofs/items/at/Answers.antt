@@ -2,7 +2,6 @@
 -- Assumes nothing.
 use mathlib.Core.Path.{sym}
 use lib.ListN.{get_or-eq_default}
-use borrow.Author.Rules.{rules}
 use Rattle.checks.proofs.items.at.Goals as goal
 
 pub returns-else-i-s : goal.returns-else-i-s

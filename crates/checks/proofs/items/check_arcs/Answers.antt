@@ -1,18 +1,14 @@
 -- `checks::items::check_arcs` meets its contract: the search from the present arc on finds what the whole search finds.
 -- Assumes nothing.
 use mathlib.Core.Path.{◌≡◌, ap, ◌∙◌}
-use Prim.Native.Nat.{◌-◌}
 use native.Mathlib.Omega.{arith}
-use lib.ListN.{length}
-use borrow.Author.Rules.{rules}
-use Rattle.arith.specs.Lists.{up_to, flat}
 use Rattle.bounds.specs.Bounds.{most_capacity}
 use Rattle.network.specs.Network.{Network, tail, head, capacity}
 use Rattle.network.specs.Parts.{of_arcs}
-use Rattle.network.specs.Verdict.{verdict, loose, outside, arc_conditions}
+use Rattle.network.specs.Verdict.{loose, outside, arc_conditions}
 use Rattle.network.proofs.Bounds.{loose-of}
 use Rattle.network.proofs.First.{decides, passes, none_left}
-use Rattle.network.proofs.Search.{found, search-all, search-ends, search-stops, search-goes-on}
+use Rattle.network.proofs.Search.{search-all, search-ends, search-stops, search-goes-on}
 use Rattle.checks.proofs.items.check_arcs.Goals as goal
 use Rattle.checks.proofs.items.check_arcs.Goals.{After-loose, After-outside, At-loop-e}
 

@@ -1,17 +1,12 @@
 -- `checks::items::check_commodities` meets its contract: the search from the present commodity on finds what the whole search finds.
 -- Assumes nothing.
-use mathlib.Core.Path.{◌≡◌, ◌∙◌}
+use mathlib.Core.Path.{◌≡◌}
 use Prim.Native.Nat.{◌-◌}
-use native.Mathlib.Omega.{arith}
 use lib.ListN.{length}
-use borrow.Author.Rules.{rules}
 use Rattle.arith.specs.Lists.{up_to, flat}
-use Rattle.network.specs.Network.{Network, source, sink}
 use Rattle.network.specs.Parts.{of_commodities}
-use Rattle.network.specs.Verdict.{verdict, loose, commodity_conditions}
-use Rattle.network.proofs.Bounds.{loose-of}
-use Rattle.network.proofs.First.{decides, passes, none_left}
-use Rattle.network.proofs.Search.{found, search-all, search-ends, search-stops, search-goes-on}
+use Rattle.network.specs.Verdict.{verdict, commodity_conditions}
+use Rattle.network.proofs.Search.{found}
 use Rattle.checks.proofs.items.check_commodities.Given as goal
 
 abbrev pub invariant-loop-i : goal.invariant-loop-i

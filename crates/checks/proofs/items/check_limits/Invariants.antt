@@ -1,19 +1,12 @@
 -- `checks::items::check_limits` meets its contract: the search from the present limit on finds what the whole search finds.
 -- Assumes nothing.
-use mathlib.Core.Path.{◌≡◌, refl, ◌∙◌}
-use mathlib.Core.Bool.{Bool}
-use Prim.Native.Nat.{ℕ, ◌-◌}
-use native.Mathlib.Omega.{arith}
-use lib.Dec.{ltb}
-use lib.ListN.{length, get_or}
-use borrow.Author.Rules.{rules}
-use borrow.Author.Tests.{lt-ltb, le-ltb}
+use mathlib.Core.Path.{◌≡◌}
+use Prim.Native.Nat.{◌-◌}
+use lib.ListN.{length}
 use Rattle.arith.specs.Lists.{up_to, flat}
-use Rattle.bounds.specs.Bounds.{most_capacity}
 use Rattle.network.specs.Parts.{of_limits}
 use Rattle.network.specs.Verdict.{verdict, limit_conditions}
-use Rattle.network.proofs.First.{decides, passes, none_left}
-use Rattle.network.proofs.Search.{found, search-all, search-ends, search-stops, search-goes-on}
+use Rattle.network.proofs.Search.{found}
 use Rattle.checks.proofs.items.check_limits.Given as goal
 
 abbrev pub invariant-loop-v : goal.invariant-loop-v

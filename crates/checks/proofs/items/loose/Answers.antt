@@ -2,7 +2,6 @@
 -- Assumes nothing.
 use mathlib.Core.Path.{◌≡◌, sym, ◌∙◌}
 use mathlib.Core.Bool.{◌||◌}
-use borrow.Author.Rules.{rules}
 use Rattle.network.specs.Verdict.{outside, loose}
 use Rattle.network.proofs.Or.{or-stop, or-on}
 use Rattle.checks.proofs.items.loose.Goals as goal

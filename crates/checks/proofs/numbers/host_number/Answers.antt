@@ -3,7 +3,6 @@
 use mathlib.Core.Path.{◌≡◌, refl}
 use Prim.Native.Nat.{◌+◌, ◌*◌}
 use native.Mathlib.Omega.{arith}
-use borrow.Author.Rules.{rules}
 use Rattle.network.specs.Refusal.{host_number}
 use Rattle.checks.proofs.numbers.host_number.Goals as goal
 use Rattle.checks.proofs.numbers.host_number.Goals.{After-refusal_code-c}

@@ -1,5 +1,4 @@
 -- `checks::numbers::refusal_code` meets its contract: each case has its row. Assumes nothing.
-use borrow.Author.Rules.{rules}
 use mathlib.Core.Path.{sym, ap}
 use Rattle.network.specs.Refusal.{refusal_code}
 use Rattle.checks.proofs.numbers.refusal_code.Goals as goal

@@ -1,12 +1,11 @@
 -- `choice::lazy::follow` meets its contract: it walks where the bound is the length that the page tells. Assumes nothing.
-use borrow.Author.Rules.{rules}
 use mathlib.Core.Path.{◌≡◌, sym, ◌∙◌}
 use mathlib.Core.List.{List}
 use Prim.Native.Nat.{ℕ, ◌+◌, ◌≤◌, ◌<◌}
 use native.Mathlib.Omega.{arith}
 use lib.ListN.{length, get_or}
 use Rattle.bounds.specs.Bounds.{most_nodes, most_commodities}
-use Rattle.network.specs.Network.{Network, commodities, source, sink}
+use Rattle.network.specs.Network.{Network, source, sink}
 use Rattle.network.specs.Onward.{node_length}
 use Rattle.packed.specs.Packed.{part, net_in, sources_from, sinks_from}
 use Rattle.packed.proofs.Columns.{commodities-is, part_at, part_length}

@@ -1,12 +1,11 @@
 -- `choice::lazy::look` meets its contract: what the search and the raising leave, one after the other. Assumes nothing.
-use borrow.Author.Rules.{rules}
 use mathlib.Core.Path.{◌≡◌, ◌∙◌}
-use Prim.Native.Nat.{ℕ, ◌≤◌}
+use Prim.Native.Nat.{◌≤◌}
 use native.Mathlib.Omega.{arith}
 use lib.ListN.{length}
 use Rattle.bounds.specs.Bounds.{most_nodes}
 use Rattle.network.specs.Ends.{Node}
-use Rattle.network.specs.Network.{Network, source, sink}
+use Rattle.network.specs.Network.{Network, source}
 use Rattle.packed.specs.Packed.{net_in}
 use Rattle.packed.proofs.Columns.{commodities-is, part_length, put-length}
 use Rattle.paths.specs.Order.{page_numbers}

@@ -1,19 +1,16 @@
 -- `choice::lazy::nearest` meets its contract: the bounds stay below the paths, and rise until the walk of the least is as long. Assumes nothing.
-use borrow.Author.Rules.{rules}
 use mathlib.Core.Path.{◌≡◌, refl, sym, ◌∙◌}
-use mathlib.Core.Logic.{◌⊎◌, inl, inr, ⊎_elim}
+use mathlib.Core.Logic.{◌⊎◌, inl, inr}
 use mathlib.Core.List.{List}
 use Prim.Native.Nat.{ℕ, ◌+◌, ◌<◌, ◌≤◌}
 use native.Mathlib.Omega.{arith}
-use borrow.Author.Tests.{eqb-true, eqb-false}
 use lib.ListN.{length, get_or, length-set}
 use Rattle.bounds.specs.Bounds.{most_commodities}
 use Rattle.network.specs.Network.{Network, commodities, sink}
 use Rattle.packed.specs.Packed.{net_in, sinks_from}
 use Rattle.packed.proofs.Columns.{commodities-is, part_at}
-use Rattle.memory.specs.Memory.{bounds_in, least_at, distances_in, Known}
+use Rattle.memory.specs.Memory.{bounds_in, least_at, distances_in}
 use Rattle.choice.specs.Looked.{Looked, Followed}
-use Rattle.choice.proofs.Slack.{slack}
 use Rattle.choice.proofs.Turns.{turn-falls, turn-noted}
 use Rattle.choice.proofs.lazy.nearest.Goals as goal
 use Rattle.choice.proofs.lazy.nearest.Goals.{After-follow-arcs, After-look-i, At-loop-s, Joined-then-arcs-gt0, Start, then-arcs-gt0-via-then-arcs-gt0, then-arcs-gt0-via-else-arcs-gt0+then-net-i}

@@ -1,20 +1,10 @@
 -- `choice::lazy::nearest` meets its contract: the bounds stay below the paths, and rise until the walk of the least is as long. Assumes nothing.
-use borrow.Author.Rules.{rules}
-use mathlib.Core.Path.{◌≡◌, refl, sym, ◌∙◌}
-use mathlib.Core.Logic.{◌⊎◌, inl, inr, ⊎_elim}
-use mathlib.Core.List.{List}
-use Prim.Native.Nat.{ℕ, ◌+◌, ◌<◌, ◌≤◌}
-use native.Mathlib.Omega.{arith}
-use borrow.Author.Tests.{eqb-true, eqb-false}
-use lib.ListN.{length, get_or, length-set}
-use Rattle.bounds.specs.Bounds.{most_commodities}
-use Rattle.network.specs.Network.{Network, commodities, sink}
-use Rattle.packed.specs.Packed.{net_in, sinks_from}
-use Rattle.packed.proofs.Columns.{commodities-is, part_at}
-use Rattle.memory.specs.Memory.{bounds_in, least_at, distances_in, Known}
-use Rattle.choice.specs.Looked.{Looked, Followed}
+use mathlib.Core.Path.{◌≡◌}
+use lib.ListN.{length}
+use Rattle.network.specs.Network.{commodities}
+use Rattle.packed.specs.Packed.{net_in}
+use Rattle.memory.specs.Memory.{bounds_in, Known}
 use Rattle.choice.proofs.Slack.{slack}
-use Rattle.choice.proofs.Turns.{turn-falls, turn-noted}
 use Rattle.choice.proofs.lazy.nearest.Given as goal
 
 abbrev pub invariant-loop-s : goal.invariant-loop-s

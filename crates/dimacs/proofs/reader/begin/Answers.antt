@@ -2,7 +2,6 @@
 -- Assumes nothing.
 use mathlib.Core.Path.{sym, ap, ◌∙◌}
 use native.Mathlib.Omega.{arith}
-use borrow.Author.Rules.{rules}
 use Rattle.network.proofs.Bounds.{within}
 use Rattle.network.specs.declared.Refusal.TheVariants.{Nodes, Arcs}
 use Rattle.dimacs.specs.Progress.{begun}

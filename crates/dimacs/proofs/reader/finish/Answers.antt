@@ -1,7 +1,6 @@
 -- `dimacs::reader::finish` meets its contract, for each thing that may be missing.
 -- Assumes nothing.
 use mathlib.Core.Path.{ap, ◌∙◌}
-use borrow.Author.Rules.{rules}
 use Rattle.dimacs.specs.File.{closing}
 use Rattle.dimacs.specs.Result.{result_of}
 use Rattle.dimacs.proofs.Closed.{no_source, no-sink, arcs-missing, all_there}

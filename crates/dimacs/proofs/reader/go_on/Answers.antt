@@ -1,7 +1,6 @@
 -- `dimacs::reader::go_on` meets its contract, for each kind of line.
 -- Assumes nothing.
 use native.Mathlib.Omega.{arith}
-use borrow.Author.Rules.{rules}
 use Rattle.dimacs.specs.Reading.{following, once}
 use Rattle.dimacs.proofs.Added.{source-added, sink-added, arc-too-many, arc-added}
 use Rattle.dimacs.proofs.Stages.{turned_down}

@@ -1,6 +1,5 @@
 -- `dimacs::reader::next` meets its contract, for each stage.
 -- Assumes nothing.
-use borrow.Author.Rules.{rules}
 use Rattle.dimacs.specs.Reading.{next}
 use Rattle.dimacs.proofs.Stages.{held-as}
 use Rattle.dimacs.proofs.reader.next.Goals as goal

@@ -1,18 +1,12 @@
 -- `dimacs::reader::read` meets its contract: the lines so far, and those that are left, come to what the file comes to.
 -- Assumes nothing.
 use mathlib.Core.Path.{sym, ap, ◌∙◌}
-use Prim.Native.Nat.{◌-◌}
 use native.Mathlib.Omega.{arith}
-use lib.ListN.{length}
-use borrow.Author.Rules.{rules}
 use Rattle.arith.proofs.Until.{scan-within, scan-later, scan-between}
 use Rattle.dimacs.specs.Result.{result_of}
-use Rattle.dimacs.proofs.LineByLine.{ReadTo, none_read, line_read, all_read, long-file}
+use Rattle.dimacs.proofs.LineByLine.{none_read, line_read, all_read}
 use Rattle.dimacs.proofs.Whole.{read_whole}
 use Rattle.dimacs.proofs.reader.read.Goals as goal
-
-pub returns-then-text-gt-MOST_BYTES : goal.returns-then-text-gt-MOST_BYTES
-returns-then-text-gt-MOST_BYTES c = read_whole _ (c.refuse.ensures ∙ ap result_of (long-file _ (omega arith)))
 
 pub loop-at-init : goal.loop-at-init
 loop-at-init c = none_read _

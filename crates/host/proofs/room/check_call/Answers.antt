@@ -1,5 +1,4 @@
 -- `host::room::check_call` meets its contract: the sizes before 5, and 5 before 16 and 11. Assumes nothing.
-use borrow.Author.Rules.{rules}
 use mathlib.Core.Path.{sym, ◌∙◌}
 use Rattle.network.proofs.Decided.{accepted-quiet}
 use Rattle.network.proofs.First.{refused-first, accepted-first, decides, passes}

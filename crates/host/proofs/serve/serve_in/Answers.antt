@@ -1,5 +1,4 @@
 -- `host::serve::serve_in` meets its contract: a refusal changes nothing; else the outcome is delivered. Assumes nothing.
-use borrow.Author.Rules.{rules}
 use mathlib.Core.Path.{◌≡◌, refl, sym, ap, ◌∙◌}
 use native.Mathlib.Omega.{arith}
 use Rattle.network.specs.Network.{Network}

@@ -1,6 +1,5 @@
 -- `length::Length::halving` meets its contract: the quotient is the definition's.
 -- Assumes nothing.
-use borrow.Author.Rules.{rules}
 use Rattle.length.specs.Length.{halving}
 use Rattle.length.proofs.Length.halving.Goals as goal
 

@@ -1,7 +1,6 @@
 -- `length::Length::start` meets its contract: the constant is the scale, and the quotient is the definition's.
 -- Assumes nothing.
 use mathlib.Core.Path.{refl}
-use borrow.Author.Rules.{rules}
 use Rattle.length.specs.Length.{scale, start}
 use Rattle.length.proofs.Length.start.Goals as goal
 

@@ -5,8 +5,6 @@ use mathlib.Core.Bool.{true}
 use mathlib.Core.List.{List}
 use mathlib.Core.Option.{some}
 use Prim.Native.Nat.{ℕ}
-use borrow.Author.Tests.{not-true, not-false}
-use borrow.Author.Rules.{rules}
 use Rattle.lines.specs.Meaning.{word, shaped, given}
 use Rattle.lines.specs.Number.{number_of}
 use Rattle.lines.specs.Pieces.{words_of}
@@ -19,7 +17,7 @@ abbrev words : Start → List (List ℕ)
 words c = words_of c.args.line.now
 
 fit : (c : Else-not-shaped) → shaped 4 (words (goal.at.Else-not-shaped c).Start) ≡ true
-fit c = sym c.shaped.ensures ∙ not-false _ c.if-not-shaped.false-raw
+fit c = sym c.shaped.ensures ∙ c.if-not-shaped.false
 
 tail-read : (c : In-Given) → number_of (word (words (goal.at.In-Given c).Start) 1) ≡ some c.in-Given.u
 tail-read c = number_is c.number_at.ensures c.in-Given.is
@@ -29,7 +27,7 @@ head_read c = number_is c.number_at-2.ensures c.in-Given-number_at.is
 
 pub returns-then-not-shaped : goal.returns-then-not-shaped
 unfolding given
-returns-then-not-shaped c = arc-by _ (sym c.shaped.ensures ∙ not-true _ c.if-not-shaped.true-raw) refl refl refl
+returns-then-not-shaped c = arc-by _ (sym c.shaped.ensures ∙ c.if-not-shaped.true) refl refl refl
 
 pub returns-in_default : goal.returns-in_default
 unfolding given

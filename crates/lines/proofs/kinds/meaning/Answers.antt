@@ -1,8 +1,9 @@
 -- `lines::kinds::meaning` meets its contract: the first byte decides.
 -- Assumes nothing.
 use mathlib.Core.Path.{◌∙◌}
+use native.Mathlib.Omega.{arith}
+use lib.ListN.{get_or}
 use borrow.Author.Tests.{ne_eqb}
-use borrow.Author.Rules.{rules}
 use Rattle.lines.specs.Meaning.{lettered}
 use Rattle.lines.proofs.Meant.{no_byte, first_byte}
 use Rattle.lines.proofs.kinds.meaning.Goals as goal
@@ -31,8 +32,8 @@ unfolding lettered
 returns-in_default c =
     rw (
       first_byte _ c.if-line-eq0.false,
-      ne_eqb _ 99 c.in_default.rest.0.0.0.1,
-      ne_eqb _ 112 c.in_default.rest.0.0.1,
-      ne_eqb _ 110 c.in_default.rest.0.1,
-      ne_eqb _ 97 c.in_default.rest.1,
+      ne_eqb (get_or c.args.line.now 0 0) 99 (λ e. omega arith),
+      ne_eqb (get_or c.args.line.now 0 0) 112 (λ e. omega arith),
+      ne_eqb (get_or c.args.line.now 0 0) 110 (λ e. omega arith),
+      ne_eqb (get_or c.args.line.now 0 0) 97 (λ e. omega arith),
     )

@@ -1,7 +1,6 @@
 -- `lines::kinds::number_at` meets its contract: the number of the word.
 -- Assumes nothing.
 use mathlib.Core.Path.{ap, ◌∙◌}
-use borrow.Author.Rules.{rules}
 use Rattle.lines.specs.Number.{number_of}
 use Rattle.lines.proofs.kinds.number_at.Goals as goal
 

@@ -5,8 +5,6 @@ use mathlib.Core.Bool.{Bool, true}
 use mathlib.Core.List.{List, [], ◌∷◌}
 use mathlib.Core.Option.{some}
 use Prim.Native.Nat.{ℕ}
-use borrow.Author.Tests.{not-true, not-false}
-use borrow.Author.Rules.{rules}
 use Rattle.arith.specs.Same.{same}
 use Rattle.lines.specs.Meaning.{word, shaped, given}
 use Rattle.lines.specs.Number.{number_of}
@@ -23,24 +21,24 @@ abbrev words : Start → List (List ℕ)
 words c = words_of c.args.line.now
 
 fit : (c : Else-not-shaped) → shaped 4 (words (goal.at.Else-not-shaped c).Start) ≡ true
-fit c = sym c.shaped.ensures ∙ not-false _ c.if-not-shaped.false-raw
+fit c = sym c.shaped.ensures ∙ c.if-not-shaped.false
 
 max-read : (c : Else-not-says_max) → same (word (words (goal.at.Else-not-says_max c).Start) 1) (109 ∷ 97 ∷ 120 ∷ []) ≡ true
-max-read c = is-max c.word.ensures c.says_max.ensures (not-false _ c.if-not-says_max.false-raw)
+max-read c = is-max c.word.ensures c.says_max.ensures c.if-not-says_max.false
 
 nodes-read : (c : In-Given) → number_of (word (words (goal.at.In-Given c).Start) 2) ≡ some c.in-Given.n
 nodes-read c = number_is c.number_at.ensures c.in-Given.is
 
 pub returns-then-not-shaped : goal.returns-then-not-shaped
 unfolding given
-returns-then-not-shaped c = problem-by _ (sym c.shaped.ensures ∙ not-true _ c.if-not-shaped.true-raw) refl refl refl
+returns-then-not-shaped c = problem-by _ (sym c.shaped.ensures ∙ c.if-not-shaped.true) refl refl refl
 
 pub returns-then-not-says_max : goal.returns-then-not-says_max
 unfolding given
 returns-then-not-says_max c =
     problem-by _
     (fit (goal.at.returns-then-not-says_max c).Else-not-shaped)
-    (is-max c.word.ensures c.says_max.ensures (not-true _ c.if-not-says_max.true-raw))
+    (is-max c.word.ensures c.says_max.ensures c.if-not-says_max.true)
     refl
     refl
 

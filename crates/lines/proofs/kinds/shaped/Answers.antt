@@ -6,12 +6,8 @@ use Prim.Native.Nat.{ℕ}
 use native.Mathlib.Omega.{arith}
 use lib.Dec.{eqb}
 use lib.ListN.{length}
-use borrow.Author.Rules.{rules}
-use Rattle.lines.proofs.Counted.{not-alone, too_few, counted}
+use Rattle.lines.proofs.Counted.{too_few, counted}
 use Rattle.lines.proofs.kinds.shaped.Goals as goal
-
-pub returns-then-letter-ne1 : goal.returns-then-letter-ne1
-returns-then-letter-ne1 c = not-alone _ _ (omega (arith, ap length c.word-letter.ensures))
 
 pub returns-then-last-eq0 : goal.returns-then-last-eq0
 returns-then-last-eq0 c = too_few _ _ c.requires (ap length (sym c.word-last.ensures) ∙ c.if-last-eq0.true)
@@ -20,5 +16,5 @@ pub returns : goal.returns
 returns c =
     ap (λ (w : List ℕ). eqb (length w) 0) c.word-further.ensures ∙
     counted _ _
-    (ap length (sym c.word-letter.ensures) ∙ c.if-letter-ne1.false)
+    (omega (arith, ap length c.word-letter.ensures))
     (λ e. c.if-last-eq0.false (ap length c.word-last.ensures ∙ e))

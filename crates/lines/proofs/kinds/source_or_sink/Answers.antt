@@ -1,8 +1,9 @@
 -- `lines::kinds::source_or_sink` meets its contract, for each letter.
 -- Assumes nothing.
 use mathlib.Core.List.{[], ◌∷◌}
+use native.Mathlib.Omega.{arith}
+use lib.ListN.{get_or}
 use borrow.Author.Tests.{ne_eqb}
-use borrow.Author.Rules.{rules}
 use Rattle.lines.specs.Meaning.{source_or_sink}
 use Rattle.lines.proofs.Bytes.{same_length, same-one}
 use Rattle.lines.proofs.kinds.source_or_sink.Goals as goal
@@ -25,6 +26,6 @@ returns-in_default c =
     rw (
       same-one _ 115 c.if-w-ne1.false,
       same-one _ 116 c.if-w-ne1.false,
-      ne_eqb _ 115 c.in_default.rest.0.1,
-      ne_eqb _ 116 c.in_default.rest.1,
+      ne_eqb (get_or c.args.w.now 0 0) 115 (λ e. omega arith),
+      ne_eqb (get_or c.args.w.now 0 0) 116 (λ e. omega arith),
     )

@@ -1,15 +1,13 @@
 -- `lines::words::number` meets its contract: x is the value of the first i digits.
 -- Assumes nothing.
-use mathlib.Core.Logic.{⊎_elim}
-use Prim.Native.Nat.{◌-◌}
 use native.Mathlib.Omega.{arith}
-use lib.ListN.{length}
-use borrow.Author.Tests.{ltb-true, ltb-false}
-use Rattle.lines.proofs.Digits.{DigitsRead, no-digit-read, room, digit-read, number_read, no_number, no_size, too_long, digit-below, digit-above}
+use borrow.Author.Tests.{ltb-false}
+use Rattle.lines.proofs.Digits.{no-digit-read, room, digit-read, number_read, no_number, no_size, too_long, digit-below, digit-above}
 use Rattle.lines.proofs.words.number.Goals as goal
+use mathlib.Core.Logic.{⊎_elim}
 
 pub returns-then-word-eq0 : goal.returns-then-word-eq0
-returns-then-word-eq0 c = ⊎_elim (λ w. no_size _ (omega arith)) (λ w. too_long _ (omega (arith, ltb-true))) c.then-word-eq0.branch
+returns-then-word-eq0 c = ⊎_elim (λ w. no_size _ (omega arith)) (λ w. too_long _ (omega arith)) c.then-word-eq0.either
 
 pub loop-i-init : goal.loop-i-init
 loop-i-init c = no-digit-read _ (omega arith) (omega (arith, ltb-false))

@@ -1,12 +1,9 @@
 -- `lines::words::scan` meets its contract: from the present byte on the scan finds what the whole scan finds.
 -- Assumes nothing.
-use mathlib.Core.Path.{◌≡◌, refl, ◌∙◌, sym}
+use mathlib.Core.Path.{◌≡◌}
 use Prim.Native.Nat.{◌-◌}
-use native.Mathlib.Omega.{arith}
 use lib.ListN.{length}
-use borrow.Author.Rules.{rules}
 use Rattle.arith.specs.Scan.{scan}
-use Rattle.arith.proofs.Until.{scan-on, scan-found, scan-ended}
 use Rattle.lines.specs.Scan.{stops}
 use Rattle.lines.proofs.words.scan.Given as goal
 

@@ -2,7 +2,6 @@
 -- Assumes nothing.
 use mathlib.Core.Path.{ap}
 use mathlib.Core.Bool.{not}
-use borrow.Author.Rules.{rules}
 use Rattle.lines.specs.Pieces.{line_feed}
 use Rattle.lines.specs.Scan.{filling}
 use Rattle.lines.proofs.words.stops.Goals as goal

@@ -1,12 +1,12 @@
 -- `memory::pages::begin` meets its contract: the pages passed have their order. Assumes nothing.
 use mathlib.Core.Path.{◌≡◌, ◌∙◌}
-use Prim.Native.Nat.{◌+◌, ◌-◌, ◌≤◌}
+use Prim.Native.Nat.{◌+◌, ◌≤◌}
 use native.Mathlib.Omega.{arith}
 use lib.ListN.{length}
 use Rattle.packed.proofs.Columns.{part_length}
-use Rattle.paths.specs.Order.{page_numbers, LinedUp}
+use Rattle.paths.specs.Order.{page_numbers}
 use Rattle.memory.specs.Memory.{page_from, page_in}
-use Rattle.memory.proofs.Forgets.{Paged, paged-none, paged-more}
+use Rattle.memory.proofs.Forgets.{paged-none, paged-more}
 use Rattle.memory.proofs.pages.begin.Goals as goal
 use Rattle.memory.proofs.pages.begin.Goals.{In-loop-t}
 

@@ -1,12 +1,7 @@
 -- `memory::pages::begin` meets its contract: the pages passed have their order. Assumes nothing.
-use mathlib.Core.Path.{◌≡◌, ◌∙◌}
-use Prim.Native.Nat.{◌+◌, ◌-◌, ◌≤◌}
-use native.Mathlib.Omega.{arith}
-use lib.ListN.{length}
-use Rattle.packed.proofs.Columns.{part_length}
-use Rattle.paths.specs.Order.{page_numbers, LinedUp}
-use Rattle.memory.specs.Memory.{page_from, page_in}
-use Rattle.memory.proofs.Forgets.{Paged, paged-none, paged-more}
+use Prim.Native.Nat.{◌+◌, ◌-◌}
+use Rattle.paths.specs.Order.{LinedUp}
+use Rattle.memory.proofs.Forgets.{Paged}
 use Rattle.memory.proofs.pages.begin.Given as goal
 
 -- the first t pages have their order

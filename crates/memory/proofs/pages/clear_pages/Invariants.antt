@@ -1,13 +1,8 @@
 -- `memory::pages::clear_pages` meets its contract: the pages passed have zeros for the nodes. Assumes nothing.
-use mathlib.Core.Path.{◌≡◌, ◌∙◌}
-use Prim.Native.Nat.{◌+◌, ◌-◌, ◌≤◌}
-use native.Mathlib.Omega.{arith}
-use lib.ListN.{length}
-use Rattle.packed.proofs.Columns.{part_length}
-use Rattle.paths.specs.Order.{page_numbers}
+use mathlib.Core.Path.{◌≡◌}
+use Prim.Native.Nat.{◌+◌, ◌-◌}
 use Rattle.memory.specs.Forgotten.{cleared}
-use Rattle.memory.specs.Memory.{page_from, page_in}
-use Rattle.memory.proofs.Forgets.{Paged, paged-none, paged-more}
+use Rattle.memory.proofs.Forgets.{Paged}
 use Rattle.memory.proofs.pages.clear_pages.Given as goal
 
 -- the first t pages are cleared

@@ -1,5 +1,4 @@
 -- `memory::pages::forget` meets its contract. Assumes nothing.
-use borrow.Author.Rules.{rules}
 use Rattle.memory.proofs.Forgets.{forgotten-all}
 use Rattle.memory.proofs.pages.forget.Goals as goal
 

@@ -1,8 +1,8 @@
 -- `memory::raise::raise` meets its contract: the bounds of the commodities passed are raised, and b has the least of them. Assumes nothing.
 use mathlib.Core.Path.{◌≡◌, refl, sym, ap, subst, ◌∙◌}
-use mathlib.Core.Logic.{◌⊎◌, inl, inr, ⊎_elim}
+use mathlib.Core.Logic.{inl, inr, ⊎_elim}
 use mathlib.Core.List.{List}
-use Prim.Native.Nat.{ℕ, ◌+◌, ◌-◌, ◌≤◌, ◌<◌}
+use Prim.Native.Nat.{ℕ, ◌+◌, ◌≤◌, ◌<◌}
 use native.Mathlib.Omega.{arith}
 use lib.ListN.{length, get_or}
 use Rattle.bounds.specs.Bounds.{most_commodities}
@@ -10,7 +10,7 @@ use Rattle.packed.specs.declared.Shape.{Shape}
 use Rattle.packed.proofs.Columns.{part_at}
 use Rattle.memory.specs.Least.{Least}
 use Rattle.memory.specs.Memory.{memory_numbers, bounds_in}
-use Rattle.memory.specs.Raised.{Raising, RaisedAt, RaisedIn, AllRaised}
+use Rattle.memory.specs.Raised.{RaisedAt, RaisedIn, AllRaised}
 use Rattle.memory.proofs.Leasts.{least_first, least-less, least_other, least-same}
 use Rattle.memory.proofs.Raises.{raised-in-none, raised-in-more, raised-in-bound, raised-in-other}
 use Rattle.memory.proofs.raise.raise.Invariants.{Passed}

@@ -1,5 +1,4 @@
 -- `memory::raise::told` meets its contract: where the first entry is the less, nothing is left of the difference. Assumes nothing.
-use mathlib.Core.Path.{◌≡◌}
 use native.Mathlib.Omega.{arith}
 use Rattle.memory.proofs.raise.told.Goals as goal
 

@@ -1,10 +1,8 @@
 -- `page::list::enlist` meets its contract: a node with no flag counts beside the others.
 -- Assumes nothing.
-use mathlib.Core.Logic.{⊎_elim}
 use Prim.Native.Nat.{◌≤◌}
 use native.Mathlib.Omega.{arith}
 use lib.ListN.{get_or}
-use borrow.Author.Rules.{rules}
 use Rattle.paths.proofs.Enlisting.{met-came, met-stayed}
 use Rattle.paths.proofs.Worklists.{worklist-within}
 use Rattle.page.proofs.list.enlist.Goals as goal

@@ -3,7 +3,6 @@
 use Prim.Native.Nat.{◌+◌, ◌<◌}
 use native.Mathlib.Omega.{arith}
 use lib.ListN.{length}
-use borrow.Author.Rules.{rules}
 use Rattle.paths.specs.Order.{order_from, node_at}
 use Rattle.paths.proofs.TakingOut.{taken_out}
 use Rattle.page.proofs.list.take_out.Goals as goal

@@ -1,12 +1,9 @@
 -- `page::order::line_up` meets its contract: the places passed have their nodes. Assumes nothing.
-use mathlib.Core.Path.{◌≡◌, refl, ◌∙◌}
+use mathlib.Core.Path.{◌≡◌}
 use mathlib.Core.List.{List}
-use Prim.Native.Nat.{ℕ, ◌+◌, ◌-◌, ◌≤◌, ◌<◌}
-use native.Mathlib.Omega.{arith}
-use borrow.Author.Count.{below_more}
-use lib.ListN.{length, set, length-set}
-use lib.Seq.{get_or-set_same, get_or-set_other}
-use Rattle.paths.specs.Order.{order_from, node_at, LinedUp}
+use Prim.Native.Nat.{ℕ, ◌-◌}
+use lib.ListN.{length}
+use Rattle.paths.specs.Order.{LinedUp}
 use Rattle.page.proofs.order.line_up.Given as goal
 
 -- the first p places have their nodes, and there are still as many numbers as before

@@ -1,14 +1,10 @@
 -- `page::scan::scan` meets its contract: no node at the places passed is on the list.
 -- Assumes nothing.
-use mathlib.Core.Path.{◌≡◌, sym}
-use mathlib.Core.Logic.{⊎_elim}
+use mathlib.Core.Path.{◌≡◌}
 use mathlib.Core.List.{List}
-use Prim.Native.Nat.{ℕ, ◌+◌, ◌-◌, ◌≤◌, ◌<◌}
-use native.Mathlib.Nat.{eq-or-lt_of_le}
-use native.Mathlib.Omega.{arith}
-use lib.ListN.{length, get_or}
-use borrow.Author.Count.{below_more}
-use Rattle.paths.specs.Order.{order_from, node_at}
+use Prim.Native.Nat.{ℕ, ◌-◌, ◌≤◌, ◌<◌}
+use lib.ListN.{get_or}
+use Rattle.paths.specs.Order.{node_at}
 use Rattle.page.proofs.scan.scan.Given as goal
 
 -- none of them is on the list, from the given place to that before p

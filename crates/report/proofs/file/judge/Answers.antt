@@ -5,7 +5,6 @@ use Rattle.packed.specs.Packed.{net_in}
 use Rattle.report.specs.Listing.{verdict_held}
 use Rattle.report.proofs.Judged.{judged, sound, counted}
 use Rattle.report.proofs.Written.{shown-refused, shown-accepted}
-use borrow.Author.Rules.{rules}
 use Rattle.report.proofs.file.judge.Goals as goal
 use Rattle.report.proofs.file.judge.Goals.{After-check_items-items, Start}
 

@@ -11,7 +11,6 @@ use Rattle.dimacs.specs.File.{holds, parsed}
 use Rattle.rows.specs.Row.{delimited, header}
 use Rattle.report.specs.Shown.{network_of_file}
 use Rattle.report.proofs.Written.{listed-refused, listed-held}
-use borrow.Author.Rules.{rules}
 use Rattle.report.proofs.file.listing.Goals as goal
 use Rattle.report.proofs.file.listing.Goals.{After-pack}
 
@@ -34,7 +33,7 @@ judge-requires c =
     let w = whole _ c.read-file.ensures.result in
     let o = network-sizes _ (held (goal.at.judge-requires c).After-pack) in
     record {
-      packed = record { few-nodes = o.of-nodes.most; few-limits = omega arith; few-arcs = w.few; few-commodities = omega arith; places = omega (arith, c.pack.auto.1.0, length-replicate {A = ℕ} net_numbers 0) };
+      packed = record { few-nodes = o.of-nodes.most; few-limits = omega arith; few-arcs = w.few; few-commodities = omega arith; places = omega (arith, c.pack.auto.net, length-replicate {A = ℕ} net_numbers 0) };
       plain = refl;
       held = rw c.pack.ensures o;
       enough = omega (arith, c.put-at.ensures.next);

@@ -1,9 +1,8 @@
 -- `report::file::pack` meets its contract: each column takes its numbers, and those behind and before it stay. Assumes nothing.
 use mathlib.Core.Path.{◌≡◌, refl, sym, ap, ◌∙◌}
 use mathlib.Core.List.{List}
-use Prim.Native.Nat.{ℕ, ◌+◌, ◌-◌, ◌≤◌}
+use Prim.Native.Nat.{ℕ, ◌≤◌}
 use native.Mathlib.Omega.{arith}
-use borrow.Rule.Slice.PartMut.{put_mid}
 use lib.ListN.{length, set, take}
 use lib.Seq.{length-take-le}
 use Rattle.bounds.specs.Bounds.{most_arcs}
@@ -11,7 +10,6 @@ use Rattle.packed.specs.Packed.{net_numbers, tails_from, heads_from, capacities_
 use Rattle.packed.proofs.Columns.{part_length, put-length}
 use Rattle.report.specs.Shown.{shape_of}
 use Rattle.report.proofs.Packing.{sink-place, filled-length, packed-length, packed}
-use borrow.Author.Rules.{rules}
 use Rattle.report.proofs.file.pack.Goals as goal
 use Rattle.report.proofs.file.pack.Goals.{After-copy, After-copy-2, After-copy-3, Start}
 
@@ -31,22 +29,22 @@ module _ (s : Start) where
 
 -- the slice after each
 abbrev tailed : After-copy → List ℕ
-tailed c = put tails_from (m (goal.at.After-copy c).Start) c.args.net.now c.copy.new.1.0
+tailed c = put tails_from (m (goal.at.After-copy c).Start) c.args.net.now c.copy.new.to
 
 abbrev headed : After-copy-2 → List ℕ
-headed c = put heads_from (m (goal.at.After-copy-2 c).Start) (tailed (goal.at.After-copy-2 c).After-copy) c.copy-2.new.1.0
+headed c = put heads_from (m (goal.at.After-copy-2 c).Start) (tailed (goal.at.After-copy-2 c).After-copy) c.copy-2.new.to
 
 abbrev arced : After-copy-3 → List ℕ
-arced c = put capacities_from (m (goal.at.After-copy-3 c).Start) (headed (goal.at.After-copy-3 c).After-copy-2) c.copy-3.new.1.0
+arced c = put capacities_from (m (goal.at.After-copy-3 c).Start) (headed (goal.at.After-copy-3 c).After-copy-2) c.copy-3.new.to
 
 tailed-long : (c : After-copy) → net_numbers ≤ length (tailed c)
 tailed-long c =
-    let e = put-length tails_from (m (goal.at.After-copy c).Start) c.args.net.now c.copy.new.1.0 (omega (arith, c.requires.few, c.requires.places)) (ap length c.copy.ensures ∙ tails-many (goal.at.After-copy c).Start) in
+    let e = put-length tails_from (m (goal.at.After-copy c).Start) c.args.net.now c.copy.new.to (omega (arith, c.requires.few, c.requires.places)) (ap length c.copy.ensures ∙ tails-many (goal.at.After-copy c).Start) in
     omega (arith, e, c.requires.places)
 
 headed-long : (c : After-copy-2) → net_numbers ≤ length (headed c)
 headed-long c =
-    let e = put-length heads_from (m (goal.at.After-copy-2 c).Start) (tailed (goal.at.After-copy-2 c).After-copy) c.copy-2.new.1.0 (omega (arith, c.requires.few, tailed-long (goal.at.After-copy-2 c).After-copy)) (ap length c.copy-2.ensures ∙ heads-many (goal.at.After-copy-2 c).Start) in
+    let e = put-length heads_from (m (goal.at.After-copy-2 c).Start) (tailed (goal.at.After-copy-2 c).After-copy) c.copy-2.new.to (omega (arith, c.requires.few, tailed-long (goal.at.After-copy-2 c).After-copy)) (ap length c.copy-2.ensures ∙ heads-many (goal.at.After-copy-2 c).Start) in
     omega (arith, e, tailed-long (goal.at.After-copy-2 c).After-copy)
 
 pub slice_bounds-copy-end : goal.slice_bounds-copy-end

@@ -1,17 +1,9 @@
 -- `report::solved::put_belts` meets its contract. The loop's invariant: the rows of the first e arcs are put. The measure is what is left of them.
 -- Assumes nothing.
-use mathlib.Core.Path.{◌≡◌, ap, ◌∙◌}
-use Prim.Native.Nat.{◌*◌, ◌-◌, ◌≤◌}
-use native.Mathlib.Omega.{arith}
-use lib.IntN.{ℤ, pos}
-use lib.ListN.{length, get_or}
-use mir.Syntax.{w64}
-use mir.Val.{to_z, of_z}
-use mir.ValLaws.{to_z-of_z}
-use Rattle.signed.specs.Signed.{size}
-use Rattle.rows.proofs.Puts.{put-length}
+use Prim.Native.Nat.{◌-◌, ◌≤◌}
+use lib.ListN.{length}
 use Rattle.report.specs.Shown.{belt_of}
-use Rattle.report.proofs.Rowed.{Rowed, none-rowed, one-rowed, all-rowed, belt-length}
+use Rattle.report.proofs.Rowed.{Rowed}
 use Rattle.report.proofs.solved.put_belts.Given as goal
 
 abbrev pub invariant-loop-e : goal.invariant-loop-e

@@ -5,7 +5,6 @@ use native.Mathlib.Omega.{arith}
 use lib.IntN.{pos}
 use lib.ListN.{length, replicate, length-replicate}
 use lib.Seq.{length-take-le}
-use borrow.Author.Rules.{rules}
 use Rattle.bounds.specs.Bounds.{most_arcs}
 use Rattle.packed.specs.Packed.{table_numbers}
 use Rattle.report.proofs.solved.show.Goals as goal

@@ -5,7 +5,6 @@ use Rattle.packed.specs.Packed.{net_in}
 use Rattle.rows.proofs.Lengths.{answer-length}
 use Rattle.rows.proofs.Puts.{put-within}
 use Rattle.report.proofs.Showing.{one-row, total-small, belted, shown}
-use borrow.Author.Rules.{rules}
 use Rattle.report.proofs.solved.show_in.Goals as goal
 
 pub solve-a-requires : goal.solve-a-requires
@@ -21,8 +20,8 @@ unfolding net_in
 put_belts-requires c =
     let v = c.solve-a in
     let p = c.put_answer-next in
-    rw p.auto.0
-    (belted c.requires.ready v.ensures _ (v.kept.1.1.1.0 ∙ c.requires.flows) (put-within p.ensures (answer-length _)))
+    rw p.auto.out
+    (belted c.requires.ready v.ensures _ (v.auto.flow ∙ c.requires.flows) (put-within p.ensures (answer-length _)))
 
 pub returns : goal.returns
 unfolding net_in

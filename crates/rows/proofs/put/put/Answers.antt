@@ -1,10 +1,8 @@
 -- `rows::put::put` meets its contract. The loop's invariant: the first i bytes are put. The measure is what is left of them.
 -- Assumes nothing.
-use Prim.Native.Nat.{◌-◌}
 use native.Mathlib.Omega.{arith}
-use lib.ListN.{length}
 use Rattle.rows.proofs.Puts.{put-length}
-use Rattle.rows.proofs.Putting.{Putting, none-put, one-put, all-put}
+use Rattle.rows.proofs.Putting.{none-put, one-put, all-put}
 use Rattle.rows.proofs.put.put.Goals as goal
 
 pub loop-i-init : goal.loop-i-init

@@ -1,10 +1,8 @@
 -- `rows::put::put` meets its contract. The loop's invariant: the first i bytes are put. The measure is what is left of them.
 -- Assumes nothing.
 use Prim.Native.Nat.{◌-◌}
-use native.Mathlib.Omega.{arith}
 use lib.ListN.{length}
-use Rattle.rows.proofs.Puts.{put-length}
-use Rattle.rows.proofs.Putting.{Putting, none-put, one-put, all-put}
+use Rattle.rows.proofs.Putting.{Putting}
 use Rattle.rows.proofs.put.put.Given as goal
 
 abbrev pub invariant-loop-i : goal.invariant-loop-i

@@ -3,7 +3,6 @@ use native.Mathlib.Omega.{arith}
 use Rattle.rows.specs.Rows.{answer_rows}
 use Rattle.rows.proofs.Lengths.{row-length}
 use Rattle.rows.proofs.Puts.{put_next, put-within}
-use borrow.Author.Rules.{rules}
 use Rattle.rows.proofs.rows.put_answer.Goals as goal
 
 pub put_row-next-requires-2 : goal.put_row-next-requires-2

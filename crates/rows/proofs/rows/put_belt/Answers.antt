@@ -6,7 +6,6 @@ use Rattle.rows.specs.Decimal.{decimal}
 use Rattle.rows.specs.Row.{delimited, row}
 use Rattle.rows.proofs.Digits.{decimal-short}
 use Rattle.rows.proofs.Puts.{put_next}
-use borrow.Author.Rules.{rules}
 use Rattle.rows.proofs.rows.put_belt.Goals as goal
 use Rattle.rows.proofs.rows.put_belt.Goals.{Start}
 

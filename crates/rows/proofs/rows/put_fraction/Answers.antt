@@ -3,7 +3,6 @@ use native.Mathlib.Omega.{arith}
 use Rattle.rows.specs.Row.{delimited}
 use Rattle.rows.proofs.Digits.{decimal-short}
 use Rattle.rows.proofs.Puts.{put_next}
-use borrow.Author.Rules.{rules}
 use Rattle.rows.proofs.rows.put_fraction.Goals as goal
 
 pub put_number-next-requires : goal.put_number-next-requires

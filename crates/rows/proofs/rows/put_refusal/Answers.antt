@@ -1,6 +1,5 @@
 -- `rows::rows::put_refusal` meets its contract. Assumes nothing.
 use Rattle.rows.specs.Rows.{refusal_row}
-use borrow.Author.Rules.{rules}
 use Rattle.rows.proofs.rows.put_refusal.Goals as goal
 
 pub returns : goal.returns

@@ -1,7 +1,6 @@
 -- `rows::rows::put_row` meets its contract. Assumes nothing.
 use Rattle.rows.specs.Row.{delimited, row}
 use Rattle.rows.proofs.Puts.{put_next}
-use borrow.Author.Rules.{rules}
 use Rattle.rows.proofs.rows.put_row.Goals as goal
 
 pub returns : goal.returns

@@ -1,5 +1,4 @@
 -- `run::iterations::iterate` meets its contract: the search gives the method's choice, and the step follows it. Assumes nothing.
-use borrow.Author.Rules.{rules}
 use mathlib.Core.Path.{◌≡◌, refl, sym, ap, subst, ◌∙◌}
 use mathlib.Core.Option.{some}
 use mathlib.Core.List.{List}

@@ -1,5 +1,4 @@
 -- `run::iterations::keep` meets its contract: the two ways of the branch are its two cases. Assumes nothing.
-use borrow.Author.Rules.{rules}
 use mathlib.Core.Path.{refl, sym, ◌∙◌}
 use mathlib.Core.Bool.{true≢false}
 use Rattle.run.proofs.iterations.keep.Goals as goal

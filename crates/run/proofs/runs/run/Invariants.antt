@@ -1,19 +1,9 @@
 -- `run::runs::run` meets its contract: the loop is the definition's, and what is left of m * T falls with each iteration.
 -- Assumes nothing.
-use borrow.Author.Rules.{rules}
-use mathlib.Core.Path.{refl, ap, ◌∙◌}
-use native.Mathlib.Omega.{arith}
-use Rattle.length.specs.Level.{threshold}
-use Rattle.network.specs.Network.{Network}
-use Rattle.network.proofs.Sounds.{resources-within}
 use Rattle.packed.specs.Packed.{net_in}
-use Rattle.packed.proofs.Columns.{arcs-is}
-use Rattle.method.specs.Iteration.{State}
 use Rattle.memory.specs.Memory.{Memory}
 use Rattle.step.specs.Progress.{state_in}
-use Rattle.run.specs.Noted.{Noted, Iterated}
-use Rattle.run.proofs.Begun.{begin-noted, begin-running}
-use Rattle.run.proofs.Onward.{onward-less, onward-last, onward-running, onward-noted}
+use Rattle.run.specs.Noted.{Noted}
 use Rattle.run.proofs.Running.{left, Running}
 use Rattle.run.proofs.Same.{Same}
 use Rattle.run.proofs.runs.run.Given as goal

@@ -1,6 +1,5 @@
 -- `search::relax::passed_by` meets its contract. Assumes nothing.
 use mathlib.Core.Path.{refl}
-use borrow.Author.Rules.{rules}
 use Rattle.paths.proofs.Enlisting.{apart}
 use Rattle.search.proofs.relax.passed_by.Goals as goal
 

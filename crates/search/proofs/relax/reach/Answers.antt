@@ -5,7 +5,6 @@ use mathlib.Core.Option.{some}
 use Prim.Native.Nat.{◌+◌, ◌*◌, ◌<◌}
 use native.Mathlib.Omega.{arith}
 use lib.ListN.{length, get_or}
-use borrow.Author.Rules.{rules}
 use Rattle.bounds.specs.Bounds.{most_nodes}
 use Rattle.network.specs.Path.{leads}
 use Rattle.network.specs.Onward.{node_length}

@@ -1,7 +1,5 @@
 -- `search::relax::relax` meets its contract: its test is the definition's, and the nearer is stored.
 -- Assumes nothing.
-use mathlib.Core.Logic.{⊎_elim}
-use borrow.Author.Rules.{rules}
 use Rattle.paths.proofs.Relaxing.{takes, takes_back}
 use Rattle.search.proofs.relax.relax.Goals as goal
 use Rattle.search.proofs.relax.relax.Goals.{then-way-old, else-way-old}

@@ -1,19 +1,13 @@
 -- `search::relax::relax_into` meets its contract: the arcs at the places of v before the present one are relaxed.
 -- Assumes nothing.
-use mathlib.Core.Path.{◌≡◌, refl, ◌∙◌}
+use mathlib.Core.Path.{◌≡◌}
 use mathlib.Core.List.{List}
-use Prim.Native.Nat.{ℕ, ◌+◌, ◌-◌, ◌^◌, ◌≤◌, ◌<◌}
-use native.Mathlib.Nat.{le_refl}
-use native.Mathlib.Omega.{arith}
+use Prim.Native.Nat.{ℕ, ◌-◌, ◌≤◌}
 use lib.ListN.{length, get_or}
 use Rattle.network.specs.Network.{Network}
-use Rattle.network.specs.Onward.{node_length}
 use Rattle.packed.specs.Packed.{net_in}
 use Rattle.index.specs.Index.{begins}
-use Rattle.paths.specs.Far.{far}
 use Rattle.paths.specs.Searching.{Passed, Spread}
-use Rattle.paths.proofs.NodeLengths.{through-is, node-small}
-use Rattle.paths.proofs.Turning.{spread_none, spread-more, spread-all}
 use Rattle.search.proofs.relax.relax_into.Given as goal
 
 -- the arcs at the places before p are relaxed, in tables as large as at first

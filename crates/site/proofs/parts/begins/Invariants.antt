@@ -1,15 +1,8 @@
 -- `site::parts::begins` meets its contract. The loop's invariant: the part of floor f begins at `from`. The measure is what is left of i.
 -- Assumes nothing.
-use borrow.Author.Rules.{rules}
-use mathlib.Core.Path.{◌≡◌, refl, ap, ◌∙◌}
-use Prim.Native.Nat.{◌+◌, ◌*◌, ◌-◌, ◌≤◌, ◌<◌}
-use native.Mathlib.Nat.{le_antisymm}
-use native.Mathlib.Omega.{arith}
-use Rattle.bounds.specs.Sites.{floor_numbers}
-use Rattle.numbers.specs.Numbers.{count}
-use Rattle.numbers.proofs.Columns.{member_below}
+use mathlib.Core.Path.{◌≡◌}
+use Prim.Native.Nat.{◌-◌, ◌≤◌}
 use Rattle.site.specs.Parts.{begins}
-use Rattle.site.proofs.Begins.{begins-most, begins-more}
 use Rattle.site.proofs.parts.begins.Given as goal
 
 abbrev pub invariant-loop-f : goal.invariant-loop-f

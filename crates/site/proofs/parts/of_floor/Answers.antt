@@ -1,5 +1,4 @@
 -- `site::parts::of_floor` meets its contract: a part of each slice. Assumes nothing.
-use borrow.Author.Rules.{rules}
 use mathlib.Core.Path.{◌≡◌, ap, ap₂, ◌∙◌}
 use Rattle.site.specs.declared.parts.Parts.{Parts}
 use Rattle.site.specs.declared.parts.Span.{Span}

@@ -1,5 +1,4 @@
 -- `solver::outcomes::answer` meets its contract: the fullest resource gives the scale. Assumes nothing.
-use borrow.Author.Rules.{rules}
 use mathlib.Core.Path.{refl}
 use native.Mathlib.Omega.{arith}
 use Rattle.solver.proofs.outcomes.answer.Goals as goal

@@ -1,6 +1,5 @@
 -- `solver::outcomes::outcome` meets its contract: where something is chosen the run's tables are the outcome's, else those of the start.
 -- Assumes nothing.
-use borrow.Author.Rules.{rules}
 use mathlib.Core.Path.{◌≡◌, sym, ap, subst, ◌∙◌}
 use mathlib.Core.List.{List}
 use Prim.Native.Nat.{ℕ, ◌≤◌}

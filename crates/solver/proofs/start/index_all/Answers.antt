@@ -1,5 +1,4 @@
 -- `solver::start::index_all` meets its contract. Assumes nothing.
-use borrow.Author.Rules.{rules}
 use Rattle.packed.specs.Packed.{put, net_in}
 use Rattle.packed.proofs.Columns.{part_length}
 use Rattle.index.specs.Index.{index_numbers}

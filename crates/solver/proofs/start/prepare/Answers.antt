@@ -1,9 +1,7 @@
 -- `solver::start::prepare` meets its contract: the cleared tables are the definition's start. Assumes nothing.
-use borrow.Author.Rules.{rules}
-use mathlib.Core.Path.{◌≡◌, sym, ap, subst, ◌∙◌}
+use mathlib.Core.Path.{◌≡◌, sym, subst, ◌∙◌}
 use Prim.Native.Nat.{ℕ, ◌≤◌}
 use native.Mathlib.Omega.{arith}
-use lib.ListN.{replicate}
 use Rattle.bounds.specs.Bounds.{most_arcs}
 use Rattle.network.proofs.Resources.{resource-capacities-length}
 use Rattle.network.proofs.Sounds.{sound-ends, resource-capacity-within}

@@ -1,5 +1,4 @@
 -- `solver::start::solve_in` meets its contract: the indexes are made, the tables cleared, and the rest is the outcome's. Assumes nothing.
-use borrow.Author.Rules.{rules}
 use mathlib.Core.Path.{ap, ◌∙◌}
 use native.Mathlib.Omega.{arith}
 use Rattle.network.proofs.Sounds.{sound-ends}

@@ -1,5 +1,4 @@
 -- `tables::draws::cross` meets its contract: the amount that it stores is the one that it read, moved by the tail's test. Assumes nothing.
-use borrow.Author.Rules.{rules}
 use mathlib.Core.Path.{ap, ◌∙◌}
 use Prim.Native.Nat.{◌+◌}
 use lib.IntN.{ℤ, pos, ◌+ℤ◌, ◌-ℤ◌}

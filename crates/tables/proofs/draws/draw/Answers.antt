@@ -1,10 +1,9 @@
 -- `tables::draws::draw` meets its contract: g, lowered by the arcs that are left, is the draw.
 -- Assumes nothing.
-use mathlib.Core.Logic.{⊎_elim}
-use Prim.Native.Nat.{◌-◌, ◌<◌}
+use Prim.Native.Nat.{◌<◌}
 use native.Mathlib.Omega.{arith}
 use lib.ListN.{length, get_or}
-use Rattle.tables.proofs.Lowered.{Lowered, lower-first, lower-more, lower-all}
+use Rattle.tables.proofs.Lowered.{lower-first, lower-more, lower-all}
 use Rattle.tables.proofs.draws.draw.Goals as goal
 use Rattle.tables.proofs.draws.draw.Goals.{In-loop-j, Start, then-capacities-e, else-capacities-e}
 

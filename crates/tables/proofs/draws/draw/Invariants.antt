@@ -1,10 +1,8 @@
 -- `tables::draws::draw` meets its contract: g, lowered by the arcs that are left, is the draw.
 -- Assumes nothing.
-use mathlib.Core.Logic.{⊎_elim}
-use Prim.Native.Nat.{◌-◌, ◌<◌}
-use native.Mathlib.Omega.{arith}
-use lib.ListN.{length, get_or}
-use Rattle.tables.proofs.Lowered.{Lowered, lower-first, lower-more, lower-all}
+use Prim.Native.Nat.{◌-◌}
+use lib.ListN.{length}
+use Rattle.tables.proofs.Lowered.{Lowered}
 use Rattle.tables.proofs.draws.draw.Given as goal
 
 abbrev pub invariant-loop-j : goal.invariant-loop-j

@@ -1,16 +1,9 @@
 -- `tables::draws::push` meets its contract: after j turns the flow is drawn over the first j arcs of the path, and no amount has grown by more than
 -- 64 draws, so the sums fit. Assumes nothing.
-use borrow.Author.Rules.{rules}
-use mathlib.Core.Path.{sym, ap}
-use native.Mathlib.Nat.{mul-le-mul}
-use native.Mathlib.Omega.{arith}
-use Prim.Native.Nat.{ℕ, ◌+◌, ◌*◌, ◌-◌, ◌≤◌, ◌<◌}
-use lib.ListN.{length, get_or}
-use Rattle.bounds.specs.Bounds.{most_nodes, most_commodities}
-use Rattle.network.specs.Network.{arcs}
-use Rattle.packed.specs.Packed.{net_in, sources_from, net_numbers}
-use Rattle.packed.proofs.Columns.{part_at, arcs-is, commodities-is}
-use Rattle.tables.proofs.Pushed.{Underway, push-none, push-more, push-all}
+use Prim.Native.Nat.{◌-◌}
+use lib.ListN.{length}
+use Rattle.packed.specs.Packed.{net_in}
+use Rattle.tables.proofs.Pushed.{Underway}
 use Rattle.tables.proofs.draws.push.Given as goal
 
 abbrev pub invariant-loop-j : goal.invariant-loop-j

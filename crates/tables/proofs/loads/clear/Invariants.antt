@@ -1,10 +1,8 @@
 -- `tables::loads::clear` meets its contract: after e turns the first e numbers are 0.
 -- Assumes nothing.
-use mathlib.Core.Path.{refl}
 use Prim.Native.Nat.{◌-◌}
-use native.Mathlib.Omega.{arith}
 use lib.ListN.{length}
-use Rattle.tables.proofs.Filled.{Filling, fill_none, fill_more, fill-same}
+use Rattle.tables.proofs.Filled.{Filling}
 use Rattle.tables.proofs.loads.clear.Given as goal
 
 abbrev pub invariant-loop-e : goal.invariant-loop-e

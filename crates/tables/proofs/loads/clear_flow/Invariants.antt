@@ -1,11 +1,9 @@
 -- `tables::loads::clear_flow` meets its contract: after e turns the first e amounts are 0.
 -- Assumes nothing.
-use mathlib.Core.Path.{refl}
 use Prim.Native.Nat.{◌-◌}
-use native.Mathlib.Omega.{arith}
 use lib.IntN.{pos}
 use lib.ListN.{length}
-use Rattle.tables.proofs.Filled.{Filling, fill_none, fill_more, fill-same}
+use Rattle.tables.proofs.Filled.{Filling}
 use Rattle.tables.proofs.loads.clear_flow.Given as goal
 
 abbrev pub invariant-loop-e : goal.invariant-loop-e

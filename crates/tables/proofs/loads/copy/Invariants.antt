@@ -1,10 +1,8 @@
 -- `tables::loads::copy` meets its contract: after e turns the first e numbers are copied.
 -- Assumes nothing.
-use mathlib.Core.Path.{refl}
 use Prim.Native.Nat.{◌-◌}
-use native.Mathlib.Omega.{arith}
 use lib.ListN.{length, get_or}
-use Rattle.tables.proofs.Filled.{Filling, fill_none, fill_more, fill-all}
+use Rattle.tables.proofs.Filled.{Filling}
 use Rattle.tables.proofs.loads.copy.Given as goal
 
 abbrev pub invariant-loop-e : goal.invariant-loop-e

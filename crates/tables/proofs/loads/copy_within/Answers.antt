@@ -1,7 +1,6 @@
 -- `tables::loads::copy_within` meets its contract: after e turns the first e numbers are copied. Assumes nothing.
-use Prim.Native.Nat.{◌-◌}
 use native.Mathlib.Omega.{arith}
-use Rattle.tables.proofs.Copied.{Copying, copying-none, copying-more, copying-all}
+use Rattle.tables.proofs.Copied.{copying-none, copying-more, copying-all}
 use Rattle.tables.proofs.loads.copy_within.Goals as goal
 
 pub loop-e-preserved : goal.loop-e-preserved

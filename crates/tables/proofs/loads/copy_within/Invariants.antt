@@ -1,7 +1,6 @@
 -- `tables::loads::copy_within` meets its contract: after e turns the first e numbers are copied. Assumes nothing.
 use Prim.Native.Nat.{◌-◌}
-use native.Mathlib.Omega.{arith}
-use Rattle.tables.proofs.Copied.{Copying, copying-none, copying-more, copying-all}
+use Rattle.tables.proofs.Copied.{Copying}
 use Rattle.tables.proofs.loads.copy_within.Given as goal
 
 abbrev pub invariant-loop-e : goal.invariant-loop-e

@@ -1,11 +1,10 @@
 -- `tables::loads::fullest` meets its contract: b is the fullest of the arcs passed.
 -- Assumes nothing.
-use mathlib.Core.Logic.{⊎_elim}
-use Prim.Native.Nat.{ℕ, ◌-◌, ◌*◌, ◌^◌, ◌≤◌}
+use Prim.Native.Nat.{ℕ, ◌*◌, ◌^◌, ◌≤◌}
 use native.Mathlib.Nat.{mul-le-mul, le_of_lt}
 use native.Mathlib.Omega.{arith}
-use lib.ListN.{length, get_or}
-use Rattle.tables.proofs.Fuller.{Ranked, rank-first, rank-fuller, rank-other, rank-all}
+use lib.ListN.{get_or}
+use Rattle.tables.proofs.Fuller.{rank-first, rank-fuller, rank-other, rank-all}
 use Rattle.tables.proofs.loads.fullest.Goals as goal
 use Rattle.tables.proofs.loads.fullest.Goals.{In-loop-e, then-loads-b, else-loads-b}
 

@@ -3,12 +3,11 @@
 -- Assumes nothing.
 use mathlib.Core.Path.{sym, ap, ◌∙◌}
 use mathlib.Core.Bool.{◌||◌, or-true, or-false}
-use mathlib.Core.Logic.{⊎_elim}
-use Prim.Native.Nat.{ℕ, ◌+◌, ◌*◌, ◌-◌, ◌^◌, ◌≤◌, ◌<◌}
+use Prim.Native.Nat.{ℕ, ◌+◌, ◌*◌, ◌^◌, ◌≤◌, ◌<◌}
 use native.Mathlib.Omega.{arith}
 use borrow.Author.Tests.{le-leb, lt-leb}
 use lib.ListN.{length, get_or}
-use Rattle.tables.proofs.Loadings.{Raised, raise-none, raise-more, raise-all, next_place, next-load, next-limit}
+use Rattle.tables.proofs.Loadings.{raise-none, raise-more, raise-all, next_place, next-load, next-limit}
 use Rattle.tables.proofs.loads.load.Goals as goal
 use Rattle.tables.proofs.loads.load.Goals.{In-loop-j, then-threshold-capacities, else-threshold-capacities}
 

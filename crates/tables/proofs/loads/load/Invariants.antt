@@ -1,14 +1,9 @@
 -- `tables::loads::load` meets its contract: after j turns the loads are raised along the first j arcs of the path, with the test of the threshold
 -- carried along. No load has grown by more than 64 draws, so the sums fit.
 -- Assumes nothing.
-use mathlib.Core.Path.{sym, ap, ◌∙◌}
-use mathlib.Core.Bool.{◌||◌, or-true, or-false}
-use mathlib.Core.Logic.{⊎_elim}
-use Prim.Native.Nat.{ℕ, ◌+◌, ◌*◌, ◌-◌, ◌^◌, ◌≤◌, ◌<◌}
-use native.Mathlib.Omega.{arith}
-use borrow.Author.Tests.{le-leb, lt-leb}
-use lib.ListN.{length, get_or}
-use Rattle.tables.proofs.Loadings.{Raised, raise-none, raise-more, raise-all, next_place, next-load, next-limit}
+use Prim.Native.Nat.{◌-◌}
+use lib.ListN.{length}
+use Rattle.tables.proofs.Loadings.{Raised}
 use Rattle.tables.proofs.loads.load.Given as goal
 
 abbrev pub invariant-loop-j : goal.invariant-loop-j

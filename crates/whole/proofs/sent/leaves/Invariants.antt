@@ -1,14 +1,9 @@
 -- `whole::sent::leaves` meets its contract. The loop's invariant: the total is the sum over the arcs before e. The measure is what is left of m.
 -- Assumes nothing.
-use borrow.Author.Rules.{rules}
-use mathlib.Core.Path.{◌≡◌, refl, sym, ap, ◌∙◌}
-use Prim.Native.Nat.{◌+◌, ◌*◌, ◌-◌, ◌≤◌, ◌<◌, ◌^◌}
-use native.Mathlib.Omega.{arith}
-use lib.Dec.{lit≤}
+use mathlib.Core.Path.{◌≡◌}
+use Prim.Native.Nat.{◌-◌, ◌≤◌}
 use Rattle.arith.specs.Sum.{sum}
-use Rattle.numbers.specs.Numbers.{count, items}
-use Rattle.numbers.proofs.Columns.{member_below}
-use Rattle.whole.proofs.Leaves.{over, leaves-sum, one_more, sum-next}
+use Rattle.whole.proofs.Leaves.{over}
 use Rattle.whole.proofs.sent.leaves.Given as goal
 
 abbrev pub invariant-loop-e : goal.invariant-loop-e

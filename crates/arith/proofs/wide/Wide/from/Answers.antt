@@ -1,5 +1,4 @@
 -- `arith::wide::Wide::from` meets its contract: two limbs write a number of 64 bits. Assumes nothing.
-use borrow.Author.Rules.{rules}
 use native.Mathlib.Omega.{arith}
 use Prim.Native.Nat.{◌-◌}
 use Rattle.arith.specs.Limbs.{width}

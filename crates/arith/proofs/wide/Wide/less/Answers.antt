@@ -4,7 +4,6 @@ use mathlib.Core.Path.{◌≡◌, sym}
 use mathlib.Core.List.{List}
 use Prim.Native.Nat.{ℕ, suc, ◌<◌, ◌-◌}
 use native.Mathlib.Omega.{arith}
-use Rattle.arith.specs.Limbs.{width}
 use Rattle.arith.proofs.Comparing.{Level, level-start, level-step, level-end, level-decides}
 use Rattle.arith.proofs.wide.Wide.less.Goals as goal
 

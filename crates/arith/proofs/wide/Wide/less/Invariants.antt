@@ -1,10 +1,8 @@
 -- `arith::wide::Wide::less` meets its contract. The invariant is `Level`: from place i up the two write the same.
 -- Assumes nothing.
-use mathlib.Core.Path.{◌≡◌, sym}
-use Prim.Native.Nat.{suc, ◌≤◌, ◌-◌}
-use native.Mathlib.Omega.{arith}
+use Prim.Native.Nat.{◌≤◌}
 use Rattle.arith.specs.Limbs.{width}
-use Rattle.arith.proofs.Comparing.{Level, level-start, level-step, level-end, level-decides}
+use Rattle.arith.proofs.Comparing.{Level}
 use Rattle.arith.proofs.wide.Wide.less.Given as goal
 
 abbrev pub invariant-loop-i : goal.invariant-loop-i

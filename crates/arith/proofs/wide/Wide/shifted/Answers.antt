@@ -1,10 +1,8 @@
 -- `arith::wide::Wide::shifted` meets its contract. The invariant is `Shifted`: i limbs of self stand in r, each one place up.
 -- Assumes nothing.
-use Prim.Native.Nat.{◌<◌, ◌-◌}
 use native.Mathlib.Numerals.{add-one}
 use native.Mathlib.Omega.{arith}
-use Rattle.arith.specs.Limbs.{width}
-use Rattle.arith.proofs.Shifts.{Shifted, shifted_start, shifted_step, shifted_end}
+use Rattle.arith.proofs.Shifts.{shifted_start, shifted_step, shifted_end}
 use Rattle.arith.proofs.wide.Wide.shifted.Goals as goal
 
 pub loop-i-init : goal.loop-i-init

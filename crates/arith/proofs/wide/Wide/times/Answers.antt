@@ -3,7 +3,6 @@
 use native.Mathlib.Omega.{arith}
 use Rattle.arith.specs.Limbs.{from_limbs}
 use Rattle.arith.proofs.Products.{split-product}
-use borrow.Author.Rules.{rules}
 use Rattle.arith.proofs.wide.Wide.times.Goals as goal
 
 pub times_plus-high-requires : goal.times_plus-high-requires

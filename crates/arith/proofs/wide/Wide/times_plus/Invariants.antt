@@ -1,11 +1,8 @@
 -- `arith::wide::Wide::times_plus` meets its contract. The invariant is `Carried`: i limbs of self * k + other stand in r, and one number is carried.
 -- Assumes nothing.
-use Prim.Native.Nat.{◌≤◌, ◌<◌, ◌-◌, ◌^◌}
-use native.Mathlib.Numerals.{add-one}
-use native.Mathlib.Omega.{arith}
-use lib.ListN.{get_or}
+use Prim.Native.Nat.{◌≤◌, ◌-◌}
 use Rattle.arith.specs.Limbs.{width}
-use Rattle.arith.proofs.Carries.{Carried, turn, turn-fits, carried-start, carried_step, carried-end}
+use Rattle.arith.proofs.Carries.{Carried}
 use Rattle.arith.proofs.wide.Wide.times_plus.Given as goal
 
 abbrev pub invariant-loop-i : goal.invariant-loop-i
