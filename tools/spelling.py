@@ -1,7 +1,7 @@
 #!/usr/bin/env python3
 """Spells this repository's own definitions and lemmas as today's Rattle does: words in snake case.
 
-usage: python3 tools/spelling.py [--list]     at the top, after /opt/rattle/port/port.py and its commit
+usage: python3 tools/spelling.py [--list]     at the top, after the kit's port.py and its commit
 
 A name that a file of specs/ or proofs/ declares, and of which a part between dashes begins in lower case and has a capital
 (netIn, drop-putAt), gets that part in snake case (net_in, drop-put_at), wherever crates/ and the pages name it. Types, facts
