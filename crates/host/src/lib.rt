@@ -4,14 +4,14 @@
 mod room;
 mod serve;
 
+ghost use Rattle.network.specs.Refusal.{host_number};
 ghost use Rattle.call.specs.Deliver.{slices};
 ghost use Rattle.call.specs.Host.{Hosted};
 
-use checks::numbers::host_number;
 use network::Verdict;
 
-// Solves the floor in the byte slices: 0 and the tables written, or a refusal's number * 1,000 + its place and no byte changed. A call with tables
-// of its own says whether one of them is too small (lacking), since that is refused here, in its place, and writes them once 0 is returned.
+// Solves the floor in the byte slices: the tables are written, or it is turned down and no byte changed; a caller in C gets the verdict's number. A call with tables
+// of its own says whether one of them is too small (lacking), since that is refused here, in its place, and writes them once it is accepted.
 pub fn solve(
     n: u64,
     q: u64,
@@ -24,14 +24,11 @@ pub fn solve(
     answer: &mut [u8],
     counts: &mut [u8],
     lacking: bool,
-) -> u64
-    ensures { Hosted lacking n q office belts.now pairs.now limits.now (slices flow.old lengths.old answer.old counts.old) (slices flow.new lengths.new answer.new counts.new) result }
+) -> Verdict
+    ensures { Hosted lacking n q office belts.now pairs.now limits.now (slices flow.old lengths.old answer.old counts.old) (slices flow.new lengths.new answer.new counts.new) (host_number result) }
 {
     let s = decode::shape(n, belts, pairs, limits);
-    let v = room::check_call(lacking, s, q, office, flow, lengths, answer, counts);
-    if let Verdict::Refused(_) = v {
-        return host_number(v);
-    }
+    room::check_call(lacking, s, q, office, flow, lengths, answer, counts)?;
     let own = 8 * (office as usize - 1);
     serve::serve(
         s,

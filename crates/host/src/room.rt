@@ -47,13 +47,13 @@ fn check_office(office: u64, counts: &[u8]) -> Verdict
     ensures { result ≡ verdict (office_conditions office counts.now) }
 {
     if outside(1, OFFICES as u64, office) {
-        return Verdict::Refused(Refusal::Office);
+        return Err(Refusal::Office);
     }
     let place = office as usize - 1;
     if MOST_RUNNING < numbers::read(counts, place) {
-        return Verdict::Refused(Refusal::FullCount);
+        return Err(Refusal::FullCount);
     }
-    Verdict::Accepted
+    Ok(())
 }
 
 // 1 to 5, 11, 15 and 16.
@@ -69,10 +69,7 @@ pub fn check_call(
 ) -> Verdict
     ensures { result ≡ verdict (call_conditions lacking s.nodes s.arcs s.resources s.commodities q office (slices flow.now lengths.now answer.now counts.now)) }
 {
-    let sizes = check_sizes(s.nodes, s.arcs, s.resources, s.commodities, q);
-    if let Verdict::Refused(_) = sizes {
-        return sizes;
-    }
+    check_sizes(s.nodes, s.arcs, s.resources, s.commodities, q)?;
     if short(
         lacking,
         s.commodities,
@@ -83,7 +80,7 @@ pub fn check_call(
         answer,
         counts,
     ) {
-        return Verdict::Refused(Refusal::ShortTable);
+        return Err(Refusal::ShortTable);
     }
     check_office(office, counts)
 }

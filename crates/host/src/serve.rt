@@ -1,11 +1,11 @@
 // A call whose sizes have passed: its network read and checked, and the outcome delivered.
 ghost use Rattle.packed.specs.Packed.{Packed};
+ghost use Rattle.network.specs.Refusal.{host_number};
 ghost use Rattle.decode.specs.Decode.{network_in};
 ghost use Rattle.call.specs.Deliver.{slices};
 ghost use Rattle.call.specs.Serve.{Sizable, Judged};
 
 use checks::items::check_items;
-use checks::numbers::host_number;
 use deliver::deliver;
 use network::Verdict;
 use packed::{NET_NUMBERS, Shape};
@@ -22,18 +22,15 @@ fn serve_in(
     lengths: &mut [u8],
     answer: &mut [u8],
     running: &mut [u8],
-) -> u64
+) -> Verdict
     requires sizes { Sizable s q belts.now pairs.now limits.now (slices flow.old lengths.old answer.old running.old) }
     requires places { Packed s net.old }
-    ensures { Judged (network_in s.nodes belts.now pairs.now limits.now) q (slices flow.old lengths.old answer.old running.old) (slices flow.new lengths.new answer.new running.new) result }
+    ensures { Judged (network_in s.nodes belts.now pairs.now limits.now) q (slices flow.old lengths.old answer.old running.old) (slices flow.new lengths.new answer.new running.new) (host_number result) }
 {
     decode::decode(s, belts, pairs, limits, net);
-    let v = check_items(s, net);
-    if let Verdict::Refused(_) = v {
-        return host_number(v);
-    }
+    check_items(s, net)?;
     deliver(s, q, net, flow, lengths, answer, running);
-    0
+    Ok(())
 }
 
 // The call served.
@@ -47,9 +44,9 @@ pub fn serve(
     lengths: &mut [u8],
     answer: &mut [u8],
     running: &mut [u8],
-) -> u64
+) -> Verdict
     requires { Sizable s q belts.now pairs.now limits.now (slices flow.old lengths.old answer.old running.old) }
-    ensures { Judged (network_in s.nodes belts.now pairs.now limits.now) q (slices flow.old lengths.old answer.old running.old) (slices flow.new lengths.new answer.new running.new) result }
+    ensures { Judged (network_in s.nodes belts.now pairs.now limits.now) q (slices flow.old lengths.old answer.old running.old) (slices flow.new lengths.new answer.new running.new) (host_number result) }
 {
     let mut net = [0u64; NET_NUMBERS];
     serve_in(

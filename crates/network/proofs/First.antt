@@ -51,7 +51,7 @@ pub accepted-first : (xs ys : List Condition) {v u : Verdict} → v ≡ verdict 
 accepted-first xs ys e h w = w ∙ sym (first-accepts xs ys (sym e ∙ h))
 
 -- A `?` hands the refusal r of v on as u.
-handed : {u v : Verdict} {r : Refusal} → v ≡ Refused r → IsErrAnd u (λ e. e ≡ r) → u ≡ v
+pub handed : {u v : Verdict} {r : Refusal} → v ≡ Refused r → IsErrAnd u (λ e. e ≡ r) → u ≡ v
 handed {u} e h = let p = err_from_is_err_and u h in p.1 ∙ ap Refused p.2 ∙ sym e
 
 pub refused-handed : (xs ys : List Condition) {u v : Verdict} {r : Refusal} → v ≡ verdict xs → v ≡ Refused r → IsErrAnd u (λ e. e ≡ r) → u ≡ verdict (xs ++ ys)

@@ -1,7 +1,7 @@
 -- `host::room::check_call` meets its contract: the sizes before 5, and 5 before 16 and 11. Assumes nothing.
 use mathlib.Core.Path.{sym, ◌∙◌}
 use Rattle.network.proofs.Decided.{accepted-quiet}
-use Rattle.network.proofs.First.{refused-first, accepted-first, decides, passes}
+use Rattle.network.proofs.First.{refused-handed, accepted-first, decides, passes}
 use Rattle.network.proofs.Sizes.{sizes-kept}
 use Rattle.call.specs.Deliver.{slices}
 use Rattle.call.specs.Host.{Slices, host_conditions}
@@ -12,18 +12,18 @@ use Rattle.host.proofs.room.check_call.Goals.{Start}
 abbrev lent : Start → Slices
 lent s = slices s.args.flow.now s.args.lengths.now s.args.answer.now s.args.counts.now
 
-pub returns-in-Refused : goal.returns-in-Refused
-returns-in-Refused c = refused-first _ _ c.check_sizes-sizes.ensures c.in-Refused.is
+pub returns-in_err-check_sizes : goal.returns-in_err-check_sizes
+returns-in_err-check_sizes c = refused-handed _ _ c.check_sizes.ensures c.in_err-check_sizes.was c.from_residual.ensures.1
 
 pub short-requires : goal.short-requires
 short-requires c =
-    let k = sizes-kept _ _ _ _ _ (accepted-quiet _ (sym c.check_sizes-sizes.ensures ∙ c.in_default.is)) in
+    let k = sizes-kept _ _ _ _ _ (accepted-quiet _ (sym c.check_sizes.ensures ∙ c.in_ok-check_sizes.was)) in
     (k.of-commodities.most, k.of-arcs.most)
 
 pub returns-then-short : goal.returns-then-short
 unfolding host_conditions
 returns-then-short c =
-    accepted-first _ _ c.check_sizes-sizes.ensures c.in_default.is (decides _ c.short.ensures c.if-short.true)
+    accepted-first _ _ c.check_sizes.ensures c.in_ok-check_sizes.was (decides _ c.short.ensures c.if-short.true)
 
 pub check_office-requires : goal.check_office-requires
 check_office-requires c =
@@ -32,4 +32,4 @@ check_office-requires c =
 pub returns : goal.returns
 unfolding host_conditions
 returns c =
-    accepted-first _ _ c.check_sizes-sizes.ensures c.in_default.is (passes _ _ c.short.ensures c.if-short.false c.check_office.ensures)
+    accepted-first _ _ c.check_sizes.ensures c.in_ok-check_sizes.was (passes _ _ c.short.ensures c.if-short.false c.check_office.ensures)

@@ -5,12 +5,13 @@ use Rattle.network.specs.Network.{Network}
 use Rattle.network.specs.Refusal.{host_number, Accepted}
 use Rattle.network.specs.Resources.{resources}
 use Rattle.network.specs.Verdict.{verdict, item_conditions}
+use Rattle.network.proofs.First.{handed}
 use Rattle.packed.specs.Packed.{net_in, Packed}
 use Rattle.call.specs.Deliver.{slices}
 use Rattle.call.specs.Host.{Slices}
-use Rattle.call.proofs.Judged.{fits, lends, judged-of, served-refused, served-accepted}
+use Rattle.call.proofs.Judged.{lends, judged-of, served-refused, served-accepted}
 use Rattle.host.proofs.serve.serve_in.Goals as goal
-use Rattle.host.proofs.serve.serve_in.Goals.{After-decode, In_default, Start}
+use Rattle.host.proofs.serve.serve_in.Goals.{After-decode, In_ok-check_items, Start}
 
 -- the slices at entry
 abbrev lent : Start → Slices
@@ -29,27 +30,24 @@ packs c =
 counted : (c : After-decode) → c.args.s.resources ≡ resources (net c)
 counted c = c.requires.sizes.shaped.counted ∙ ap resources (sym c.decode.ensures)
 
-pub check_items-v-requires : goal.check_items-v-requires
-check_items-v-requires c = packs (goal.at.check_items-v-requires c).After-decode
+pub check_items-requires : goal.check_items-requires
+check_items-requires c = packs (goal.at.check_items-requires c).After-decode
 
-pub host_number-requires : goal.host_number-requires
-host_number-requires c =
-    rw c.check_items-v.ensures (fits (packs (goal.at.host_number-requires c).After-decode) c.args.q c.requires.sizes.counts (counted (goal.at.host_number-requires c).After-decode))
-
-pub returns-in-Refused : goal.returns-in-Refused
-returns-in-Refused c =
-    let e = c.check_items-v.ensures in
+pub returns-in_err-check_items : goal.returns-in_err-check_items
+returns-in_err-check_items c =
+    let e = c.check_items.ensures in
+    let w = c.in_err-check_items.was in
     judged-of c.decode.ensures
-    (served-refused (net (goal.at.returns-in-Refused c).After-decode) c.args.q (verdict (item_conditions (net (goal.at.returns-in-Refused c).After-decode))) (lent (goal.at.returns-in-Refused c).Start) c.host_number.result _ _ (sym e ∙ c.in-Refused.is) (c.host_number.ensures ∙ ap host_number e))
+    (served-refused (net (goal.at.returns-in_err-check_items c).After-decode) c.args.q (verdict (item_conditions (net (goal.at.returns-in_err-check_items c).After-decode))) (lent (goal.at.returns-in_err-check_items c).Start) _ _ _ (sym e ∙ w) (ap host_number (handed w c.from_residual.ensures.1 ∙ e)))
 
 -- nothing is refused
-accepted : (c : In_default) → verdict (item_conditions (net (goal.at.In_default c).After-decode)) ≡ Accepted
-accepted c = sym c.check_items-v.ensures ∙ c.in_default.is
+accepted : (c : In_ok-check_items) → verdict (item_conditions (net (goal.at.In_ok-check_items c).After-decode)) ≡ Accepted
+accepted c = sym c.check_items.ensures ∙ c.in_ok-check_items.was
 
 pub deliver-requires : goal.deliver-requires
 deliver-requires c =
     record {
-      lent = lends (packs (goal.at.deliver-requires c).After-decode) c.args.q c.requires.sizes.counts (counted (goal.at.deliver-requires c).After-decode) (accepted (goal.at.deliver-requires c).In_default);
+      lent = lends (packs (goal.at.deliver-requires c).After-decode) c.args.q c.requires.sizes.counts (counted (goal.at.deliver-requires c).After-decode) (accepted (goal.at.deliver-requires c).In_ok-check_items);
       room = c.requires.sizes.open-for;
     }
 
@@ -57,4 +55,4 @@ pub returns : goal.returns
 returns c =
     let l = c.deliver.new in
     judged-of c.decode.ensures
-    (served-accepted (net (goal.at.returns c).After-decode) c.args.q (verdict (item_conditions (net (goal.at.returns c).After-decode))) (lent (goal.at.returns c).Start) 0 (slices l.flow l.lengths l.answer l.running) (accepted (goal.at.returns c).In_default) refl c.deliver.ensures)
+    (served-accepted (net (goal.at.returns c).After-decode) c.args.q (verdict (item_conditions (net (goal.at.returns c).After-decode))) (lent (goal.at.returns c).Start) 0 (slices l.flow l.lengths l.answer l.running) (accepted (goal.at.returns c).In_ok-check_items) refl c.deliver.ensures)
