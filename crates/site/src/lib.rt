@@ -6,6 +6,7 @@ mod parts;
 
 ghost use Rattle.std.specs.Prelude.{◌<◌};
 ghost use Rattle.bounds.specs.Sites.{floor_numbers};
+ghost use Rattle.network.specs.Refusal.{host_number};
 ghost use Rattle.numbers.specs.Numbers.{items};
 ghost use Rattle.call.specs.Deliver.{slices};
 ghost use Rattle.site.specs.Site.{Sited};
@@ -59,7 +60,7 @@ fn solve_floor(
         counts,
         false,
     );
-    numbers::write(answers, 8 * i, returned);
+    numbers::write(answers, 8 * i, host_number(returned));
 }
 
 // All floors in their order. What one is refused for concerns no other.
@@ -78,17 +79,15 @@ fn solve_floors(
     ensures { FloorsServed (site office floors.now belts.now pairs.now limits.now) (items floor_numbers floors.now) (slices flow.old lengths.old answers.old counts.old) (slices flow.new lengths.new answers.new counts.new) }
 {
     let k = numbers::items(floors, FLOOR_NUMBERS);
-    let mut i = 0;
-    while i < k {
+    for i in 0..k {
         solve_floor(
             i, office, floors, belts, pairs, limits, flow, lengths, answers, counts,
         );
-        i += 1;
     }
 }
 
-// Solves the site's floors in the byte slices: 0, with what each floor's own call returns at the head of its eight numbers in answers; or a refusal's
-// number * 1,000 and no byte changed.
+// Solves the site's floors in the byte slices, with the number of each floor's own verdict at the head of its eight numbers in answers; or the call is
+// turned down and no byte changed.
 pub fn solve(
     office: u64,
     floors: &[u8],
@@ -99,15 +98,12 @@ pub fn solve(
     lengths: &mut [u8],
     answers: &mut [u8],
     counts: &mut [u8],
-) -> u64
-    ensures { Sited (site office floors.now belts.now pairs.now limits.now) (slices flow.old lengths.old answers.old counts.old) (slices flow.new lengths.new answers.new counts.new) result }
+) -> Verdict
+    ensures { Sited (site office floors.now belts.now pairs.now limits.now) (slices flow.old lengths.old answers.old counts.old) (slices flow.new lengths.new answers.new counts.new) (host_number result) }
 {
-    let v = list::check_list(floors, answers);
-    if let Verdict::Refused(_) = v {
-        return host_number(v);
-    }
+    list::check_list(floors, answers)?;
     solve_floors(
         office, floors, belts, pairs, limits, flow, lengths, answers, counts,
     );
-    0
+    Ok(())
 }

@@ -13,10 +13,10 @@ pub fn check_list(floors: &[u8], answers: &[u8]) -> Verdict
 {
     let k = numbers::items(floors, FLOOR_NUMBERS);
     if outside(1, MOST_NETWORKS as u64, k as u64) {
-        return Verdict::Refused(Refusal::Networks);
+        return Err(Refusal::Networks);
     }
     if numbers::count(answers) < 8 * k {
-        return Verdict::Refused(Refusal::ShortTable);
+        return Err(Refusal::ShortTable);
     }
-    Verdict::Accepted
+    Ok(())
 }

@@ -29,11 +29,7 @@ pub struct Parts {
 fn fit(told: u64, left: usize) -> usize
     ensures { result ≡ min told left }
 {
-    if told < left as u64 {
-        told as usize
-    } else {
-        left
-    }
+    told.min(left as u64) as usize
 }
 
 // Where floor i's part begins, of a slice of so many numbers, member j of an item telling how many are its floor's own.
@@ -42,10 +38,8 @@ fn begins(floors: &[u8], j: usize, room: usize, i: usize) -> usize
     ensures { result ≡ begins floors.now j room i }
 {
     let mut from = 0;
-    let mut f = 0;
-    while f < i {
+    for f in 0..i {
         from += fit(numbers::read(floors, FLOOR_NUMBERS * f + j), room - from);
-        f += 1;
     }
     from
 }

@@ -1,6 +1,8 @@
 // The call for a site's floors. Request C-14.
 ghost use Rattle.site.specs.Site.{Sited};
 
+use checks::numbers::host_number;
+
 // Solves the site's floors in the byte slices, each as vithmork_solve would: 0, and for each floor eight numbers in the table answers, what its own
 // call would return and its answer; or a refusal's number * 1,000 and no byte changed.
 #[unsafe(no_mangle)]
@@ -20,7 +22,8 @@ pub extern "C" fn vithmork_site(
         (record { flow = flow.new; lengths = lengths.new; answer = answers.new; counts = counts.new })
         result }
 {
-    site::solve(
+    let v = site::solve(
         office, floors, belts, pairs, limits, flow, lengths, answers, counts,
-    )
+    );
+    host_number(v)
 }

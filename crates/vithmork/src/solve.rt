@@ -2,6 +2,8 @@
 ghost use Rattle.std.specs.Prelude.{false};
 ghost use Rattle.call.specs.Host.{Hosted};
 
+use checks::numbers::host_number;
+
 // Solves the floor in the byte slices: 0 and the tables written, or a refusal's number * 1,000 + its place and no byte changed.
 #[unsafe(no_mangle)]
 pub extern "C" fn vithmork_solve(
@@ -21,7 +23,8 @@ pub extern "C" fn vithmork_solve(
         (record { flow = flow.new; lengths = lengths.new; answer = answer.new; counts = counts.new })
         result }
 {
-    host::solve(
+    let v = host::solve(
         n, q, office, belts, pairs, limits, flow, lengths, answer, counts, false,
-    )
+    );
+    host_number(v)
 }

@@ -1,6 +1,8 @@
 // The call for whole totes an hour. Request C-15.
 ghost use Rattle.whole.specs.Whole.{Whole};
 
+use checks::numbers::host_number;
+
 // Solves the floor as vithmork_solve does, and gives each pair's whole totes an hour and the remainder in the table totes.
 #[unsafe(no_mangle)]
 pub extern "C" fn vithmork_whole(
@@ -21,7 +23,8 @@ pub extern "C" fn vithmork_whole(
         (record { flow = flow.new; lengths = lengths.new; answer = answer.new; counts = counts.new })
         totes.old totes.new result }
 {
-    whole::solve(
+    let v = whole::solve(
         n, q, office, belts, pairs, limits, flow, lengths, answer, counts, totes,
-    )
+    );
+    host_number(v)
 }

@@ -4,10 +4,13 @@
 mod sent;
 
 ghost use Rattle.std.specs.Prelude.{◌≡◌, ◌+◌, ◌*◌, ◌/◌, ◌%◌, ◌<◌};
+ghost use Rattle.network.specs.Refusal.{host_number};
 ghost use Rattle.numbers.specs.Numbers.{count, items, number_at, written, put_at};
 ghost use Rattle.call.specs.Deliver.{slices};
 ghost use Rattle.whole.specs.Read.{sent_in, Readable};
 ghost use Rattle.whole.specs.Whole.{parted, Whole};
+
+use network::Verdict;
 
 // Pair i's two numbers: as many whole totes as there are loads in its scaled amount, and what is left, so that nothing is lost between the two.
 fn put_pair(totes: &mut [u8], i: usize, scaled: u64, load: u64)
@@ -36,8 +39,8 @@ fn put_totes(belts: &[u8], pairs: &[u8], flow: &[u8], answer: &[u8], totes: &mut
     }
 }
 
-// Solves the floor in the byte slices, and gives each pair's whole totes an hour and the remainder: 0 and the tables written, or a refusal's
-// number * 1,000 + its place and no byte changed.
+// Solves the floor in the byte slices, and gives each pair's whole totes an hour and the remainder: the tables are written, or the call is turned
+// down and no byte changed.
 pub fn solve(
     n: u64,
     q: u64,
@@ -50,15 +53,13 @@ pub fn solve(
     answer: &mut [u8],
     counts: &mut [u8],
     totes: &mut [u8],
-) -> u64
-    ensures { Whole n q office belts.now pairs.now limits.now (slices flow.old lengths.old answer.old counts.old) (slices flow.new lengths.new answer.new counts.new) totes.old totes.new result }
+) -> Verdict
+    ensures { Whole n q office belts.now pairs.now limits.now (slices flow.old lengths.old answer.old counts.old) (slices flow.new lengths.new answer.new counts.new) totes.old totes.new (host_number result) }
 {
     let lacking = numbers::count(totes) < 2 * numbers::items(pairs, 2);
-    let result = host::solve(
+    host::solve(
         n, q, office, belts, pairs, limits, flow, lengths, answer, counts, lacking,
-    );
-    if result == 0 {
-        put_totes(belts, pairs, flow, answer, totes);
-    }
-    result
+    )?;
+    put_totes(belts, pairs, flow, answer, totes);
+    Ok(())
 }

@@ -5,7 +5,10 @@ use Prim.Native.Nat.{◌*◌}
 use native.Mathlib.Omega.{arith}
 use lib.Dec.{ltb}
 use Rattle.network.specs.Network.{Network}
-use Rattle.network.specs.Refusal.{Accepted}
+use Rattle.network.specs.Refusal.{host_number, Accepted}
+use Rattle.network.proofs.Decided.{no-refusal}
+use Rattle.network.proofs.First.{handed}
+use Rattle.network.proofs.HostNumber.{zero-accepted}
 use Rattle.numbers.specs.Numbers.{written}
 use Rattle.decode.specs.Decode.{network_in}
 use Rattle.decode.proofs.Items.{commodities-in}
@@ -15,7 +18,7 @@ use Rattle.call.proofs.ReadBack.{taken-up, answered, turned_down, had-room}
 use Rattle.whole.specs.Whole.{lacks}
 use Rattle.whole.proofs.Reading.{totes-are, readable}
 use Rattle.whole.proofs.solve.Goals as goal
-use Rattle.whole.proofs.solve.Goals.{After-solve-result, Start, Then-result-eq0}
+use Rattle.whole.proofs.solve.Goals.{After-solve, In_ok-solve, Start}
 
 -- the network and the slices at entry
 abbrev net : Start → Network
@@ -25,45 +28,48 @@ abbrev lent : Start → Slices
 lent s = slices s.args.flow.now s.args.lengths.now s.args.answer.now s.args.counts.now
 
 -- what the shared call has left
-abbrev left : After-solve-result → Slices
+abbrev left : After-solve → Slices
 left c =
-    let t = c.solve-result.new in
+    let t = c.solve.new in
     slices t.flow t.lengths t.answer t.counts
 
 -- the table of totes is too small, as the code and as the contract say it
-lacking : (c : After-solve-result) → ltb c.count.result (2 * c.items.result) ≡ lacks (net (goal.at.After-solve-result c).Start) c.args.totes.now
+lacking : (c : After-solve) → ltb c.count.result (2 * c.items.result) ≡ lacks (net (goal.at.After-solve c).Start) c.args.totes.now
 lacking c =
     ap₂ ltb c.count.ensures
     (ap (λ k. 2 * k) (c.items.ensures ∙ sym (commodities-in c.args.n c.args.belts.now c.args.pairs.now c.args.limits.now)))
 
 hosted :
-    (c : After-solve-result) →
-    Hosted (lacks (net (goal.at.After-solve-result c).Start) c.args.totes.now) c.args.n c.args.q c.args.office c.args.belts.now c.args.pairs.now c.args.limits.now (lent (goal.at.After-solve-result c).Start)
-    (left c) c.solve-result.result
-hosted c = rw (← lacking c) c.solve-result.ensures
+    (c : After-solve) →
+    Hosted (lacks (net (goal.at.After-solve c).Start) c.args.totes.now) c.args.n c.args.q c.args.office c.args.belts.now c.args.pairs.now c.args.limits.now (lent (goal.at.After-solve c).Start)
+    (left c) (host_number c.solve.result)
+hosted c = rw (← lacking c) c.solve.ensures
 
 accepted :
-    (c : Then-result-eq0) →
-    verdict_in (lacks (net (goal.at.Then-result-eq0 c).Start) c.args.totes.now) (net (goal.at.Then-result-eq0 c).Start) c.args.q c.args.office (lent (goal.at.Then-result-eq0 c).Start) ≡ Accepted
-accepted c = answered (hosted (goal.at.Then-result-eq0 c).After-solve-result) c.if-result-eq0.true
+    (c : In_ok-solve) →
+    verdict_in (lacks (net (goal.at.In_ok-solve c).Start) c.args.totes.now) (net (goal.at.In_ok-solve c).Start) c.args.q c.args.office (lent (goal.at.In_ok-solve c).Start) ≡ Accepted
+accepted c = answered (hosted (goal.at.In_ok-solve c).After-solve) (ap host_number c.in_ok-solve.was)
 
 pub put_totes-requires : goal.put_totes-requires
 put_totes-requires c =
-    let h = hosted (goal.at.put_totes-requires c).After-solve-result in
-    let a = accepted (goal.at.put_totes-requires c).Then-result-eq0 in
-    let kept = c.solve-result.auto in
+    let h = hosted (goal.at.put_totes-requires c).After-solve in
+    let a = accepted (goal.at.put_totes-requires c).In_ok-solve in
+    let kept = c.solve.auto in
     let room = had-room (lacks (net (goal.at.put_totes-requires c).Start) c.args.totes.now) (net (goal.at.put_totes-requires c).Start) c.args.q c.args.office (lent (goal.at.put_totes-requires c).Start) a in
     readable _ _ _ _ h a c.args.totes.now (omega (arith, room.0.for-flow, kept.flow)) (omega (arith, room.1, kept.answer)) (ltb-false _ _ room.2)
 
-pub returns-then-result-eq0 : goal.returns-then-result-eq0
-returns-then-result-eq0 c =
-    let h = hosted (goal.at.returns-then-result-eq0 c).After-solve-result in
-    let a = accepted (goal.at.returns-then-result-eq0 c).Then-result-eq0 in
+pub returns : goal.returns
+returns c =
+    let h = hosted (goal.at.returns c).After-solve in
+    let a = accepted (goal.at.returns c).In_ok-solve in
     record {
-      hosted = h;
+      hosted = rw c.in_ok-solve.was at h;
       table = c.put_totes.ensures ∙ (ap (written c.args.totes.now) (totes-are _ _ _ _ h a) ∙ sym (taken-up a _ _));
     }
 
-pub returns-else-result-eq0 : goal.returns-else-result-eq0
-returns-else-result-eq0 c =
-    record { hosted = hosted (goal.at.returns-else-result-eq0 c).After-solve-result; table = sym (turned_down (hosted (goal.at.returns-else-result-eq0 c).After-solve-result) c.if-result-eq0.false _ _) }
+pub returns-in_err-solve : goal.returns-in_err-solve
+returns-in_err-solve c =
+    let h = hosted (goal.at.returns-in_err-solve c).After-solve in
+    let w = c.in_err-solve.was in
+    rw (handed w c.from_residual.ensures.1)
+    (record { hosted = h; table = sym (turned_down h (λ z. no-refusal (sym (zero-accepted _ z) ∙ w)) _ _) })
