@@ -1,4 +1,5 @@
 -- `site::solve_floor` meets its contract, for every floor. Assumes nothing.
+use mathlib.Core.Bool.{false}
 use mathlib.Core.Path.{◌≡◌, ap, ◌∙◌}
 use Prim.Native.Nat.{ℕ, ◌+◌, ◌*◌, ◌≤◌, ◌<◌}
 use native.Mathlib.Omega.{arith}
@@ -11,6 +12,7 @@ use Rattle.packed.specs.Part.{put}
 use Rattle.packed.proofs.Columns.{part_length, put-length}
 use Rattle.call.specs.Deliver.{slices}
 use Rattle.call.specs.Host.{Slices}
+use Rattle.call.proofs.Hosts.{result_fits}
 use Rattle.site.specs.Site.{Site}
 use Rattle.site.specs.Turns.{site}
 use Rattle.site.proofs.Fitting.{Fitting, fitting}
@@ -54,6 +56,9 @@ answers-length :
 answers-length c =
     put-length (64 * c.args.i + 8) 56 c.args.answers.now c.solve-returned.new.answer (omega (arith, eight-fit (goal.at.After-solve-returned c).After-of_floor-p)) (seven c)
 
+pub host_number-requires : goal.host_number-requires
+host_number-requires c = rw c.solve-returned.ensures.returned (result_fits false _ _ _ _)
+
 pub write-requires : goal.write-requires
 write-requires c = omega (arith, answers-length (goal.at.write-requires c).After-solve-returned, eight-fit (goal.at.write-requires c).After-of_floor-p)
 
@@ -63,7 +68,7 @@ shape_of-answers c = c.write.auto.s ∙ answers-length (goal.at.shape_of-answers
 pub returns : goal.returns
 returns c =
     let member : floor_numbers * c.args.i ≡ floor_numbers * c.args.i + 0 = omega arith in
-    floor-served (what (goal.at.returns c).Start) c.args.i (lent (goal.at.returns c).Start) (eight-fit (goal.at.returns c).After-of_floor-p) (c.read-n.ensures ∙ ap (number_at c.args.floors.now) member) c.read-q.ensures c.of_floor-p.ensures c.solve-returned.ensures c.write.ensures
+    floor-served (what (goal.at.returns c).Start) c.args.i (lent (goal.at.returns c).Start) (eight-fit (goal.at.returns c).After-of_floor-p) (c.read-n.ensures ∙ ap (number_at c.args.floors.now) member) c.read-q.ensures c.of_floor-p.ensures c.solve-returned.ensures (rw c.host_number.ensures at c.write.ensures)
 
 pub overflow_add-belts_to : goal.overflow_add-belts_to
 overflow_add-belts_to c = omega (arith, (fit (goal.at.overflow_add-belts_to c).After-of_floor-p).of-belts, c.well_formed.1.1.1.0.0)

@@ -14,7 +14,7 @@ use Rattle.site.proofs.parts.begins.Goals.{In-loop-f, Start}
 
 pub loop-f-init : goal.loop-f-init
 unfolding begins
-loop-f-init c = (omega arith, refl)
+loop-f-init c = refl
 
 -- floor f's size is in the list
 module _ (c : In-loop-f) where
@@ -25,15 +25,11 @@ module _ (c : In-loop-f) where
   place = member_below first.args.floors.now floor_numbers first.args.j c.loop-f.f first.requires.0 (omega (arith, c.loop-f-test.true, first.requires.1))
 
   within : c.loop-f.from ≤ first.args.room
-  within = omega (arith, c.loop-f.invariant.1, begins-most first.args.floors.now first.args.j first.args.room c.loop-f.f)
+  within = omega (arith, c.loop-f.invariant, begins-most first.args.floors.now first.args.j first.args.room c.loop-f.f)
 
 pub loop-f-preserved : goal.loop-f-preserved
 loop-f-preserved c =
-    (omega (arith, c.loop-f-test.true), begins-more _ _ _ _ c.loop-f.invariant.1 c.read.ensures c.fit-from.ensures)
-
-pub returns : goal.returns
-returns c =
-    c.loop-f.invariant.1 ∙ ap (begins c.args.floors.now c.args.j c.args.room) (le_antisymm c.loop-f.invariant.0 c.loop-f-test.false)
+    begins-more _ _ _ _ c.loop-f.invariant c.read.ensures c.fit-from.ensures
 
 pub overflow_mul-f : goal.overflow_mul-f
 overflow_mul-f c = omega (arith, place c)
