@@ -1,8 +1,6 @@
 // The method of Garg and Könemann in document 01's whole numbers: definitions and theorems in specs/ and proofs/. Its code is in the crates above.
 #![tactic(auto)]
 
-use network::Refusal;
-
 // The answer. Document 01, "One choice of route": drawn total F, capacity c(b) and load Y(b) of the fullest resource, the bound's D and alpha, the
 // count of iterations, and which of them, from 1, gave the bound.
 #[derive(Clone, Copy)]
@@ -14,13 +12,6 @@ pub struct Answer {
     pub alpha: u64,
     pub count: u64,
     pub best: u64,
-}
-
-// What a call that solves comes to: why it is turned down, or its answer.
-#[derive(Clone, Copy)]
-pub enum Reply {
-    TurnedDown(Refusal),
-    Answered(Answer),
 }
 
 // What an iteration chose: the commodity, how many arcs its path has, how many resources it uses, the arcs among them, and alpha, their length.

@@ -20,9 +20,10 @@ use Rattle.packed.specs.Packed.{net_in, Packed, Lent}
 use Rattle.packed.specs.declared.Shape.{Shape}
 use Rattle.packed.proofs.Columns.{arcs-is, commodities-is}
 use Rattle.records.specs.Records.{Replied}
-use Rattle.records.specs.Reply.{reply_of, number_in, values_in}
-use Rattle.records.specs.declared.Reply.{Reply}
-use Rattle.records.specs.declared.Reply.TheVariants.{TurnedDown, Answered}
+use Rattle.records.specs.Reply.{Reply, reply_of, number_in, values_in}
+use Rattle.std.specs.Prelude.{Ok, Err}
+use Rattle.std.specs.Result.{IsErrAnd}
+use Rattle.std.proofs.lemmas.Result.{err_from_is_err_and}
 
 -- Accepted: the network is sound.
 pub lends :
@@ -39,7 +40,7 @@ placed xs ys table k e l = rw (← e, l) refl
 
 module _ (net : Network) (q : ℕ) (flow : List ℤ) (lengths : List ℕ) where
   -- A refusal leaves both tables as they were.
-  pub replied-refused : (v : Verdict) (w : Refusal) → v ≡ Refused w → Replied net q v flow lengths flow lengths (TurnedDown w)
+  pub replied-refused : (v : Verdict) (w : Refusal) → v ≡ Refused w → Replied net q v flow lengths flow lengths (Err w)
   unfolding reply_of number_in values_in afterwards
   replied-refused v w e =
       record {
@@ -54,7 +55,7 @@ module _ (net : Network) (q : ℕ) (flow : List ℤ) (lengths : List ℕ) where
   pub replied-accepted :
       (flow' : List ℤ) (lengths' : List ℕ) (a : Answer) → a ≡ (outcome net q).answer → flow' ≡ overlaid (outcome net q).flow flow →
       lengths' ≡ overlaid (outcome net q).lengths lengths → Guarantee net q (outcome net q) →
-      Replied net q Accepted flow lengths flow' lengths' (Answered a)
+      Replied net q Accepted flow lengths flow' lengths' (Ok a)
   unfolding reply_of number_in values_in afterwards
   replied-accepted flow' lengths' a e f l g =
       record {
@@ -71,3 +72,12 @@ pub replied-same :
     {net net' : Network} {q : ℕ} {v : Verdict} {flow : List ℤ} {lengths : List ℕ} {flow' : List ℤ} {lengths' : List ℕ} {r : Reply} → net ≡ net' →
     Replied net q v flow lengths flow' lengths' r → Replied net' q v flow lengths flow' lengths' r
 replied-same e p = rw (← e) p
+
+-- What a `?` hands on is a reply: that of the refusal.
+pub turned_down :
+    {net : Network} {q : ℕ} {v : Verdict} {flow : List ℤ} {lengths : List ℕ} {flow' : List ℤ} {lengths' : List ℕ} {r : Reply} {w : Refusal} →
+    IsErrAnd r (λ e. e ≡ w) → Replied net q v flow lengths flow' lengths' (Err w) → Replied net q v flow lengths flow' lengths' r
+turned_down {r = r} {w = w} h p =
+    let e = err_from_is_err_and r h in
+    let same : r ≡ Err w = rw (e.1, e.2) refl in
+    rw same p

@@ -19,8 +19,8 @@ use Rattle.network.proofs.Sizes.{sizes-kept}
 use Rattle.records.specs.Parts.{resources_of, Roomy, SizesPassed, network_copied}
 use Rattle.records.specs.Records.{network_lent, record_conditions, verdict_lent, Recorded, Replied}
 use Rattle.records.specs.declared.Arc.{Arc}
-use Rattle.records.specs.declared.Reply.{Reply}
-use Rattle.records.specs.declared.Reply.TheVariants.{TurnedDown}
+use Rattle.records.specs.Reply.{Reply}
+use Rattle.std.specs.Prelude.{Err}
 use Rattle.records.proofs.Copying.{filled, copied}
 use Rattle.records.proofs.Judged.{replied-refused, replied-same}
 use Rattle.records.proofs.Pairs.{length-sources}
@@ -56,7 +56,7 @@ module _ (n q : ℕ) (records : List Arc) (pairs limits : List ℕ) (flow : List
   by-items = rw (counted, length-map records (λ a. a.tail), length-sources pairs) (ap verdict (sym (append_assoc sizes own (item_conditions net))))
 
   -- Sizes and tables are refused,
-  pub served-refused : (w : Refusal) → verdict (sizes ++ own) ≡ Refused w → Recorded n q records pairs limits flow lengths flow lengths (TurnedDown w)
+  pub served-refused : (w : Refusal) → verdict (sizes ++ own) ≡ Refused w → Recorded n q records pairs limits flow lengths flow lengths (Err w)
   served-refused w h = replied-refused net q flow lengths _ w (by-items ∙ first-refuses (sizes ++ own) (item_conditions net) w h)
 
   module _ (h : verdict (sizes ++ own) ≡ Accepted) where
@@ -81,7 +81,7 @@ module _ (n q : ℕ) (records : List Arc) (pairs limits : List ℕ) (flow : List
         (first-accepts (sizes ++ own) (item_conditions net) h ∙
         ap (λ (x : Network). verdict (item_conditions x)) (sym (copied records sizable.counts.of-arcs.most n pairs limits)))
 
-    pub served-loose : (w : Refusal) → verdict (item_conditions copy) ≡ Refused w → Recorded n q records pairs limits flow lengths flow lengths (TurnedDown w)
+    pub served-loose : (w : Refusal) → verdict (item_conditions copy) ≡ Refused w → Recorded n q records pairs limits flow lengths flow lengths (Err w)
     served-loose w e = replied-refused net q flow lengths _ w (decides ∙ e)
 
     pub served-passed :

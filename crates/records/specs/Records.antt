@@ -8,9 +8,8 @@ use Rattle.network.specs.declared.Refusal.TheVariants.{ShortTable}
 use Rattle.method.specs.Answer.{outcome, numbers_of}
 use Rattle.method.specs.Overlaid.{overlaid}
 use Rattle.method.specs.Guarantee.{Guarantee}
-use Rattle.records.specs.Reply.{reply_of, number_in, values_in}
+use Rattle.records.specs.Reply.{Reply, reply_of, number_in, values_in}
 use Rattle.records.specs.declared.Arc.{Arc}
-use Rattle.records.specs.declared.Reply.{Reply}
 
 -- The sources of the pairs: a pair is an item of two numbers, source and sink; an incomplete last item is not read.
 unfoldable pub sources_in : List ℕ → List ℕ

@@ -1,27 +1,24 @@
 // A call whose sizes have passed and whose records have been copied: arcs, limits and commodities checked, and the network solved into the lent tables.
-ghost use Rattle.std.specs.Prelude.{◌≡◌, take};
+ghost use Rattle.std.specs.Prelude.{◌≡◌, Ok, take};
 ghost use Rattle.network.specs.Verdict.{verdict, item_conditions};
 ghost use Rattle.network.specs.Refusal.{Accepted};
 ghost use Rattle.packed.specs.Packed.{part, net_in, limits_from};
 ghost use Rattle.records.specs.Parts.{network_copied, half_of, Halving, Pairing, Limiting, Limited, Completing, Checking, Delivering, Passed};
 ghost use Rattle.records.specs.Records.{Replied};
 
-use crate::Reply;
 use crate::sizes::shape;
 use checks::items::check_items;
+use method::Answer;
 use network::Verdict;
 use packed::{KEPT, LIMITS, NET_NUMBERS, SINKS, SOURCES, Shape, TABLE_NUMBERS};
-use tables::loads::copy;
 
 // One number of each pair: the first of the two, or the second.
 fn halve(pairs: &[u64], which: usize, to: &mut [u64])
     requires { Halving pairs.now which to.old }
     ensures { to.new ≡ half_of which pairs.now }
 {
-    let mut i = 0;
-    while i < to.len() {
+    for i in 0..to.len() {
         to[i] = pairs[2 * i + which];
-        i += 1;
     }
 }
 
@@ -41,7 +38,7 @@ fn put_limits(s: Shape, limits: &[u64], net: &mut [u64])
     ensures { Limited s limits.now net.old net.new }
 {
     let c = s.limits;
-    copy(&limits[..c], &mut net[LIMITS..LIMITS + c]);
+    net[LIMITS..LIMITS + c].copy_from_slice(&limits[..c]);
 }
 
 // Pairs and limits, beside the arcs.
@@ -71,16 +68,16 @@ pub fn check_copy(
 }
 
 // An accepted network: the outcome takes the first places of both tables.
-fn deliver_in(s: Shape, q: u64, net: &[u64], flow: &mut [i64], lengths: &mut [u64]) -> Reply
+fn deliver_in(s: Shape, q: u64, net: &[u64], flow: &mut [i64], lengths: &mut [u64]) -> Answer
     requires { Delivering s q net.now flow.old lengths.old }
-    ensures { Replied (net_in s net.now) q Accepted flow.old lengths.old flow.new lengths.new result }
+    ensures { Replied (net_in s net.now) q Accepted flow.old lengths.old flow.new lengths.new (Ok result) }
 {
     let r = s.resources;
     let size = s.commodities * s.arcs;
     let mut tables = [0u64; TABLE_NUMBERS];
     let answer = solver::solve(s, q, net, &mut flow[..size], &mut tables);
-    copy(&tables[KEPT..KEPT + r], &mut lengths[..r]);
-    Reply::Answered(answer)
+    lengths[..r].copy_from_slice(&tables[KEPT..KEPT + r]);
+    answer
 }
 
 // The outcome of a call that has passed.
@@ -93,9 +90,9 @@ pub fn deliver(
     limits: &[u64],
     flow: &mut [i64],
     lengths: &mut [u64],
-) -> Reply
+) -> Answer
     requires { Passed n q m arcs pairs.now limits.now flow.old lengths.old }
-    ensures { Replied (network_copied n m arcs pairs.now (take n limits.now)) q Accepted flow.old lengths.old flow.new lengths.new result }
+    ensures { Replied (network_copied n m arcs pairs.now (take n limits.now)) q Accepted flow.old lengths.old flow.new lengths.new (Ok result) }
 {
     let s = shape(n, m, pairs.len(), limits);
     let mut net = arcs;

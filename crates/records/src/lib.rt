@@ -8,7 +8,7 @@ mod sizes;
 ghost use Rattle.records.specs.Records.{Recorded};
 
 use method::Answer;
-use network::{Refusal, Verdict};
+use network::Refusal;
 use packed::{CAPACITIES, HEADS, MARKS, NET_NUMBERS, TAILS};
 
 // Document 01's belt. Its mark is not zero if the belt is reversible (request C-12).
@@ -21,11 +21,7 @@ pub struct Arc {
 }
 
 // What a call returns: why it is turned down, or its answer.
-#[derive(Clone, Copy)]
-pub enum Reply {
-    TurnedDown(Refusal),
-    Answered(Answer),
-}
+pub type Reply = Result<Answer, Refusal>;
 
 // Solves the network of n nodes with these arcs, with a commodity for every two numbers of `pairs`, source and sink, and with `limits` for the
 // first nodes, 0 for none (request C-17): sizes and tables are checked, the records copied into the columns of one array, and what they say is
@@ -42,23 +38,16 @@ pub fn solve(
     ensures { Recorded n q arcs.now pairs.now limits.now flow.old lengths.old flow.new lengths.new result }
 {
     let m = arcs.len();
-    let sizes = sizes::check_call(n, q, m, pairs.len(), limits, flow.len(), lengths.len());
-    if let Verdict::Refused(why) = sizes {
-        return Reply::TurnedDown(why);
-    }
+    sizes::check_call(n, q, m, pairs.len(), limits, flow.len(), lengths.len())?;
     let mut net = [0u64; NET_NUMBERS];
-    let mut e = 0;
-    while e < m {
-        let a = arcs[e];
+    for (e, a) in arcs.iter().enumerate() {
         net[TAILS + e] = a.tail;
         net[HEADS + e] = a.head;
         net[CAPACITIES + e] = a.capacity;
         net[MARKS + e] = a.mark;
-        e += 1;
     }
-    let items = judge::check_copy(n, m, net, pairs, limits);
-    if let Verdict::Refused(why) = items {
-        return Reply::TurnedDown(why);
-    }
-    judge::deliver(n, q, m, net, pairs, limits, flow, lengths)
+    judge::check_copy(n, m, net, pairs, limits)?;
+    Ok(judge::deliver(
+        n, q, m, net, pairs, limits, flow, lengths,
+    ))
 }

@@ -16,12 +16,10 @@ fn count_given(limits: &[u64], c: usize) -> usize
     ensures { result ≡ given limits.now c }
 {
     let mut r = 0;
-    let mut i = 0;
-    while i < c {
+    for i in 0..c {
         if limits[i] != 0 {
             r += 1;
         }
-        i += 1;
     }
     r
 }
@@ -31,8 +29,7 @@ pub fn shape(n: u64, m: usize, pairs: usize, limits: &[u64]) -> Shape
     requires { m + limits_read n limits.now < 2 ^ 64 }
     ensures { result ≡ shape_of n m pairs limits.now }
 {
-    let all = limits.len();
-    let c = if n < all as u64 { n as usize } else { all };
+    let c = limits.len().min(n as usize);
     let r = m + count_given(limits, c);
     Shape {
         nodes: n,
@@ -50,22 +47,19 @@ fn check_tables(k: usize, m: usize, r: usize, flow: usize, lengths: usize) -> Ve
     ensures { result ≡ verdict (record_conditions k m r flow lengths) }
 {
     if flow < k * m {
-        return Verdict::Refused(Refusal::ShortTable);
+        return Err(Refusal::ShortTable);
     }
     if lengths < r {
-        return Verdict::Refused(Refusal::ShortTable);
+        return Err(Refusal::ShortTable);
     }
-    Verdict::Accepted
+    Ok(())
 }
 
 // The same, of this shape, with this many numbers in `flow` and `lengths`.
 fn check_shape(s: Shape, q: u64, flow: usize, lengths: usize) -> Verdict
     ensures { result ≡ verdict (size_conditions s.nodes s.arcs s.resources s.commodities q ++ record_conditions s.commodities s.arcs s.resources flow lengths) }
 {
-    let sizes = check_sizes(s.nodes, s.arcs, s.resources, s.commodities, q);
-    if let Verdict::Refused(_) = sizes {
-        return sizes;
-    }
+    check_sizes(s.nodes, s.arcs, s.resources, s.commodities, q)?;
     check_tables(s.commodities, s.arcs, s.resources, flow, lengths)
 }
 

@@ -39,17 +39,14 @@ solve-answer-requires c =
 kept-many : (c : After-solve-answer) → 512 + r (goal.at.After-solve-answer c).Start ≤ length c.solve-answer.new.tables
 kept-many c = omega (arith, few (goal.at.After-solve-answer c).Start, c.solve-answer.auto.tables, length-replicate {A = ℕ} 768 0)
 
-pub slice_bounds-copy-end-3 : goal.slice_bounds-copy-end-3
-slice_bounds-copy-end-3 c = sym (bests (goal.at.slice_bounds-copy-end-3 c).Start)
-
-pub copy-requires : goal.copy-requires
-copy-requires c =
-    bests (goal.at.copy-requires c).Start ∙ sym (part_length _ (r (goal.at.copy-requires c).Start) c.solve-answer.new.tables (omega (arith, kept-many (goal.at.copy-requires c).After-solve-answer)))
+pub copy_from_slice-requires : goal.copy_from_slice-requires
+copy_from_slice-requires c =
+    bests (goal.at.copy_from_slice-requires c).Start ∙ sym (part_length _ (r (goal.at.copy_from_slice-requires c).Start) c.solve-answer.new.tables (omega (arith, kept-many (goal.at.copy_from_slice-requires c).After-solve-answer)))
 
 pub returns : goal.returns
 returns c =
     let v = c.solve-answer in
     replied-accepted _ c.args.q c.args.flow.now c.args.lengths.now _ _ v.result v.ensures.answers
     (placed _ _ c.args.flow.now _ v.ensures.flows (v.auto.flow ∙ flows (goal.at.returns c).Start))
-    (placed _ _ c.args.lengths.now _ (c.copy.ensures ∙ v.ensures.lengths) (c.copy.auto.to ∙ bests (goal.at.returns c).Start))
+    (placed _ _ c.args.lengths.now _ (c.copy_from_slice.ensures.after ∙ v.ensures.lengths) (c.copy_from_slice.auto.self ∙ bests (goal.at.returns c).Start))
     v.ensures.guarantee

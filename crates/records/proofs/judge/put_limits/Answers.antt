@@ -5,17 +5,17 @@ use Rattle.packed.proofs.Columns.{part_length}
 use Rattle.records.proofs.Completed.{limits-room, limits-many, put-limits-length, limited}
 use Rattle.records.proofs.judge.put_limits.Goals as goal
 
-pub slice_bounds-copy-end : goal.slice_bounds-copy-end
-slice_bounds-copy-end c = sym (limits-many c.requires)
+pub slice_bounds-copy_from_slice-end-2 : goal.slice_bounds-copy_from_slice-end-2
+slice_bounds-copy_from_slice-end-2 c = sym (limits-many c.requires)
 
-pub copy-requires : goal.copy-requires
-copy-requires c =
+pub copy_from_slice-requires : goal.copy_from_slice-requires
+copy_from_slice-requires c =
     part_length limits_from c.args.s.limits c.args.net.now (limits-room c.requires) ∙ sym (limits-many c.requires)
 
 pub shape_of-net : goal.shape_of-net
 shape_of-net c =
-    put-limits-length c.requires c.copy.ensures
+    put-limits-length c.requires c.copy_from_slice.ensures.after
 
 pub returns : goal.returns
 returns c =
-    limited c.requires c.copy.ensures
+    limited c.requires c.copy_from_slice.ensures.after

@@ -1,4 +1,4 @@
--- `records::sizes::count_given` meets its contract. The loop's invariant: so many of the first i are not 0. The measure is what is left of c.
+-- `records::sizes::count_given` meets its contract. The loop's invariant: so many of the first i are not 0.
 -- Assumes nothing.
 use mathlib.Core.Path.{◌≡◌}
 use Prim.Native.Nat.{◌-◌, ◌≤◌}
@@ -6,7 +6,4 @@ use Rattle.network.specs.Given.{given}
 use Rattle.records.proofs.sizes.count_given.Given as goal
 
 abbrev pub invariant-loop-i : goal.invariant-loop-i
-invariant-loop-i l = (l.i ≤ l.c) × (l.r ≡ given l.limits l.i)
-
-abbrev pub decreases-loop-i : goal.decreases-loop-i
-decreases-loop-i l = l.c - l.i
+invariant-loop-i l = l.r ≡ given l.limits l.i

@@ -4,17 +4,17 @@ use native.Mathlib.Omega.{arith}
 use Rattle.network.proofs.Given.{given-most}
 use Rattle.records.specs.Parts.{limits_read}
 use Rattle.records.proofs.sizes.shape.Goals as goal
-use Rattle.records.proofs.sizes.shape.Goals.{Joined-n-all, then-n-all, else-n-all}
+use Rattle.records.proofs.sizes.shape.Goals.{After-min-c}
 
-read : (c : Joined-n-all) → c.if-n-all.c ≡ limits_read c.args.n c.args.limits.now
-read c = elim c.if-n-all.branch [ then-n-all w ↦ omega arith | else-n-all w ↦ omega arith ]
+read : (c : After-min-c) → c.min-c.result ≡ limits_read c.args.n c.args.limits.now
+read c = omega (arith, c.min-c.ensures)
 
 pub count_given-requires : goal.count_given-requires
-count_given-requires c = omega (arith, read c)
+count_given-requires c = omega (arith, read (goal.at.count_given-requires c).After-min-c)
 
 pub overflow_add-r : goal.overflow_add-r
 overflow_add-r c =
-    omega (arith, c.requires, c.count_given.ensures, read (goal.at.overflow_add-r c).Joined-n-all, given-most c.args.limits.now c.if-n-all.c)
+    omega (arith, c.requires, c.count_given.ensures, read (goal.at.overflow_add-r c).After-min-c, given-most c.args.limits.now c.min-c.result)
 
 pub returns : goal.returns
-returns c = rw (c.count_given.ensures, read (goal.at.returns c).Joined-n-all) refl
+returns c = rw (c.count_given.ensures, read (goal.at.returns c).After-min-c) refl
