@@ -8,10 +8,21 @@ use Rattle.method.specs.Answer.{outcome}
 use Rattle.method.specs.Guarantee.{Guarantee}
 use Rattle.method.specs.declared.Answer.{Answer}
 use Rattle.call.specs.Host.{Slices, count_of, solved}
+use Rattle.call.specs.declared.Tables.{Tables}
 
 -- The four slices, for the contracts of parts.
 abbrev pub slices : List ℕ → List ℕ → List ℕ → List ℕ → Slices
 slices flow lengths answer counts = record { flow = flow; lengths = lengths; answer = answer; counts = counts }
+
+-- What the tables of a call hold, and the counts beside them.
+abbrev pub slices_of : Tables → List ℕ → Slices
+slices_of t counts = slices t.flow.now t.lengths.now t.answer.now counts
+
+-- The tables are the ones that were lent, whatever they hold now.
+pub record SameTables (old new : Tables) : Type 0 where
+  pub flow : new.flow.ghost_name ≡ old.flow.ghost_name
+  pub lengths : new.lengths.ghost_name ≡ old.lengths.ghost_name
+  pub answer : new.answer.ghost_name ≡ old.answer.ghost_name
 
 -- Room for the amounts of k commodities on m arcs and the lengths of r resources.
 pub record Room (k m r : ℕ) (flow lengths : List ℕ) : Type 0 where

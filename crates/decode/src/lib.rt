@@ -10,6 +10,14 @@ ghost use Rattle.decode.specs.Decode.{network_in};
 
 use packed::{CAPACITIES, HEADS, LIMITS, MARKS, SINKS, SOURCES, Shape, TAILS};
 
+// What a call lends of its floor, in bytes.
+#[derive(Clone, Copy)]
+pub struct Floor<'a> {
+    pub belts: &'a [u8],
+    pub pairs: &'a [u8],
+    pub limits: &'a [u8],
+}
+
 // How many of the first c numbers are not 0.
 fn count_given(limits: &[u8], c: usize) -> usize
     requires { c ≤ count limits.now }
@@ -27,14 +35,14 @@ fn count_given(limits: &[u8], c: usize) -> usize
 }
 
 // The shape, by which the sizes are checked before anything is read into a slice.
-pub fn shape(n: u64, belts: &[u8], pairs: &[u8], limits: &[u8]) -> Shape
-    ensures { Shaped n belts.now pairs.now limits.now result }
+pub fn shape(n: u64, floor: &Floor<'_>) -> Shape
+    ensures { Shaped n floor.now.belts.now floor.now.pairs.now floor.now.limits.now result }
 {
-    let m = numbers::items(belts, 4);
-    let k = numbers::items(pairs, 2);
-    let all = numbers::count(limits);
+    let m = numbers::items(floor.belts, 4);
+    let k = numbers::items(floor.pairs, 2);
+    let all = numbers::count(floor.limits);
     let c = if n < all as u64 { n as usize } else { all };
-    let r = m + count_given(limits, c);
+    let r = m + count_given(floor.limits, c);
     Shape {
         nodes: n,
         arcs: m,
@@ -76,11 +84,11 @@ fn read_limits(s: Shape, limits: &[u8], net: &mut [u64])
 }
 
 // The network.
-pub fn decode(s: Shape, belts: &[u8], pairs: &[u8], limits: &[u8], net: &mut [u64])
-    requires { Decoding s belts.now pairs.now limits.now net.old }
-    ensures { net_in s net.new ≡ network_in s.nodes belts.now pairs.now limits.now }
+pub fn decode(s: Shape, floor: &Floor<'_>, net: &mut [u64])
+    requires { Decoding s floor.now.belts.now floor.now.pairs.now floor.now.limits.now net.old }
+    ensures { net_in s net.new ≡ network_in s.nodes floor.now.belts.now floor.now.pairs.now floor.now.limits.now }
 {
-    read_pairs(s, pairs, net);
-    read_belts(s, belts, net);
-    read_limits(s, limits, net);
+    read_pairs(s, floor.pairs, net);
+    read_belts(s, floor.belts, net);
+    read_limits(s, floor.limits, net);
 }

@@ -7,10 +7,11 @@ ghost use Rattle.numbers.specs.Numbers.{count, written};
 ghost use Rattle.method.specs.Answer.{numbers_of};
 ghost use Rattle.packed.specs.Packed.{net_in, Lent};
 ghost use Rattle.solver.specs.Solved.{Solving};
-ghost use Rattle.call.specs.Deliver.{slices, Room, Open, TablesWritten, Delivered};
+ghost use Rattle.call.specs.Deliver.{slices_of, SameTables, Room, Open, TablesWritten, Delivered};
 ghost use Rattle.call.specs.Host.{count_of, raised};
 
 use bounds::{ANSWER_NUMBERS, MOST_ARCS, MOST_COMMODITIES};
+use call::Tables;
 use method::Answer;
 use packed::{KEPT, Shape, TABLE_NUMBERS};
 
@@ -72,16 +73,15 @@ pub fn deliver(
     s: Shape,
     q: u64,
     net: &[u64],
-    flow: &mut [u8],
-    lengths: &mut [u8],
-    answer: &mut [u8],
+    tables: &mut Tables<'_>,
     running: &mut [u8],
 )
     requires lent { Lent s q net.now }
-    requires room { Open s.commodities s.arcs s.resources (slices flow.old lengths.old answer.old running.old) }
-    ensures { Delivered (net_in s net.now) q (slices flow.old lengths.old answer.old running.old) (slices flow.new lengths.new answer.new running.new) }
+    requires room { Open s.commodities s.arcs s.resources (slices_of tables.old running.old) }
+    ensures delivered { Delivered (net_in s net.now) q (slices_of tables.old running.old) (slices_of tables.new running.new) }
+    ensures same { SameTables tables.old tables.new }
 {
-    let a = write_tables(s, q, net, flow, lengths);
-    put_answer(a, answer);
+    let a = write_tables(s, q, net, tables.flow, tables.lengths);
+    put_answer(a, tables.answer);
     raise_count(a.count, running);
 }

@@ -5,9 +5,11 @@ mod room;
 mod serve;
 
 ghost use Rattle.network.specs.Refusal.{host_number};
-ghost use Rattle.call.specs.Deliver.{slices};
+ghost use Rattle.call.specs.Deliver.{slices_of, SameTables};
 ghost use Rattle.call.specs.Host.{Hosted};
 
+use call::Tables;
+use decode::{Floor, shape};
 use network::Verdict;
 
 // Solves the floor in the byte slices: the tables are written, or it is turned down and no byte changed; a caller in C gets the verdict's number. A call with tables
@@ -16,29 +18,16 @@ pub fn solve(
     n: u64,
     q: u64,
     office: u64,
-    belts: &[u8],
-    pairs: &[u8],
-    limits: &[u8],
-    flow: &mut [u8],
-    lengths: &mut [u8],
-    answer: &mut [u8],
+    floor: &Floor<'_>,
+    tables: &mut Tables<'_>,
     counts: &mut [u8],
     lacking: bool,
 ) -> Verdict
-    ensures { Hosted lacking n q office belts.now pairs.now limits.now (slices flow.old lengths.old answer.old counts.old) (slices flow.new lengths.new answer.new counts.new) (host_number result) }
+    ensures same { SameTables tables.old tables.new }
+    ensures hosted { Hosted lacking n q office floor.now.belts.now floor.now.pairs.now floor.now.limits.now (slices_of tables.old counts.old) (slices_of tables.new counts.new) (host_number result) }
 {
-    let s = decode::shape(n, belts, pairs, limits);
-    room::check_call(lacking, s, q, office, flow, lengths, answer, counts)?;
+    let s = shape(n, floor);
+    room::check_call(lacking, s, q, office, tables, counts)?;
     let own = 8 * (office as usize - 1);
-    serve::serve(
-        s,
-        q,
-        belts,
-        pairs,
-        limits,
-        flow,
-        lengths,
-        answer,
-        &mut counts[own..own + 8],
-    )
+    serve::serve(s, q, floor, tables, &mut counts[own..own + 8])
 }

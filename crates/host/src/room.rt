@@ -2,40 +2,32 @@
 ghost use Rattle.std.specs.Prelude.{◌≡◌, ◌≤◌};
 ghost use Rattle.bounds.specs.Bounds.{most_arcs, most_commodities, offices};
 ghost use Rattle.network.specs.Verdict.{verdict};
-ghost use Rattle.call.specs.Deliver.{slices};
+ghost use Rattle.call.specs.Deliver.{slices_of};
 ghost use Rattle.numbers.specs.Numbers.{count};
 ghost use Rattle.call.specs.Host.{short, office_conditions};
 ghost use Rattle.call.specs.Serve.{call_conditions};
 
 use bounds::{ANSWER_NUMBERS, MOST_RUNNING, OFFICES};
+use call::Tables;
 use checks::sizes::{check_sizes, outside};
 use network::{Refusal, Verdict};
 use packed::Shape;
 
 // A table is too small for what the call may write: one of its own, or one of those that every call has.
-fn short(
-    lacking: bool,
-    k: usize,
-    m: usize,
-    r: usize,
-    flow: &[u8],
-    lengths: &[u8],
-    answer: &[u8],
-    counts: &[u8],
-) -> bool
+fn short(lacking: bool, k: usize, m: usize, r: usize, tables: &Tables<'_>, counts: &[u8]) -> bool
     requires { (k ≤ most_commodities) × (m ≤ most_arcs) }
-    ensures { result ≡ short lacking k m r (slices flow.now lengths.now answer.now counts.now) }
+    ensures { result ≡ short lacking k m r (slices_of tables.now counts.now) }
 {
     if lacking {
         return true;
     }
-    if numbers::count(flow) < k * m {
+    if numbers::count(tables.flow) < k * m {
         return true;
     }
-    if numbers::count(lengths) < r {
+    if numbers::count(tables.lengths) < r {
         return true;
     }
-    if numbers::count(answer) < ANSWER_NUMBERS {
+    if numbers::count(tables.answer) < ANSWER_NUMBERS {
         return true;
     }
     numbers::count(counts) < OFFICES
@@ -62,24 +54,13 @@ pub fn check_call(
     s: Shape,
     q: u64,
     office: u64,
-    flow: &[u8],
-    lengths: &[u8],
-    answer: &[u8],
+    tables: &Tables<'_>,
     counts: &[u8],
 ) -> Verdict
-    ensures { result ≡ verdict (call_conditions lacking s.nodes s.arcs s.resources s.commodities q office (slices flow.now lengths.now answer.now counts.now)) }
+    ensures { result ≡ verdict (call_conditions lacking s.nodes s.arcs s.resources s.commodities q office (slices_of tables.now counts.now)) }
 {
     check_sizes(s.nodes, s.arcs, s.resources, s.commodities, q)?;
-    if short(
-        lacking,
-        s.commodities,
-        s.arcs,
-        s.resources,
-        flow,
-        lengths,
-        answer,
-        counts,
-    ) {
+    if short(lacking, s.commodities, s.arcs, s.resources, tables, counts) {
         return Err(Refusal::ShortTable);
     }
     check_office(office, counts)

@@ -2,10 +2,12 @@
 ghost use Rattle.packed.specs.Packed.{Packed};
 ghost use Rattle.network.specs.Refusal.{host_number};
 ghost use Rattle.decode.specs.Decode.{network_in};
-ghost use Rattle.call.specs.Deliver.{slices};
+ghost use Rattle.call.specs.Deliver.{slices_of, SameTables};
 ghost use Rattle.call.specs.Serve.{Sizable, Judged};
 
+use call::Tables;
 use checks::items::check_items;
+use decode::{Floor, decode};
 use deliver::deliver;
 use network::Verdict;
 use packed::{NET_NUMBERS, Shape};
@@ -14,22 +16,19 @@ use packed::{NET_NUMBERS, Shape};
 fn serve_in(
     s: Shape,
     q: u64,
-    belts: &[u8],
-    pairs: &[u8],
-    limits: &[u8],
+    floor: &Floor<'_>,
     net: &mut [u64],
-    flow: &mut [u8],
-    lengths: &mut [u8],
-    answer: &mut [u8],
+    tables: &mut Tables<'_>,
     running: &mut [u8],
 ) -> Verdict
-    requires sizes { Sizable s q belts.now pairs.now limits.now (slices flow.old lengths.old answer.old running.old) }
+    requires sizes { Sizable s q floor.now.belts.now floor.now.pairs.now floor.now.limits.now (slices_of tables.old running.old) }
     requires places { Packed s net.old }
-    ensures { Judged (network_in s.nodes belts.now pairs.now limits.now) q (slices flow.old lengths.old answer.old running.old) (slices flow.new lengths.new answer.new running.new) (host_number result) }
+    ensures same { SameTables tables.old tables.new }
+    ensures judged { Judged (network_in s.nodes floor.now.belts.now floor.now.pairs.now floor.now.limits.now) q (slices_of tables.old running.old) (slices_of tables.new running.new) (host_number result) }
 {
-    decode::decode(s, belts, pairs, limits, net);
+    decode(s, floor, net);
     check_items(s, net)?;
-    deliver(s, q, net, flow, lengths, answer, running);
+    deliver(s, q, net, tables, running);
     Ok(())
 }
 
@@ -37,19 +36,14 @@ fn serve_in(
 pub fn serve(
     s: Shape,
     q: u64,
-    belts: &[u8],
-    pairs: &[u8],
-    limits: &[u8],
-    flow: &mut [u8],
-    lengths: &mut [u8],
-    answer: &mut [u8],
+    floor: &Floor<'_>,
+    tables: &mut Tables<'_>,
     running: &mut [u8],
 ) -> Verdict
-    requires { Sizable s q belts.now pairs.now limits.now (slices flow.old lengths.old answer.old running.old) }
-    ensures { Judged (network_in s.nodes belts.now pairs.now limits.now) q (slices flow.old lengths.old answer.old running.old) (slices flow.new lengths.new answer.new running.new) (host_number result) }
+    requires { Sizable s q floor.now.belts.now floor.now.pairs.now floor.now.limits.now (slices_of tables.old running.old) }
+    ensures same { SameTables tables.old tables.new }
+    ensures judged { Judged (network_in s.nodes floor.now.belts.now floor.now.pairs.now floor.now.limits.now) q (slices_of tables.old running.old) (slices_of tables.new running.new) (host_number result) }
 {
     let mut net = [0u64; NET_NUMBERS];
-    serve_in(
-        s, q, belts, pairs, limits, &mut net, flow, lengths, answer, running,
-    )
+    serve_in(s, q, floor, &mut net, tables, running)
 }

@@ -6,10 +6,12 @@ mod sent;
 ghost use Rattle.std.specs.Prelude.{◌≡◌, ◌+◌, ◌*◌, ◌/◌, ◌%◌, ◌<◌};
 ghost use Rattle.network.specs.Refusal.{host_number};
 ghost use Rattle.numbers.specs.Numbers.{count, items, number_at, written, put_at};
-ghost use Rattle.call.specs.Deliver.{slices};
+ghost use Rattle.call.specs.Deliver.{slices_of, SameTables};
 ghost use Rattle.whole.specs.Read.{sent_in, Readable};
 ghost use Rattle.whole.specs.Whole.{parted, Whole};
 
+use call::Tables;
+use decode::Floor;
 use network::Verdict;
 
 // Pair i's two numbers: as many whole totes as there are loads in its scaled amount, and what is left, so that nothing is lost between the two.
@@ -45,21 +47,16 @@ pub fn solve(
     n: u64,
     q: u64,
     office: u64,
-    belts: &[u8],
-    pairs: &[u8],
-    limits: &[u8],
-    flow: &mut [u8],
-    lengths: &mut [u8],
-    answer: &mut [u8],
+    floor: &Floor<'_>,
+    tables: &mut Tables<'_>,
     counts: &mut [u8],
     totes: &mut [u8],
 ) -> Verdict
-    ensures { Whole n q office belts.now pairs.now limits.now (slices flow.old lengths.old answer.old counts.old) (slices flow.new lengths.new answer.new counts.new) totes.old totes.new (host_number result) }
+    ensures same { SameTables tables.old tables.new }
+    ensures whole { Whole n q office floor.now.belts.now floor.now.pairs.now floor.now.limits.now (slices_of tables.old counts.old) (slices_of tables.new counts.new) totes.old totes.new (host_number result) }
 {
-    let lacking = numbers::count(totes) < 2 * numbers::items(pairs, 2);
-    host::solve(
-        n, q, office, belts, pairs, limits, flow, lengths, answer, counts, lacking,
-    )?;
-    put_totes(belts, pairs, flow, answer, totes);
+    let lacking = numbers::count(totes) < 2 * numbers::items(floor.pairs, 2);
+    host::solve(n, q, office, floor, tables, counts, lacking)?;
+    put_totes(floor.belts, floor.pairs, tables.flow, tables.answer, totes);
     Ok(())
 }

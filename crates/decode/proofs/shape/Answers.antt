@@ -8,13 +8,13 @@ use Rattle.decode.proofs.Shapes.{counts}
 use Rattle.decode.proofs.shape.Goals as goal
 use Rattle.decode.proofs.shape.Goals.{Joined-n-all, then-n-all, else-n-all}
 
-read : (c : Joined-n-all) → c.if-n-all.c ≡ min c.args.n (count c.args.limits.now)
+read : (c : Joined-n-all) → c.if-n-all.c ≡ min c.args.n (count c.args.floor.now.limits.now)
 read c =
     let all = c.count-all.ensures in
     elim c.if-n-all.branch [ then-n-all w ↦ omega (arith, all) | else-n-all w ↦ omega (arith, all) ]
 
 pub count_given-requires : goal.count_given-requires
-count_given-requires c = omega (arith, read c)
+count_given-requires c = omega (arith, read (goal.at.count_given-requires c).Joined-n-all)
 
 pub overflow_add-r : goal.overflow_add-r
 overflow_add-r c =
@@ -24,7 +24,7 @@ overflow_add-r c =
       c.items-m.ensures,
       c.count_given.ensures,
       read (goal.at.overflow_add-r c).Joined-n-all,
-      given-most (column args.limits.now 1 0 c.if-n-all.c) c.if-n-all.c,
+      given-most (column args.floor.now.limits.now 1 0 c.if-n-all.c) c.if-n-all.c,
     )
 
 pub returns : goal.returns
@@ -37,6 +37,6 @@ returns c =
       given = read (goal.at.returns c).Joined-n-all;
       counted =
           ap (λ m. m + c.count_given.result) c.items-m.ensures ∙
-          (ap (λ r. items 4 args.belts.now + r) c.count_given.ensures ∙
-          counts args.n args.belts.now args.pairs.now args.limits.now c.if-n-all.c (read (goal.at.returns c).Joined-n-all));
+          (ap (λ r. items 4 args.floor.now.belts.now + r) c.count_given.ensures ∙
+          counts args.n args.floor.now.belts.now args.floor.now.pairs.now args.floor.now.limits.now c.if-n-all.c (read (goal.at.returns c).Joined-n-all));
     }

@@ -19,12 +19,12 @@ raise_count-requires c = (
   ),
 )
 
-pub returns : goal.returns
-returns c =
+pub returns-clause-delivered : goal.returns-clause-delivered
+returns-clause-delivered c =
     let r = c.write_tables-a.ensures in
     record {
       left =
-          same-slices r.flows r.bests (c.put_answer.ensures ∙ ap (λ a. written c.args.answer.now (numbers_of a)) r.answers)
+          same-slices r.flows r.bests (c.put_answer.ensures ∙ ap (λ a. written c.args.tables.now.answer.now (numbers_of a)) r.answers)
           (c.raise_count.ensures ∙ ap (λ a. raised 1 a.count c.args.running.now) r.answers);
       guarantee = r.guarantee;
     }

@@ -20,10 +20,10 @@ use Rattle.host.proofs.solve.Goals.{After-shape-s, In_ok-check_call, Start}
 
 -- the network and the slices at entry
 abbrev net : Start → Network
-net s = network_in s.args.n s.args.belts.now s.args.pairs.now s.args.limits.now
+net s = network_in s.args.n s.args.floor.now.belts.now s.args.floor.now.pairs.now s.args.floor.now.limits.now
 
 abbrev lent : Start → Slices
-lent s = slices s.args.flow.now s.args.lengths.now s.args.answer.now s.args.counts.now
+lent s = slices s.args.tables.now.flow.now s.args.tables.now.lengths.now s.args.tables.now.answer.now s.args.counts.now
 
 -- what is looked at before an item is read
 abbrev conditions : After-shape-s → List Condition
@@ -44,11 +44,11 @@ opened c = call-open _ _ _ _ _ _ _ (lent (goal.at.In_ok-check_call c).Start) (pa
 office-is : (c : In_ok-check_call) → Within 1 offices c.args.office
 office-is c = an-office _ _ _ _ _ (lent (goal.at.In_ok-check_call c).Start) (opened c)
 
-pub returns-in_err-check_call : goal.returns-in_err-check_call
-returns-in_err-check_call c =
+pub returns-in_err-check_call-clause-hosted : goal.returns-in_err-check_call-clause-hosted
+returns-in_err-check_call-clause-hosted c =
     let w = c.in_err-check_call.was in
-    let e = refused-in c.args.lacking c.args.q c.args.office (lent (goal.at.returns-in_err-check_call c).Start) c.shape-s.ensures _ (sym c.check_call.ensures ∙ w) in
-    served-refused (net (goal.at.returns-in_err-check_call c).Start) c.args.q (verdict_in c.args.lacking (net (goal.at.returns-in_err-check_call c).Start) c.args.q c.args.office (lent (goal.at.returns-in_err-check_call c).Start)) (lent (goal.at.returns-in_err-check_call c).Start) _ c.args.office _ e
+    let e = refused-in c.args.lacking c.args.q c.args.office (lent (goal.at.returns-in_err-check_call-clause-hosted c).Start) c.shape-s.ensures _ (sym c.check_call.ensures ∙ w) in
+    served-refused (net (goal.at.returns-in_err-check_call-clause-hosted c).Start) c.args.q (verdict_in c.args.lacking (net (goal.at.returns-in_err-check_call-clause-hosted c).Start) c.args.q c.args.office (lent (goal.at.returns-in_err-check_call-clause-hosted c).Start)) (lent (goal.at.returns-in_err-check_call-clause-hosted c).Start) _ c.args.office _ e
     (ap host_number (handed w c.from_residual.ensures.1 ∙ w ∙ sym e))
 
 pub overflow_sub-own : goal.overflow_sub-own
@@ -69,15 +69,15 @@ pub serve-requires : goal.serve-requires
 serve-requires c =
     let h = c.shape-s.ensures in
     record {
-      shaped = subst (λ n. Shaped n c.args.belts.now c.args.pairs.now c.args.limits.now c.shape-s.result) (sym h.nodes) h;
+      shaped = subst (λ n. Shaped n c.args.floor.now.belts.now c.args.floor.now.pairs.now c.args.floor.now.limits.now c.shape-s.result) (sym h.nodes) h;
       counts = call-counts _ _ _ _ _ _ _ (lent (goal.at.serve-requires c).Start) (passed (goal.at.serve-requires c).In_ok-check_call);
       open-for = open-for _ _ _ _ _ (lent (goal.at.serve-requires c).Start) (opened (goal.at.serve-requires c).In_ok-check_call);
     }
 
-pub returns : goal.returns
-returns c =
+pub returns-clause-hosted : goal.returns-clause-hosted
+returns-clause-hosted c =
     let h = c.shape-s.ensures in
     rw
-    (accepted-in c.args.lacking c.args.q c.args.office (lent (goal.at.returns c).Start) h (passed (goal.at.returns c).In_ok-check_call))
-    (served-own c.args.office (lent (goal.at.returns c).Start) (has-count _ _ _ _ _ (lent (goal.at.returns c).Start) (opened (goal.at.returns c).In_ok-check_call))
-    (judged-of (ap (λ n. network_in n c.args.belts.now c.args.pairs.now c.args.limits.now) h.nodes) c.serve.ensures))
+    (accepted-in c.args.lacking c.args.q c.args.office (lent (goal.at.returns-clause-hosted c).Start) h (passed (goal.at.returns-clause-hosted c).In_ok-check_call))
+    (served-own c.args.office (lent (goal.at.returns-clause-hosted c).Start) (has-count _ _ _ _ _ (lent (goal.at.returns-clause-hosted c).Start) (opened (goal.at.returns-clause-hosted c).In_ok-check_call))
+    (judged-of (ap (λ n. network_in n c.args.floor.now.belts.now c.args.floor.now.pairs.now c.args.floor.now.limits.now) h.nodes) c.serve.ensures.judged))

@@ -12,7 +12,7 @@ use Rattle.network.proofs.HostNumber.{zero-accepted}
 use Rattle.numbers.specs.Numbers.{written}
 use Rattle.decode.specs.Decode.{network_in}
 use Rattle.decode.proofs.Items.{commodities-in}
-use Rattle.call.specs.Deliver.{slices}
+use Rattle.call.specs.Deliver.{slices, slices_of}
 use Rattle.call.specs.Host.{Slices, verdict_in, Hosted}
 use Rattle.call.proofs.ReadBack.{taken-up, answered, turned_down, had-room}
 use Rattle.whole.specs.Whole.{lacks}
@@ -22,28 +22,27 @@ use Rattle.whole.proofs.solve.Goals.{After-solve, In_ok-solve, Start}
 
 -- the network and the slices at entry
 abbrev net : Start → Network
-net s = network_in s.args.n s.args.belts.now s.args.pairs.now s.args.limits.now
+net s = network_in s.args.n s.args.floor.now.belts.now s.args.floor.now.pairs.now s.args.floor.now.limits.now
 
 abbrev lent : Start → Slices
-lent s = slices s.args.flow.now s.args.lengths.now s.args.answer.now s.args.counts.now
+lent s = slices s.args.tables.now.flow.now s.args.tables.now.lengths.now s.args.tables.now.answer.now s.args.counts.now
 
 -- what the shared call has left
 abbrev left : After-solve → Slices
 left c =
-    let t = c.solve.new in
-    slices t.flow t.lengths t.answer t.counts
+    slices_of c.solve.new.tables c.solve.new.counts
 
 -- the table of totes is too small, as the code and as the contract say it
 lacking : (c : After-solve) → ltb c.count.result (2 * c.items.result) ≡ lacks (net (goal.at.After-solve c).Start) c.args.totes.now
 lacking c =
     ap₂ ltb c.count.ensures
-    (ap (λ k. 2 * k) (c.items.ensures ∙ sym (commodities-in c.args.n c.args.belts.now c.args.pairs.now c.args.limits.now)))
+    (ap (λ k. 2 * k) (c.items.ensures ∙ sym (commodities-in c.args.n c.args.floor.now.belts.now c.args.floor.now.pairs.now c.args.floor.now.limits.now)))
 
 hosted :
     (c : After-solve) →
-    Hosted (lacks (net (goal.at.After-solve c).Start) c.args.totes.now) c.args.n c.args.q c.args.office c.args.belts.now c.args.pairs.now c.args.limits.now (lent (goal.at.After-solve c).Start)
+    Hosted (lacks (net (goal.at.After-solve c).Start) c.args.totes.now) c.args.n c.args.q c.args.office c.args.floor.now.belts.now c.args.floor.now.pairs.now c.args.floor.now.limits.now (lent (goal.at.After-solve c).Start)
     (left c) (host_number c.solve.result)
-hosted c = rw (← lacking c) c.solve.ensures
+hosted c = rw (← lacking c) c.solve.ensures.hosted
 
 accepted :
     (c : In_ok-solve) →
@@ -58,18 +57,18 @@ put_totes-requires c =
     let room = had-room (lacks (net (goal.at.put_totes-requires c).Start) c.args.totes.now) (net (goal.at.put_totes-requires c).Start) c.args.q c.args.office (lent (goal.at.put_totes-requires c).Start) a in
     readable _ _ _ _ h a c.args.totes.now (omega (arith, room.0.for-flow, kept.flow)) (omega (arith, room.1, kept.answer)) (ltb-false _ _ room.2)
 
-pub returns : goal.returns
-returns c =
-    let h = hosted (goal.at.returns c).After-solve in
-    let a = accepted (goal.at.returns c).In_ok-solve in
+pub returns-clause-whole : goal.returns-clause-whole
+returns-clause-whole c =
+    let h = hosted (goal.at.returns-clause-whole c).After-solve in
+    let a = accepted (goal.at.returns-clause-whole c).In_ok-solve in
     record {
       hosted = rw c.in_ok-solve.was at h;
       table = c.put_totes.ensures ∙ (ap (written c.args.totes.now) (totes-are _ _ _ _ h a) ∙ sym (taken-up a _ _));
     }
 
-pub returns-in_err-solve : goal.returns-in_err-solve
-returns-in_err-solve c =
-    let h = hosted (goal.at.returns-in_err-solve c).After-solve in
+pub returns-in_err-solve-clause-whole : goal.returns-in_err-solve-clause-whole
+returns-in_err-solve-clause-whole c =
+    let h = hosted (goal.at.returns-in_err-solve-clause-whole c).After-solve in
     let w = c.in_err-solve.was in
     rw (handed w c.from_residual.ensures.1)
     (record { hosted = h; table = sym (turned_down h (λ z. no-refusal (sym (zero-accepted _ z) ∙ w)) _ _) })

@@ -10,7 +10,7 @@ use Rattle.host.proofs.room.check_call.Goals as goal
 use Rattle.host.proofs.room.check_call.Goals.{Start}
 
 abbrev lent : Start → Slices
-lent s = slices s.args.flow.now s.args.lengths.now s.args.answer.now s.args.counts.now
+lent s = slices s.args.tables.now.flow.now s.args.tables.now.lengths.now s.args.tables.now.answer.now s.args.counts.now
 
 pub returns-in_err-check_sizes : goal.returns-in_err-check_sizes
 returns-in_err-check_sizes c = refused-handed _ _ c.check_sizes.ensures c.in_err-check_sizes.was c.from_residual.ensures.1

@@ -7,7 +7,7 @@ use Rattle.network.specs.Resources.{resources}
 use Rattle.network.specs.Verdict.{verdict, item_conditions}
 use Rattle.network.proofs.First.{handed}
 use Rattle.packed.specs.Packed.{net_in, Packed}
-use Rattle.call.specs.Deliver.{slices}
+use Rattle.call.specs.Deliver.{slices, slices_of}
 use Rattle.call.specs.Host.{Slices}
 use Rattle.call.proofs.Judged.{lends, judged-of, served-refused, served-accepted}
 use Rattle.host.proofs.serve.serve_in.Goals as goal
@@ -15,7 +15,7 @@ use Rattle.host.proofs.serve.serve_in.Goals.{After-decode, In_ok-check_items, St
 
 -- the slices at entry
 abbrev lent : Start → Slices
-lent s = slices s.args.flow.now s.args.lengths.now s.args.answer.now s.args.running.now
+lent s = slices s.args.tables.now.flow.now s.args.tables.now.lengths.now s.args.tables.now.answer.now s.args.running.now
 
 -- the network as it was read
 abbrev net : After-decode → Network
@@ -33,12 +33,12 @@ counted c = c.requires.sizes.shaped.counted ∙ ap resources (sym c.decode.ensur
 pub check_items-requires : goal.check_items-requires
 check_items-requires c = packs (goal.at.check_items-requires c).After-decode
 
-pub returns-in_err-check_items : goal.returns-in_err-check_items
-returns-in_err-check_items c =
+pub returns-in_err-check_items-clause-judged : goal.returns-in_err-check_items-clause-judged
+returns-in_err-check_items-clause-judged c =
     let e = c.check_items.ensures in
     let w = c.in_err-check_items.was in
     judged-of c.decode.ensures
-    (served-refused (net (goal.at.returns-in_err-check_items c).After-decode) c.args.q (verdict (item_conditions (net (goal.at.returns-in_err-check_items c).After-decode))) (lent (goal.at.returns-in_err-check_items c).Start) _ _ _ (sym e ∙ w) (ap host_number (handed w c.from_residual.ensures.1 ∙ e)))
+    (served-refused (net (goal.at.returns-in_err-check_items-clause-judged c).After-decode) c.args.q (verdict (item_conditions (net (goal.at.returns-in_err-check_items-clause-judged c).After-decode))) (lent (goal.at.returns-in_err-check_items-clause-judged c).Start) _ _ _ (sym e ∙ w) (ap host_number (handed w c.from_residual.ensures.1 ∙ e)))
 
 -- nothing is refused
 accepted : (c : In_ok-check_items) → verdict (item_conditions (net (goal.at.In_ok-check_items c).After-decode)) ≡ Accepted
@@ -51,8 +51,7 @@ deliver-requires c =
       room = c.requires.sizes.open-for;
     }
 
-pub returns : goal.returns
-returns c =
-    let l = c.deliver.new in
+pub returns-clause-judged : goal.returns-clause-judged
+returns-clause-judged c =
     judged-of c.decode.ensures
-    (served-accepted (net (goal.at.returns c).After-decode) c.args.q (verdict (item_conditions (net (goal.at.returns c).After-decode))) (lent (goal.at.returns c).Start) 0 (slices l.flow l.lengths l.answer l.running) (accepted (goal.at.returns c).In_ok-check_items) refl c.deliver.ensures)
+    (served-accepted (net (goal.at.returns-clause-judged c).After-decode) c.args.q (verdict (item_conditions (net (goal.at.returns-clause-judged c).After-decode))) (lent (goal.at.returns-clause-judged c).Start) 0 (slices_of c.deliver.new.tables c.deliver.new.running) (accepted (goal.at.returns-clause-judged c).In_ok-check_items) refl c.deliver.ensures.delivered)
