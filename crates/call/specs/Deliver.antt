@@ -1,5 +1,5 @@
 -- What writing an accepted call's outcome asks and leaves.
-use Rattle.std.specs.Prelude.{◌≡◌, List, map, ℕ, ◌*◌, ◌≤◌}
+use Rattle.std.specs.Prelude.{◌≡◌, List, map, ℕ, ◌*◌, ◌≤◌, length}
 use Rattle.bounds.specs.Bounds.{most_running, answer_numbers}
 use Rattle.signed.specs.Signed.{twos}
 use Rattle.network.specs.Network.{Network}
@@ -18,8 +18,11 @@ slices flow lengths answer counts = record { flow = flow; lengths = lengths; ans
 abbrev pub slices_of : Tables → List ℕ → Slices
 slices_of t counts = slices t.flow.now t.lengths.now t.answer.now counts
 
--- The tables are the ones that were lent, whatever they hold now.
+-- The tables are the ones that were lent, each as long as it was, whatever they hold now.
 pub record SameTables (old new : Tables) : Type 0 where
+  pub flow-length : length new.flow.now ≡ length old.flow.now
+  pub lengths-length : length new.lengths.now ≡ length old.lengths.now
+  pub answer-length : length new.answer.now ≡ length old.answer.now
   pub flow : new.flow.ghost_name ≡ old.flow.ghost_name
   pub lengths : new.lengths.ghost_name ≡ old.lengths.ghost_name
   pub answer : new.answer.ghost_name ≡ old.answer.ghost_name

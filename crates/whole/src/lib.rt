@@ -24,20 +24,18 @@ fn put_pair(totes: &mut [u8], i: usize, scaled: u64, load: u64)
 }
 
 // Each pair's two numbers, from the tables of an accepted call: what leaves its source is all that it carries, since nothing of it enters there.
-fn put_totes(belts: &[u8], pairs: &[u8], flow: &[u8], answer: &[u8], totes: &mut [u8])
-    requires { Readable belts.now pairs.now flow.now answer.now totes.old }
-    ensures { totes.new ≡ written totes.old (parted (number_at answer.now 1) (number_at answer.now 2) (sent_in belts.now pairs.now flow.now) (items 2 pairs.now)) }
+fn put_totes(floor: &Floor<'_>, tables: &Tables<'_>, totes: &mut [u8])
+    requires { Readable floor.now.belts.now floor.now.pairs.now tables.now.flow.now tables.now.answer.now totes.old }
+    ensures { totes.new ≡ written totes.old (parted (number_at tables.now.answer.now 1) (number_at tables.now.answer.now 2) (sent_in floor.now.belts.now floor.now.pairs.now tables.now.flow.now) (items 2 floor.now.pairs.now)) }
 {
-    let m = numbers::items(belts, 4);
-    let k = numbers::items(pairs, 2);
-    let capacity = numbers::read(answer, 1);
-    let load = numbers::read(answer, 2);
-    let mut i = 0;
-    while i < k {
-        let source = numbers::read(pairs, 2 * i);
-        let scaled = sent::leaves(belts, flow, i * m, source) * capacity;
+    let m = numbers::items(floor.belts, 4);
+    let k = numbers::items(floor.pairs, 2);
+    let capacity = numbers::read(tables.answer, 1);
+    let load = numbers::read(tables.answer, 2);
+    for i in 0..k {
+        let source = numbers::read(floor.pairs, 2 * i);
+        let scaled = sent::leaves(floor.belts, tables.flow, i * m, source) * capacity;
         put_pair(totes, i, scaled, load);
-        i += 1;
     }
 }
 
@@ -57,6 +55,6 @@ pub fn solve(
 {
     let lacking = numbers::count(totes) < 2 * numbers::items(floor.pairs, 2);
     host::solve(n, q, office, floor, tables, counts, lacking)?;
-    put_totes(floor.belts, floor.pairs, tables.flow, tables.answer, totes);
+    put_totes(floor, tables, totes);
     Ok(())
 }

@@ -1,5 +1,4 @@
--- `whole::put_totes` meets its contract. The loop's invariant: the numbers of the pairs before i are written, and the table has its length. The
--- measure is what is left of k. Assumes nothing.
+-- `whole::put_totes` meets its contract. The loop's invariant: the numbers of the pairs before i are written. Assumes nothing.
 use borrow.Author.Rules.{rules}
 use mathlib.Core.Path.{◌≡◌, refl, ap, ap₂, ◌∙◌}
 use Prim.Native.Nat.{◌+◌, ◌*◌, ◌≤◌, ◌<◌}
@@ -16,38 +15,38 @@ use Rattle.whole.proofs.put_totes.Goals.{After-leaves, After-read-source, In-loo
 
 pub loop-i-init : goal.loop-i-init
 unfolding written encode parted
-loop-i-init c = (search rules, refl, refl)
+loop-i-init c = refl
 
 -- pair i, and where its numbers are
 module _ (c : In-loop-i) where
   abbrev first : Start
   first = (goal.at.In-loop-i c).Start
 
-  inside : c.loop-i.i < items 2 first.args.pairs.now
+  inside : c.loop-i.i < items 2 first.args.floor.now.pairs.now
   inside = omega (arith, c.items-k.ensures, c.loop-i-test.true)
 
-  source-place : 2 * c.loop-i.i < count first.args.pairs.now
-  source-place = omega (arith, member_below first.args.pairs.now 2 0 c.loop-i.i (lit≤ tt) inside)
+  source-place : 2 * c.loop-i.i < count first.args.floor.now.pairs.now
+  source-place = omega (arith, member_below first.args.floor.now.pairs.now 2 0 c.loop-i.i (lit≤ tt) inside)
 
-  row : c.loop-i.i * items 4 first.args.belts.now + items 4 first.args.belts.now ≤ count first.args.flow.now
-  row = omega (arith, first.requires.rows, mul-le-mul_right (items 4 first.args.belts.now) inside)
+  row : c.loop-i.i * items 4 first.args.floor.now.belts.now + items 4 first.args.floor.now.belts.now ≤ count first.args.tables.now.flow.now
+  row = omega (arith, first.requires.rows, mul-le-mul_right (items 4 first.args.floor.now.belts.now) inside)
 
 -- its amounts' place, in the numbers that were read
-row_at : (c : After-read-source) → c.loop-i.i * c.items-m.result ≡ c.loop-i.i * items 4 (first (goal.at.After-read-source c).In-loop-i).args.belts.now
+row_at : (c : After-read-source) → c.loop-i.i * c.items-m.result ≡ c.loop-i.i * items 4 (first (goal.at.After-read-source c).In-loop-i).args.floor.now.belts.now
 row_at c = ap (λ m. c.loop-i.i * m) c.items-m.ensures
 
 leaves_of :
     (c : After-read-source) →
     let s = first (goal.at.After-read-source c).In-loop-i in
-    leaves_in s.args.belts.now s.args.flow.now (c.loop-i.i * c.items-m.result) c.read-source.result ≡
-    sent_in s.args.belts.now s.args.pairs.now s.args.flow.now c.loop-i.i
-leaves_of c = let s = first (goal.at.After-read-source c).In-loop-i in ap₂ (leaves_in s.args.belts.now s.args.flow.now) (row_at c) c.read-source.ensures
+    leaves_in s.args.floor.now.belts.now s.args.tables.now.flow.now (c.loop-i.i * c.items-m.result) c.read-source.result ≡
+    sent_in s.args.floor.now.belts.now s.args.floor.now.pairs.now s.args.tables.now.flow.now c.loop-i.i
+leaves_of c = let s = first (goal.at.After-read-source c).In-loop-i in ap₂ (leaves_in s.args.floor.now.belts.now s.args.tables.now.flow.now) (row_at c) c.read-source.ensures
 
 -- what leaves its source
 sent_is :
     (c : After-leaves) →
     let s = first (goal.at.After-leaves c).In-loop-i in
-    c.leaves.result ≡ sent_in s.args.belts.now s.args.pairs.now s.args.flow.now c.loop-i.i
+    c.leaves.result ≡ sent_in s.args.floor.now.belts.now s.args.floor.now.pairs.now s.args.tables.now.flow.now c.loop-i.i
 sent_is c = c.leaves.ensures ∙ leaves_of (goal.at.After-leaves c).After-read-source
 
 pub leaves-requires : goal.leaves-requires
@@ -64,22 +63,19 @@ overflow_mul-scaled c =
 
 pub put_pair-requires : goal.put_pair-requires
 put_pair-requires c =
-    (omega (arith, c.loop-i.invariant.2, (first (goal.at.put_pair-requires c).In-loop-i).requires.places, inside (goal.at.put_pair-requires c).In-loop-i), rw c.read-load.ensures (first (goal.at.put_pair-requires c).In-loop-i).requires.divisor)
+    (omega (arith, c.loop-i.auto.totes, (first (goal.at.put_pair-requires c).In-loop-i).requires.places, inside (goal.at.put_pair-requires c).In-loop-i), rw c.read-load.ensures (first (goal.at.put_pair-requires c).In-loop-i).requires.divisor)
 
 pub loop-i-preserved : goal.loop-i-preserved
 loop-i-preserved c =
-    let s = first (goal.at.loop-i-preserved c).In-loop-i in (
-      omega (arith, c.loop-i-test.true),
-      c.put_pair.ensures ∙
-          parted-more c.read-capacity.result c.read-load.result (sent_in s.args.belts.now s.args.pairs.now s.args.flow.now)
-          s.args.totes.now c.loop-i.i c.leaves.result c.loop-i.invariant.1 (sent_is (goal.at.loop-i-preserved c).After-leaves),
-      omega (arith, c.loop-i.invariant.2),
-    )
+    let s = first (goal.at.loop-i-preserved c).In-loop-i in
+    c.put_pair.ensures ∙
+    parted-more c.read-capacity.result c.read-load.result (sent_in s.args.floor.now.belts.now s.args.floor.now.pairs.now s.args.tables.now.flow.now)
+    s.args.totes.now c.loop-i.i c.leaves.result c.loop-i.invariant (sent_is (goal.at.loop-i-preserved c).After-leaves)
 
 pub returns : goal.returns
 returns c =
-    let last : c.loop-i.i ≡ items 2 c.args.pairs.now = omega (arith, c.loop-i.invariant.0, c.loop-i-test.false, c.items-k.ensures) in
-    rw (← last, ← c.read-capacity.ensures, ← c.read-load.ensures) c.loop-i.invariant.1
+    let last : c.loop-i.i ≡ items 2 c.args.floor.now.pairs.now = omega (arith, c.items-k.ensures) in
+    rw (← last, ← c.read-capacity.ensures, ← c.read-load.ensures) c.loop-i.invariant
 
 pub read-capacity-requires : goal.read-capacity-requires
 read-capacity-requires c = omega (arith, c.requires.answers)
@@ -88,10 +84,10 @@ pub read-load-requires : goal.read-load-requires
 read-load-requires c = omega (arith, c.requires.answers)
 
 pub overflow_mul-i : goal.overflow_mul-i
-overflow_mul-i c = omega (arith, source-place c)
+overflow_mul-i c = omega (arith, source-place (goal.at.overflow_mul-i c).In-loop-i)
 
 pub read-source-requires : goal.read-source-requires
-read-source-requires c = source-place c
+read-source-requires c = source-place (goal.at.read-source-requires c).In-loop-i
 
 pub overflow_mul-i-in-loop-i : goal.overflow_mul-i-in-loop-i
-overflow_mul-i-in-loop-i c = omega (arith, row (goal.at.overflow_mul-i-in-loop-i c).In-loop-i, row_at c)
+overflow_mul-i-in-loop-i c = omega (arith, row (goal.at.overflow_mul-i-in-loop-i c).In-loop-i, row_at (goal.at.overflow_mul-i-in-loop-i c).After-read-source)

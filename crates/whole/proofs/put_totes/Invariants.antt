@@ -1,5 +1,4 @@
--- `whole::put_totes` meets its contract. The loop's invariant: the numbers of the pairs before i are written, and the table has its length. The
--- measure is what is left of k. Assumes nothing.
+-- `whole::put_totes` meets its contract. The loop's invariant: the numbers of the pairs before i are written. Assumes nothing.
 use mathlib.Core.Path.{◌≡◌}
 use Prim.Native.Nat.{◌-◌, ◌≤◌}
 use lib.ListN.{length}
@@ -9,7 +8,4 @@ use Rattle.whole.specs.Whole.{parted}
 use Rattle.whole.proofs.put_totes.Given as goal
 
 abbrev pub invariant-loop-i : goal.invariant-loop-i
-invariant-loop-i l = (l.i ≤ l.k) × (l.totes ≡ written l.initial.totes (parted l.capacity l.load (sent_in l.belts l.pairs l.flow) l.i)) × (length l.totes ≡ length l.initial.totes)
-
-abbrev pub decreases-loop-i : goal.decreases-loop-i
-decreases-loop-i l = l.k - l.i
+invariant-loop-i l = l.totes ≡ written l.initial.totes (parted l.capacity l.load (sent_in l.floor.belts.now l.floor.pairs.now l.tables.flow.now) l.i)

@@ -53,9 +53,9 @@ pub put_totes-requires : goal.put_totes-requires
 put_totes-requires c =
     let h = hosted (goal.at.put_totes-requires c).After-solve in
     let a = accepted (goal.at.put_totes-requires c).In_ok-solve in
-    let kept = c.solve.auto in
+    let kept = c.solve.ensures.same in
     let room = had-room (lacks (net (goal.at.put_totes-requires c).Start) c.args.totes.now) (net (goal.at.put_totes-requires c).Start) c.args.q c.args.office (lent (goal.at.put_totes-requires c).Start) a in
-    readable _ _ _ _ h a c.args.totes.now (omega (arith, room.0.for-flow, kept.flow)) (omega (arith, room.1, kept.answer)) (ltb-false _ _ room.2)
+    readable _ _ _ _ h a c.args.totes.now (omega (arith, room.0.for-flow, kept.flow-length)) (omega (arith, room.1, kept.answer-length)) (ltb-false _ _ room.2)
 
 pub returns-clause-whole : goal.returns-clause-whole
 returns-clause-whole c =
