@@ -7,6 +7,7 @@ ghost use Rattle.site.specs.Parts.{begins};
 ghost use Rattle.site.specs.Turns.{span_of, parts_of};
 
 use bounds::FLOOR_NUMBERS;
+use decode::Floor;
 
 // A part of a slice: its first byte and its size in bytes.
 #[derive(Clone, Copy)]
@@ -59,22 +60,14 @@ fn part_of(floors: &[u8], j: usize, i: usize, s: &[u8]) -> Span
 }
 
 // Floor i's parts. Their sizes stand behind n and q in its item.
-pub fn of_floor(
-    floors: &[u8],
-    i: usize,
-    belts: &[u8],
-    pairs: &[u8],
-    limits: &[u8],
-    flow: &[u8],
-    lengths: &[u8],
-) -> Parts
+pub fn of_floor(floors: &[u8], i: usize, floor: &Floor<'_>, flow: &[u8], lengths: &[u8]) -> Parts
     requires { i < items floor_numbers floors.now }
-    ensures { result ≡ parts_of floors.now i belts.now pairs.now limits.now flow.now lengths.now }
+    ensures { result ≡ parts_of floors.now i floor.now.belts.now floor.now.pairs.now floor.now.limits.now flow.now lengths.now }
 {
     Parts {
-        belts: part_of(floors, 2, i, belts),
-        pairs: part_of(floors, 3, i, pairs),
-        limits: part_of(floors, 4, i, limits),
+        belts: part_of(floors, 2, i, floor.belts),
+        pairs: part_of(floors, 3, i, floor.pairs),
+        limits: part_of(floors, 4, i, floor.limits),
         flow: part_of(floors, 5, i, flow),
         lengths: part_of(floors, 6, i, lengths),
     }

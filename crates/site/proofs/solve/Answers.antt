@@ -14,7 +14,7 @@ use Rattle.site.proofs.solve.Goals.{In_ok-check_list, Start}
 
 -- what is read, and the slices at entry
 abbrev what : Start → Site
-what s = site s.args.office s.args.floors.now s.args.belts.now s.args.pairs.now s.args.limits.now
+what s = site s.args.office s.args.floors.now s.args.floor.now.belts.now s.args.floor.now.pairs.now s.args.floor.now.limits.now
 
 abbrev lent : Start → Slices
 lent s = slices s.args.flow.now s.args.lengths.now s.args.answers.now s.args.counts.now

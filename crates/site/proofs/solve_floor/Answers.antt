@@ -18,11 +18,11 @@ use Rattle.site.specs.Turns.{site}
 use Rattle.site.proofs.Fitting.{Fitting, fitting}
 use Rattle.site.proofs.Floor.{floor-served}
 use Rattle.site.proofs.solve_floor.Goals as goal
-use Rattle.site.proofs.solve_floor.Goals.{After-of_floor-p, After-solve-returned, Start}
+use Rattle.site.proofs.solve_floor.Goals.{After-of_floor-p, After-solve_alone-returned, Start}
 
 -- what is read, and the slices at entry
 abbrev what : Start → Site
-what s = site s.args.office s.args.floors.now s.args.belts.now s.args.pairs.now s.args.limits.now
+what s = site s.args.office s.args.floors.now s.args.floor.now.belts.now s.args.floor.now.pairs.now s.args.floor.now.limits.now
 
 abbrev lent : Start → Slices
 lent s = slices s.args.flow.now s.args.lengths.now s.args.answers.now s.args.counts.now
@@ -32,7 +32,7 @@ module _ (c : After-of_floor-p) where
   first = (goal.at.After-of_floor-p c).Start
 
   -- the parts end within their slices
-  fit : Fitting c.of_floor-p.result first.args.belts.now first.args.pairs.now first.args.limits.now first.args.flow.now first.args.lengths.now
+  fit : Fitting c.of_floor-p.result first.args.floor.now.belts.now first.args.floor.now.pairs.now first.args.floor.now.limits.now first.args.flow.now first.args.lengths.now
   fit = fitting first.args.floors.now first.args.i _ _ _ _ _ c.of_floor-p.ensures
 
   few : first.args.i < 16
@@ -46,44 +46,29 @@ module _ (c : After-of_floor-p) where
   eight-fit = omega (arith, first.requires.0, first.requires.1.room)
 
 -- the seven have come back
-seven : (c : After-solve-returned) → length c.solve-returned.new.answer ≡ 56
+seven : (c : After-solve_alone-returned) → length c.solve_alone-returned.new.answer ≡ 56
 seven c =
-    c.solve-returned.auto.answer ∙ part_length (64 * c.args.i + 8) 56 c.args.answers.now (omega (arith, eight-fit (goal.at.After-solve-returned c).After-of_floor-p))
+    c.solve_alone-returned.auto.answer ∙ part_length (64 * c.args.i + 8) 56 c.args.answers.now (omega (arith, eight-fit (goal.at.After-solve_alone-returned c).After-of_floor-p))
 
 answers-length :
-    (c : After-solve-returned) →
-    length (put (64 * c.args.i + 8) 56 c.args.answers.now c.solve-returned.new.answer) ≡ length c.args.answers.now
+    (c : After-solve_alone-returned) →
+    length (put (64 * c.args.i + 8) 56 c.args.answers.now c.solve_alone-returned.new.answer) ≡ length c.args.answers.now
 answers-length c =
-    put-length (64 * c.args.i + 8) 56 c.args.answers.now c.solve-returned.new.answer (omega (arith, eight-fit (goal.at.After-solve-returned c).After-of_floor-p)) (seven c)
+    put-length (64 * c.args.i + 8) 56 c.args.answers.now c.solve_alone-returned.new.answer (omega (arith, eight-fit (goal.at.After-solve_alone-returned c).After-of_floor-p)) (seven c)
 
 pub host_number-requires : goal.host_number-requires
-host_number-requires c = rw c.solve-returned.ensures.returned (result_fits false _ _ _ _)
+host_number-requires c = rw c.solve_alone-returned.ensures.returned (result_fits false _ _ _ _)
 
 pub write-requires : goal.write-requires
-write-requires c = omega (arith, answers-length (goal.at.write-requires c).After-solve-returned, eight-fit (goal.at.write-requires c).After-of_floor-p)
+write-requires c = omega (arith, answers-length (goal.at.write-requires c).After-solve_alone-returned, eight-fit (goal.at.write-requires c).After-of_floor-p)
 
 pub shape_of-answers : goal.shape_of-answers
-shape_of-answers c = c.write.auto.s ∙ answers-length (goal.at.shape_of-answers c).After-solve-returned
+shape_of-answers c = c.write.auto.s ∙ answers-length (goal.at.shape_of-answers c).After-solve_alone-returned
 
 pub returns : goal.returns
 returns c =
     let member : floor_numbers * c.args.i ≡ floor_numbers * c.args.i + 0 = omega arith in
-    floor-served (what (goal.at.returns c).Start) c.args.i (lent (goal.at.returns c).Start) (eight-fit (goal.at.returns c).After-of_floor-p) (c.read-n.ensures ∙ ap (number_at c.args.floors.now) member) c.read-q.ensures c.of_floor-p.ensures c.solve-returned.ensures (rw c.host_number.ensures at c.write.ensures)
-
-pub overflow_add-belts_to : goal.overflow_add-belts_to
-overflow_add-belts_to c = omega (arith, (fit (goal.at.overflow_add-belts_to c).After-of_floor-p).of-belts, c.well_formed.1.1.1.0.0)
-
-pub overflow_add-pairs_to : goal.overflow_add-pairs_to
-overflow_add-pairs_to c = omega (arith, (fit (goal.at.overflow_add-pairs_to c).After-of_floor-p).of-pairs, c.well_formed.1.1.1.1.0.0)
-
-pub overflow_add-limits_to : goal.overflow_add-limits_to
-overflow_add-limits_to c = omega (arith, (fit (goal.at.overflow_add-limits_to c).After-of_floor-p).of-limits, c.well_formed.1.1.1.1.1.0.0)
-
-pub overflow_add-flow_to : goal.overflow_add-flow_to
-overflow_add-flow_to c = omega (arith, (fit (goal.at.overflow_add-flow_to c).After-of_floor-p).of-flow, c.well_formed.1.1.1.1.1.1.0.0)
-
-pub overflow_add-lengths_to : goal.overflow_add-lengths_to
-overflow_add-lengths_to c = omega (arith, (fit (goal.at.overflow_add-lengths_to c).After-of_floor-p).of-lengths, c.well_formed.1.1.1.1.1.1.1.0.0)
+    floor-served (what (goal.at.returns c).Start) c.args.i (lent (goal.at.returns c).Start) (eight-fit (goal.at.returns c).After-of_floor-p) (c.read-n.ensures ∙ ap (number_at c.args.floors.now) member) c.read-q.ensures c.of_floor-p.ensures c.solve_alone-returned.ensures (rw c.host_number.ensures at c.write.ensures)
 
 pub overflow_mul-i : goal.overflow_mul-i
 overflow_mul-i c = omega (arith, few (goal.at.overflow_mul-i c).After-of_floor-p)
@@ -106,26 +91,26 @@ overflow_mul-answer c = omega (arith, few (goal.at.overflow_mul-answer c).After-
 pub overflow_add-answer : goal.overflow_add-answer
 overflow_add-answer c = omega (arith, few (goal.at.overflow_add-answer c).After-of_floor-p)
 
-pub slice_bounds-solve-end : goal.slice_bounds-solve-end
-slice_bounds-solve-end c = omega (arith, (fit (goal.at.slice_bounds-solve-end c).After-of_floor-p).of-belts)
+pub slice_bounds-own-end : goal.slice_bounds-own-end
+slice_bounds-own-end c = omega (arith, (fit (goal.at.slice_bounds-own-end c).After-of_floor-p).of-belts)
 
-pub slice_bounds-solve-end-2 : goal.slice_bounds-solve-end-2
-slice_bounds-solve-end-2 c = omega (arith, (fit (goal.at.slice_bounds-solve-end-2 c).After-of_floor-p).of-pairs)
+pub slice_bounds-own-end-2 : goal.slice_bounds-own-end-2
+slice_bounds-own-end-2 c = omega (arith, (fit (goal.at.slice_bounds-own-end-2 c).After-of_floor-p).of-pairs)
 
-pub slice_bounds-solve-end-3 : goal.slice_bounds-solve-end-3
-slice_bounds-solve-end-3 c = omega (arith, (fit (goal.at.slice_bounds-solve-end-3 c).After-of_floor-p).of-limits)
+pub slice_bounds-own-end-3 : goal.slice_bounds-own-end-3
+slice_bounds-own-end-3 c = omega (arith, (fit (goal.at.slice_bounds-own-end-3 c).After-of_floor-p).of-limits)
 
-pub slice_bounds-solve-end-4 : goal.slice_bounds-solve-end-4
-slice_bounds-solve-end-4 c = omega (arith, (fit (goal.at.slice_bounds-solve-end-4 c).After-of_floor-p).of-flow)
+pub slice_bounds-solve_alone-end : goal.slice_bounds-solve_alone-end
+slice_bounds-solve_alone-end c = omega (arith, (fit (goal.at.slice_bounds-solve_alone-end c).After-of_floor-p).of-flow)
 
-pub slice_bounds-solve-end-5 : goal.slice_bounds-solve-end-5
-slice_bounds-solve-end-5 c = omega (arith, (fit (goal.at.slice_bounds-solve-end-5 c).After-of_floor-p).of-lengths)
+pub slice_bounds-solve_alone-end-2 : goal.slice_bounds-solve_alone-end-2
+slice_bounds-solve_alone-end-2 c = omega (arith, (fit (goal.at.slice_bounds-solve_alone-end-2 c).After-of_floor-p).of-lengths)
 
 pub overflow_add-answer-2 : goal.overflow_add-answer-2
 overflow_add-answer-2 c = omega (arith, few (goal.at.overflow_add-answer-2 c).After-of_floor-p)
 
-pub slice_bounds-solve-end-6 : goal.slice_bounds-solve-end-6
-slice_bounds-solve-end-6 c = omega (arith, eight-fit (goal.at.slice_bounds-solve-end-6 c).After-of_floor-p)
+pub slice_bounds-solve_alone-end-3 : goal.slice_bounds-solve_alone-end-3
+slice_bounds-solve_alone-end-3 c = omega (arith, eight-fit (goal.at.slice_bounds-solve_alone-end-3 c).After-of_floor-p)
 
 pub overflow_mul-i-3 : goal.overflow_mul-i-3
 overflow_mul-i-3 c = omega (arith, few (goal.at.overflow_mul-i-3 c).After-of_floor-p)

@@ -12,4 +12,4 @@ abbrev pub invariant-loop-i : goal.invariant-loop-i
 invariant-loop-i l =
     let old = slices l.initial.flow l.initial.lengths l.initial.answers l.initial.counts in
     let new = slices l.flow l.lengths l.answers l.counts in
-    FloorsServed (site l.office l.floors l.belts l.pairs l.limits) l.i old new
+    FloorsServed (site l.office l.floors l.floor.belts.now l.floor.pairs.now l.floor.limits.now) l.i old new
