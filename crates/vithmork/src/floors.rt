@@ -2,6 +2,7 @@
 ghost use Rattle.site.specs.Site.{Sited};
 
 use checks::numbers::host_number;
+use decode::Floor;
 
 // Solves the site's floors in the byte slices, each as vithmork_solve would: 0, and for each floor eight numbers in the table answers, what its own
 // call would return and its answer; or a refusal's number * 1,000 and no byte changed.
@@ -22,8 +23,11 @@ pub extern "C" fn vithmork_site(
         (record { flow = flow.new; lengths = lengths.new; answer = answers.new; counts = counts.new })
         result }
 {
-    let v = site::solve(
-        office, floors, belts, pairs, limits, flow, lengths, answers, counts,
-    );
+    let floor = Floor {
+        belts,
+        pairs,
+        limits,
+    };
+    let v = site::solve(office, floors, &floor, flow, lengths, answers, counts);
     host_number(v)
 }

@@ -2,7 +2,9 @@
 ghost use Rattle.std.specs.Prelude.{false};
 ghost use Rattle.call.specs.Host.{Hosted};
 
+use call::Tables;
 use checks::numbers::host_number;
+use decode::Floor;
 
 // Solves the floor in the byte slices: 0 and the tables written, or a refusal's number * 1,000 + its place and no byte changed.
 #[unsafe(no_mangle)]
@@ -23,8 +25,16 @@ pub extern "C" fn vithmork_solve(
         (record { flow = flow.new; lengths = lengths.new; answer = answer.new; counts = counts.new })
         result }
 {
-    let v = host::solve(
-        n, q, office, belts, pairs, limits, flow, lengths, answer, counts, false,
-    );
+    let floor = Floor {
+        belts,
+        pairs,
+        limits,
+    };
+    let mut tables = Tables {
+        flow,
+        lengths,
+        answer,
+    };
+    let v = host::solve(n, q, office, &floor, &mut tables, counts, false);
     host_number(v)
 }

@@ -1,7 +1,9 @@
 // The call for whole totes an hour. Request C-15.
 ghost use Rattle.whole.specs.Whole.{Whole};
 
+use call::Tables;
 use checks::numbers::host_number;
+use decode::Floor;
 
 // Solves the floor as vithmork_solve does, and gives each pair's whole totes an hour and the remainder in the table totes.
 #[unsafe(no_mangle)]
@@ -23,8 +25,16 @@ pub extern "C" fn vithmork_whole(
         (record { flow = flow.new; lengths = lengths.new; answer = answer.new; counts = counts.new })
         totes.old totes.new result }
 {
-    let v = whole::solve(
-        n, q, office, belts, pairs, limits, flow, lengths, answer, counts, totes,
-    );
+    let floor = Floor {
+        belts,
+        pairs,
+        limits,
+    };
+    let mut tables = Tables {
+        flow,
+        lengths,
+        answer,
+    };
+    let v = whole::solve(n, q, office, &floor, &mut tables, counts, totes);
     host_number(v)
 }

@@ -4,4 +4,4 @@ use Rattle.call.proofs.Hosts.{result_fits}
 use Rattle.vithmork.proofs.solve.vithmork_solve.Goals as goal
 
 pub host_number-requires : goal.host_number-requires
-host_number-requires c = rw c.solve-v.ensures.returned (result_fits false _ _ _ _)
+host_number-requires c = rw c.solve-v.ensures.hosted.returned (result_fits false _ _ _ _)
