@@ -8,7 +8,7 @@ use Rattle.memory.proofs.Forgets.{forgotten-all}
 use Rattle.memory.proofs.pages.forget.Goals as goal
 
 pub slice_bounds-fill-end-2 : goal.slice_bounds-fill-end-2
-slice_bounds-fill-end-2 c = sym (length-take-le 33 c.args.memory.now (omega (arith, c.requires)))
+slice_bounds-fill-end-2 c = sym (length-take-le _ c.args.memory.now (omega (arith, c.requires)))
 
 pub returns : goal.returns
 returns c =
