@@ -5,6 +5,7 @@ use mathlib.Core.List.{List}
 use Prim.Native.Nat.{ℕ}
 use native.Mathlib.Omega.{arith}
 use lib.ListN.{length, get_or}
+use Rattle.std.specs.Prelude.{Option, Some, None}
 use Rattle.network.specs.Ends.{Node}
 use Rattle.network.specs.Network.{Network, commodities, source, sink}
 use Rattle.network.specs.Onward.{node_length}
@@ -23,7 +24,7 @@ use Rattle.memory.proofs.Bounds.{below_raised, raised-shared}
 use Rattle.memory.proofs.Memories.{page-raised, searched-distances, searched-bounds, searched-pages}
 use Rattle.memory.proofs.Raises.{part_same, raised-same}
 use Rattle.choice.specs.Calls.{Looking}
-use Rattle.choice.specs.Looked.{Looked, Followed}
+use Rattle.choice.specs.Looked.{Looked, Stuck, Followed}
 
 module _ {s : Shape} {xs ix l : List ℕ} {t i : ℕ} {M page new : List ℕ} {r : ℕ} (p : Looking s xs ix l t i M) (size : length page ≡ page_numbers)
     (S : Searched (net_in s xs) l page t) (A : AllRaised s xs ix l t (put (page_from t) page_numbers M page) new r) where
@@ -76,12 +77,12 @@ module _ {s : Shape} {xs ix l : List ℕ} {t i : ℕ} {M page new : List ℕ} {r
       }
 
 -- The walk of commodity i by the table d, where the bound is the length that the table tells, and where it is not.
-module _ {net : Network} {l bounds d : List ℕ} {i : ℕ} where
+module _ {net : Network} {l d : List ℕ} (bounds : List ℕ) (i : ℕ) where
   pub followed-walk :
-      {path : List ℕ} {r : ℕ} → Feasible net l d (sink net i) → get_or bounds i 0 ≡ length_by net l d i → Walked net l d (source net i) (sink net i) path r →
+      (path : List ℕ) (r : Option ℕ) → Feasible net l d (sink net i) → get_or bounds i 0 ≡ length_by net l d i → Walked net l d (source net i) (sink net i) path r →
       Followed net l bounds d i path r
-  followed-walk F own W =
-      record { arrived = λ b. record { feasible = F; arrived = W.arrived b; own = own }; stuck = λ z q. W.stuck z }
+  followed-walk path (Some r) F own W = record { feasible = F; arrived = W; own = own }
+  followed-walk path None F own W = λ q. W
 
-  pub followed-none : {path : List ℕ} → (get_or bounds i 0 ≡ length_by net l d i → ⊥) → Followed net l bounds d i path 0
-  followed-none other = record { arrived = λ b. absurd (omega arith); stuck = λ z q. absurd (other q) }
+  pub followed-none : (get_or bounds i 0 ≡ length_by net l d i → ⊥) → Stuck net l bounds d i
+  followed-none other q = absurd (other q)

@@ -1,5 +1,5 @@
 -- What the choice leaves. Document 01, "One choice of route", and requests C-16 and C-17.
-use Rattle.std.specs.Prelude.{◌≡◌, List, ℕ, ◌*◌, ◌≤◌, ◌<◌, take}
+use Rattle.std.specs.Prelude.{◌≡◌, List, ℕ, Option, MatchOption, ◌*◌, ◌≤◌, ◌<◌, take}
 use Rattle.std.proofs.Math.Option.{none, some}
 use Rattle.bounds.specs.Bounds.{most_nodes}
 use Rattle.network.specs.Network.{Network, source}
@@ -8,7 +8,6 @@ use Rattle.network.specs.Resources.{uses}
 use Rattle.packed.specs.declared.Shape.{Shape}
 use Rattle.method.specs.Choice.{choice_of, choice}
 use Rattle.method.specs.declared.Selected.{Selected}
-use Rattle.paths.specs.Far.{far_length}
 use Rattle.memory.specs.Memory.{Memory}
 
 -- The commodity and the first entries of the table are the choice, from 1 to 63 arcs; with the limited nodes behind them they are what it uses, and alpha is
@@ -22,12 +21,11 @@ pub record Picked (net : Network) (l : List ℕ) (r : Selected) (path : List ℕ
   pub some_more : r.arcs ≤ r.used
   pub few-used : r.used ≤ 2 * most_nodes
 
--- alpha tells: far_length or more where no commodity is joined, below it where one is chosen.
-pub record Chose (net : Network) (l : List ℕ) (r : Selected) (path : List ℕ) : Type 0 where
-  pub nothing : far_length ≤ r.alpha → choice net l ≡ none
-  pub something : r.alpha < far_length → Picked net l r path
+-- So it is with what is selected; where nothing is, no commodity is joined.
+abbrev pub Chose : Network → List ℕ → Option Selected → List ℕ → Type 0
+Chose net l r path = MatchOption r (choice net l ≡ none) (λ c. Picked net l c path)
 
 -- And all that it leaves: the choice, and a memory that holds by the lengths as they are.
-pub record Left (s : Shape) (net : Network) (l : List ℕ) (r : Selected) (path memory : List ℕ) : Type 0 where
+pub record Left (s : Shape) (net : Network) (l : List ℕ) (r : Option Selected) (path memory : List ℕ) : Type 0 where
   pub chose : Chose net l r path
   pub memory-of : Memory s net l memory

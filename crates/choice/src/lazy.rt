@@ -38,7 +38,8 @@ fn look(
     raise(s, net, into, lengths, t, memory)
 }
 
-// The walk of commodity i by the page of its sink; how many arcs it has, 0 where it is stuck or its length is not the bound.
+// The walk of commodity i by the page of its sink; how many arcs it has, None where it is stuck or its length is not the
+// bound.
 fn follow(
     s: Shape,
     net: &[u64],
@@ -47,7 +48,7 @@ fn follow(
     i: usize,
     memory: &[u64],
     path: &mut [u64],
-) -> usize
+) -> Option<usize>
     requires { Following s net.now indexes.now lengths.now i memory.now (length path.old) }
     ensures { Followed (net_in s net.now) lengths.now (bounds_in s memory.now) (distances_in (sink (net_in s net.now) i) memory.now) i path.new result }
 {
@@ -57,13 +58,14 @@ fn follow(
     let at = PAGES + PAGE_NUMBERS * sink as usize;
     let dist = &memory[at..at + DISTANCE_NUMBERS];
     if told(out, lengths, dist, source, sink) != memory[BOUNDS + i] {
-        return 0;
+        return None;
     }
     walk(s, net, out, lengths, dist, source, sink, path)
 }
 
-// The lowest-numbered commodity whose sink is nearest to its source is noted in memory, and its walk written into path; how many arcs that has. The commodity
-// noted last has just been drawn, so that its sink is searched first.
+// The lowest-numbered commodity whose sink is nearest to its source is noted in memory, and its walk written into path;
+// how many arcs that has, None where no commodity is joined. The commodity noted last has just been drawn, so that its
+// sink is searched first.
 pub fn nearest(
     s: Shape,
     net: &[u64],
@@ -71,13 +73,12 @@ pub fn nearest(
     lengths: &[u64],
     memory: &mut [u64],
     path: &mut [u64],
-) -> usize
+) -> Option<usize>
     requires { Choosing s net.now indexes.now lengths.now memory.old (length path.old) }
     ensures { Nearest s (net_in s net.now) lengths.now memory.new path.new result }
 {
     let mut i = memory[LEAST] as usize;
-    let mut arcs = 0;
-    loop {
+    let arcs = loop {
         let t = net[SINKS + i];
         i = look(
             s,
@@ -88,11 +89,11 @@ pub fn nearest(
             i,
             memory,
         );
-        arcs = follow(s, net, indexes, lengths, i, memory, path);
-        if arcs > 0 || net[SINKS + i] == t {
-            break;
+        let arcs = follow(s, net, indexes, lengths, i, memory, path);
+        if arcs.is_some() || net[SINKS + i] == t {
+            break arcs;
         }
-    }
+    };
     memory[LEAST] = i as u64;
     arcs
 }

@@ -14,7 +14,6 @@ use index::INDEX_NUMBERS;
 use memory::{BOUNDS, LEAST};
 use method::Selected;
 use packed::{SOURCES, Shape};
-use search::FAR_LENGTH;
 use walk::visit;
 
 // A place for each arc of a path, which has fewer arcs than there are nodes, and for each of its nodes.
@@ -29,8 +28,8 @@ pub const RESOURCE_CAPACITIES: usize = 2 * INDEX_NUMBERS;
 
 pub const INDEXES_NUMBERS: usize = RESOURCE_CAPACITIES + MOST_ARCS;
 
-// The choice of an iteration. What its path uses are the first entries of path: the arcs, and behind them the limited nodes. alpha is FAR_LENGTH or more
-// where no commodity is joined. The memory may be used again while lengths only grow.
+// The choice of an iteration, None where no commodity is joined. What its path uses are the first entries of path: the
+// arcs, and behind them the limited nodes. The memory may be used again while lengths only grow.
 pub fn choose(
     s: Shape,
     net: &[u64],
@@ -38,21 +37,12 @@ pub fn choose(
     lengths: &[u64],
     memory: &mut [u64],
     path: &mut [u64],
-) -> Selected
+) -> Option<Selected>
     requires { Choosing s net.now indexes.now lengths.now memory.old (length path.old) }
     ensures { Left s (net_in s net.now) lengths.now result path.new memory.new }
 {
-    let arcs = nearest(s, net, indexes, lengths, memory, path);
+    let arcs = nearest(s, net, indexes, lengths, memory, path)?;
     let i = memory[LEAST] as usize;
-    let alpha = memory[BOUNDS + i];
-    if alpha >= FAR_LENGTH {
-        return Selected {
-            commodity: i,
-            arcs: 0,
-            used: 0,
-            alpha,
-        };
-    }
     let used = visit(
         s,
         net,
@@ -61,10 +51,10 @@ pub fn choose(
         arcs,
         path,
     );
-    Selected {
+    Some(Selected {
         commodity: i,
         arcs,
         used,
-        alpha,
-    }
+        alpha: memory[BOUNDS + i],
+    })
 }

@@ -18,10 +18,7 @@ pub fn told(ix: &[u64], lengths: &[u64], dist: &[u64], v: u64, w: u64) -> u64
     let own = through(ix, lengths, v as usize);
     let from = dist[v as usize];
     let to = dist[w as usize];
-    if from < to {
-        return own;
-    }
-    (from - to) / MOST_NODES + own
+    from.saturating_sub(to) / MOST_NODES + own
 }
 
 // The bound of commodity i is raised to what the table of t tells, where that is more; the bound.
@@ -46,10 +43,7 @@ fn raise_at(
         net[SOURCES + i],
         net[SINKS + i],
     );
-    let mut bound = memory[BOUNDS + i];
-    if bound < x {
-        bound = x;
-    }
+    let bound = memory[BOUNDS + i].max(x);
     memory[BOUNDS + i] = bound;
     bound
 }
@@ -67,15 +61,12 @@ pub fn raise(
     requires some { 1 ≤ s.commodities }
     ensures { AllRaised s net.now ix.now lengths.now t memory.old memory.new result }
 {
-    let k = s.commodities;
     let mut b = 0;
-    let mut i = 0;
-    while i < k {
+    for i in 0..s.commodities {
         let bound = raise_at(s, net, ix, lengths, t, i, memory);
         if bound < memory[BOUNDS + b] {
             b = i;
         }
-        i += 1;
     }
     b
 }

@@ -1,7 +1,6 @@
 // The page of a node: the distances of all nodes to it, and an order of the nodes, along which a search looks for those that are on its list.
 #![tactic(auto)]
 
-pub mod fill;
 pub mod list;
 pub mod order;
 pub mod scan;

@@ -25,10 +25,7 @@ pub fn enlist(come: bool, n: u64, v: u64, listed: &mut [u64], size: usize) -> us
 {
     let at = v as usize;
     let was = listed[at];
-    let mut flag = was;
-    if come {
-        flag = 1;
-    }
+    let flag = if come { 1 } else { was };
     listed[at] = flag;
     size + (flag - was) as usize
 }

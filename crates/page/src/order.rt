@@ -9,9 +9,7 @@ pub fn line_up(n: u64, page: &mut [u64])
     requires { order_from + n ≤ length page.old }
     ensures { LinedUp n page.new }
 {
-    let mut p = 0;
-    while p < n as usize {
+    for p in 0..n as usize {
         page[ORDER + p] = p as u64 + 1;
-        p += 1;
     }
 }

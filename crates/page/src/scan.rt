@@ -3,17 +3,15 @@ ghost use Rattle.paths.specs.Scan.{Scanning, Scanned};
 
 use crate::ORDER;
 
-// The first place, beginning with the given one, whose node is on the list; n or more if there is none.
-pub fn scan(n: u64, page: &[u64], listed: &[u64], from: usize) -> usize
+// The first place, beginning with the given one, whose node is on the list.
+pub fn scan(n: u64, page: &[u64], listed: &[u64], from: usize) -> Option<usize>
     requires { Scanning n page.now listed.now }
     ensures { Scanned n page.now listed.now from result }
 {
-    let mut p = from;
-    while p < n as usize {
+    for p in from..n as usize {
         if listed[page[ORDER + p] as usize] != 0 {
-            return p;
+            return Some(p);
         }
-        p += 1;
     }
-    p
+    None
 }

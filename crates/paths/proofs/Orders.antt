@@ -1,18 +1,17 @@
 -- The order of the nodes on a page: what keeps it, and that a node on the list has a place in it.
 -- Assumes nothing.
-use mathlib.Core.Path.{◌≡◌, ◌∙◌}
-use mathlib.Core.Logic.{⊎_elim}
+use mathlib.Core.Path.{◌≡◌, refl, ◌∙◌}
 use mathlib.Core.List.{List}
+use Rattle.std.specs.Prelude.{Option, Some, None, IsSome}
 use Prim.Native.Nat.{ℕ, ◌+◌, ◌≤◌, ◌<◌}
 use native.Mathlib.Omega.{arith}
 use lib.ListN.{length, get_or, set}
 use lib.Seq.{get_or-set_other}
-use Rattle.arith.proofs.Order.{le-or-lt}
 use Rattle.bounds.specs.Bounds.{most_nodes}
 use Rattle.network.specs.Network.{Network}
 use Rattle.paths.specs.Worklist.{Worklist}
 use Rattle.paths.specs.Order.{order_from, node_at, Ordered, Arranged, Rearranged}
-use Rattle.paths.specs.Scan.{Waits, Scanning, Scanned}
+use Rattle.paths.specs.Scan.{Scanning, Scanned}
 use Rattle.paths.proofs.Worklists.{worklist-some}
 
 module _ {net : Network} {old : List ℕ} (O : Ordered net old) where
@@ -45,12 +44,10 @@ module _ {net : Network} {old : List ℕ} (O : Ordered net old) where
     ordered-scanning room = record { arranged = ordered-arranged room; room = L.room }
 
     -- A node on the list has a place, so that a search from the first place on finds one.
-    pub ordered-waits : {r : ℕ} → 0 < size → Scanned net.nodes old listed 0 r → Waits net.nodes old listed r
-    ordered-waits {r} some S =
+    pub ordered-waits : (r : Option ℕ) → 0 < size → Scanned net.nodes old listed 0 r → IsSome r
+    ordered-waits (Some p) some S = refl
+    ordered-waits None some S =
         let (v, node, flag) = worklist-some L some in
         let (p, b, e) = O.found v node in
         let on : 1 ≤ get_or listed (node_at old p) 0 = rw e flag in
-        ⊎_elim
-        (λ (past : net.nodes ≤ r). absurd (omega (arith, on, S.none p (omega arith) (omega arith))))
-        (λ (c : r < net.nodes). record { place = c; flag = S.flag c })
-        (le-or-lt net.nodes r)
+        absurd (omega (arith, on, S p b (omega arith)))

@@ -18,7 +18,7 @@ use Rattle.paths.specs.Distances.{Way, Feasible}
 use Rattle.index.specs.Index.{arc_at, end_at}
 use Rattle.paths.specs.Tight.{Tight}
 use Rattle.paths.specs.Walk.{Walk, stop, step}
-use Rattle.paths.specs.Walked.{Walkable, Arrived, Walked}
+use Rattle.paths.specs.Walked.{Walkable, Arrived}
 use Rattle.network.proofs.Leads.{leads-into}
 use Rattle.paths.proofs.Lower.{telescopes}
 use Rattle.paths.proofs.Simple.{walk-few}
@@ -29,7 +29,6 @@ pub record Walking (net : Network) (l d : List ℕ) (s t size : ℕ) (path : Lis
   pub whole : length path ≡ size
   pub within : k ≤ size
   pub node : Node net v
-  pub first : k ≡ 0 → v ≡ s
   pub completes : (u : ℕ) (p : List ℕ) → get_or d u 0 ≤ get_or d v 0 → Walk net l d u v p → Walk net l d u s (take k path ++ p)
   pub comes-by : (p : List ℕ) → Walk net l d t s p → (q : List ℕ) × Walk net l d t v q
 
@@ -74,7 +73,6 @@ module _ {net : Network} {out l d : List ℕ} {s t size : ℕ} (W : Walkable net
         whole = q;
         within = omega arith;
         node = W.source;
-        first = λ e. refl;
         completes = λ u p b w. w;
         comes-by = λ p w. (p, w);
       }
@@ -92,21 +90,16 @@ module _ {net : Network} {out l d : List ℕ} {s t size : ℕ} (W : Walkable net
     walking-few = omega (arith, walk-few W.fit.ends W.feasible W.source so_far, written_all)
 
     -- At t the walk is done.
-    pub walking-end : v ≡ t → Walked net l d s t path k
-    walking-end q =
-        record {
-          arrived = λ b. walk-arrived W.feasible (subst (λ (u : ℕ). Walk net l d u s (take k path)) q so_far) written_all walking-few;
-          stuck = λ z. absurd (W.apart (sym (S.first z) ∙ q));
-        }
+    pub walking-end : v ≡ t → Arrived net l d s t path k
+    walking-end q = walk-arrived W.feasible (subst (λ (u : ℕ). Walk net l d u s (take k path)) q so_far) written_all walking-few
 
     module _ (apart : v ≡ t → ⊥) where
       pub walking_on : Leaving net out l d v
       walking_on = record { fit = W.fit; index = W.index; capped = W.capped; node = S.node.1 }
 
       -- Where no arc from v is tight there is no walk from s.
-      pub walking-stuck : ((e : ℕ) → Way net l d v (get_or d v 0) e → ⊥) → Walked net l d s t path 0
-      walking-stuck none =
-          record { arrived = λ b. absurd (omega arith); stuck = λ z p w. walk_none none apart (S.comes-by p w).1 }
+      pub walking-stuck : ((e : ℕ) → Way net l d v (get_or d v 0) e → ⊥) → (p : List ℕ) → Walk net l d t s p → ⊥
+      walking-stuck none p w = walk_none none apart (S.comes-by p w).1
 
       module _ {r : ℕ} (T : Tight net out l d v r) where
         abbrev way : Way net l d v (get_or d v 0) (arc_at out r)
@@ -129,7 +122,6 @@ module _ {net : Network} {out l d : List ℕ} {s t size : ℕ} (W : Walkable net
               whole = length-set path k (arc_at out r) ∙ S.whole;
               within = omega (arith, room, S.whole);
               node = leads-into net v (arc_at out r) (end_at out r) T.leads-to W.fit.ends;
-              first = λ z. absurd (omega arith);
               completes = λ u p b w.
                   rw (written p) (S.completes u (arc_at out r ∷ p) (omega (arith, next-nearer)) (step (λ q. omega (arith, next-nearer, ap (λ x. get_or d x 0) q)) way T.none-lower w));
               comes-by = λ p w. walk-next T apart (S.comes-by p w).1;

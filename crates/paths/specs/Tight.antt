@@ -1,10 +1,10 @@
 -- The search for the next arc of a walk.
-use Rattle.std.specs.Prelude.{◌≡◌, List, ℕ, ◌+◌, ◌≤◌, ◌<◌, length, get_or}
+use Rattle.std.specs.Prelude.{◌≡◌, List, ℕ, Option, MatchOption, ◌+◌, ◌<◌, length, get_or}
 use Rattle.std.proofs.Math.Option.{some}
 use Rattle.network.specs.Network.{Network}
 use Rattle.network.specs.Path.{leads}
 use Rattle.paths.specs.Distances.{via, over, Way}
-use Rattle.index.specs.Index.{ends_from, places_from, begins, arc_at, end_at}
+use Rattle.index.specs.Index.{ends_from, places_from, arc_at, end_at}
 use Rattle.paths.specs.Relax.{Crossing}
 use Rattle.paths.specs.Through.{through}
 
@@ -25,7 +25,6 @@ pub record Tight (net : Network) (out l d : List ℕ) (v r : ℕ) : Type 0 where
   pub long : over net l d (arc_at out r) (end_at out r) ≡ get_or d v 0
   pub none-lower : (j : ℕ) → j < arc_at out r → Way net l d v (get_or d v 0) j → ⊥
 
--- Such a place, or the end of those of v, where no arc from v is tight.
-pub record Sought (net : Network) (out l d : List ℕ) (v r : ℕ) : Type 0 where
-  pub found : r < begins out (v + 1) → Tight net out l d v r
-  pub none : begins out (v + 1) ≤ r → (e : ℕ) → Way net l d v (get_or d v 0) e → ⊥
+-- Such a place, or none, where no arc from v is tight.
+abbrev pub Sought : Network → List ℕ → List ℕ → List ℕ → ℕ → Option ℕ → Type 0
+Sought net out l d v r = MatchOption r ((e : ℕ) → Way net l d v (get_or d v 0) e → ⊥) (Tight net out l d v)

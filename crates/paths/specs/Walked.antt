@@ -1,5 +1,5 @@
 -- A walk written into a table of arcs: what it asks, and what it leaves. Request C-16.
-use Rattle.std.specs.Prelude.{◌≡◌, List, ℕ, ◌≤◌, ◌<◌, length, take}
+use Rattle.std.specs.Prelude.{◌≡◌, List, ℕ, Option, MatchOption, ◌≤◌, ◌<◌, length, take}
 use Rattle.network.specs.Ends.{Node}
 use Rattle.network.specs.Network.{Network}
 use Rattle.network.specs.Onward.{onward}
@@ -29,7 +29,6 @@ pub record Arrived (net : Network) (l d : List ℕ) (s t : ℕ) (path : List ℕ
   pub fewest : (p : List ℕ) → Path net s t p → onward net l s p ≡ onward net l s (take r path) → r ≤ length p
   pub few : r < net.nodes
 
--- The walk has arrived; or r is 0, and there is none: it is stuck at a node without a tight arc.
-pub record Walked (net : Network) (l d : List ℕ) (s t : ℕ) (path : List ℕ) (r : ℕ) : Type 0 where
-  pub arrived : 1 ≤ r → Arrived net l d s t path r
-  pub stuck : r ≡ 0 → (p : List ℕ) → Walk net l d t s p → ⊥
+-- The walk has arrived, or there is none: it is stuck at a node without a tight arc.
+abbrev pub Walked : Network → List ℕ → List ℕ → ℕ → ℕ → List ℕ → Option ℕ → Type 0
+Walked net l d s t path r = MatchOption r ((p : List ℕ) → Walk net l d t s p → ⊥) (Arrived net l d s t path)

@@ -3,12 +3,11 @@
 use mathlib.Core.Path.{◌≡◌, refl, sym, ap, ◌∙◌}
 use mathlib.Core.Option.{some, none-ne-some}
 use mathlib.Core.List.{List}
-use mathlib.Core.Logic.{⊎_elim}
-use Prim.Native.Nat.{ℕ, ◌≤◌, ◌<◌}
+use Prim.Native.Nat.{ℕ, ◌≤◌}
 use native.Mathlib.Omega.{arith}
 use lib.ListN.{length, take, drop, take-append-drop}
 use lib.Seq.{length-take-le, take-append-le}
-use Rattle.arith.proofs.Order.{le-or-lt}
+use Rattle.std.specs.Prelude.{Option, Some, None, IsSome}
 use Rattle.network.specs.Network.{Network, source}
 use Rattle.network.specs.Resources.{uses}
 use Rattle.packed.specs.Packed.{net_in}
@@ -18,7 +17,6 @@ use Rattle.method.specs.Iteration.{State, advance, iteration}
 use Rattle.method.specs.declared.Selected.{Selected}
 use Rattle.method.proofs.Reached.{Reached}
 use Rattle.method.proofs.Sized.{reached-sizes}
-use Rattle.paths.specs.Far.{far_length}
 use Rattle.memory.specs.Memory.{Memory}
 use Rattle.choice.specs.Calls.{Choosing}
 use Rattle.choice.specs.Chose.{Picked, Chose}
@@ -41,13 +39,10 @@ choosing {s} {q} {net} room t r e memory-of =
       room = room.path;
     }
 
--- Where something is chosen whatever the lengths, the search picks it.
-pub picks : (net : Network) → Chooses net → (l : List ℕ) (r : Selected) (path : List ℕ) → Chose net l r path → Picked net l r path
-picks net chooses l r path k =
-    ⊎_elim
-    (λ (e : far_length ≤ r.alpha). let c = chooses l in absurd (none-ne-some c.0 (sym (k.nothing e) ∙ c.1)))
-    (λ (b : r.alpha < far_length). k.something b)
-    (le-or-lt far_length r.alpha)
+-- Where something is chosen whatever the lengths, the search picks something.
+pub picks : (net : Network) → Chooses net → (l : List ℕ) (r : Option Selected) (path : List ℕ) → Chose net l r path → IsSome r
+picks net chooses l (Some r) path k = refl
+picks net chooses l None path k = let c = chooses l in absurd (none-ne-some c.0 (sym k ∙ c.1))
 
 -- What is selected, by the part of the slice that holds what the path uses.
 module _ (net : Network) (l : List ℕ) (r : Selected) (path : List ℕ) (k : Picked net l r path) (room : r.used ≤ length path) where

@@ -6,4 +6,3 @@ pub mod Noted
 pub mod Onward
 pub mod Ready
 pub mod Running
-pub mod Same

@@ -22,7 +22,7 @@ fn keep(halved: bool, n: u64, memory: &mut [u64])
     }
 }
 
-// One iteration: the choice by the lengths, and the step along its path.
+// One iteration: the choice by the lengths, which some commodity joined makes certain, and the step along its path.
 pub fn iterate(
     s: Shape,
     q: u64,
@@ -40,8 +40,7 @@ pub fn iterate(
     ensures { Onward s (net_in s net.now) q (state_in s flow.old tables.old p) (state_in s flow.new tables.new result) memory.new result }
 {
     let m = s.resources;
-    let c = choice::choose(s, net, indexes, &tables[LENGTHS..LENGTHS + m], memory, path);
-    let used = c.used;
+    let c = choice::choose(s, net, indexes, &tables[LENGTHS..LENGTHS + m], memory, path).unwrap();
     let r = step::step(
         s,
         q,
@@ -49,7 +48,7 @@ pub fn iterate(
         net,
         &indexes[RESOURCE_CAPACITIES..RESOURCE_CAPACITIES + m],
         c,
-        &path[..used],
+        &path[..c.used],
         flow,
         tables,
         p,

@@ -48,8 +48,7 @@ pub fn run(
     loop {
         p = iterate(s, q, threshold, net, indexes, flow, tables, memory, path, p);
         if p.ended {
-            break;
+            return p;
         }
     }
-    p
 }

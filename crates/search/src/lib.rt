@@ -14,13 +14,12 @@ ghost use Rattle.paths.specs.Order.{Searched};
 use crate::relax::relax_into;
 use bounds::MOST_NODES;
 use packed::Shape;
-use page::fill::fill;
 use page::list::{enlist, take_out};
 use page::scan::scan;
 use page::sort::sort;
 
 // No path without a loop is as long: at most 63 arcs and 64 nodes of lengths below 2^40.
-pub const FAR_LENGTH: u64 = 0x8000_0000_0000;
+const FAR_LENGTH: u64 = 0x8000_0000_0000;
 
 // A distance has the number of arcs beside the length: none of such a path is as far.
 const FAR: u64 = MOST_NODES * FAR_LENGTH;
@@ -33,16 +32,8 @@ fn reset(n: u64, sink: u64, dist: &mut [u64])
     requires { (n < length dist.old) × (sink ≤ n) }
     ensures { dist.new ≡ set (replicate (n + 1) far ++ drop (n + 1) dist.old) sink 0 }
 {
-    fill(n, FAR, dist);
+    dist[..=n as usize].fill(FAR);
     dist[sink as usize] = 0;
-}
-
-// How often the order was begun again, counted up to MOST_ROUNDS.
-fn counted(rounds: u64) -> u64 {
-    if rounds < MOST_ROUNDS {
-        return rounds + 1;
-    }
-    rounds
 }
 
 // The distances, with an empty list lent. Whether the order is sorted is a matter of speed alone.
@@ -63,18 +54,20 @@ fn distances_in(
     reset(n, sink, page);
     let mut size = enlist(true, n, sink, listed, 0);
     let mut from = 0;
-    let mut rounds = 0;
+    let mut rounds: u64 = 0;
     while size > 0 {
-        let mut at = scan(n, page, listed, from);
-        if at >= n as usize {
-            rounds = counted(rounds);
-            at = scan(n, page, listed, 0);
-        }
+        let at = match scan(n, page, listed, from) {
+            Some(at) => at,
+            None => {
+                rounds = rounds.saturating_add(1);
+                scan(n, page, listed, 0).unwrap()
+            }
+        };
         from = at + 1;
         let v = take_out(n, page, at, listed, size);
         size = relax_into(s, net, into, lengths, sink, v, page, listed, size - 1);
     }
-    if rounds == MOST_ROUNDS {
+    if rounds >= MOST_ROUNDS {
         sort(n, page);
     }
 }

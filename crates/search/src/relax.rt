@@ -19,20 +19,13 @@ fn relax(way: u64, u: usize, dist: &mut [u64]) -> bool
     ensures { Taken way u dist.old result dist.new }
 {
     let old = dist[u];
-    let mut nearest = old;
-    if way < old {
-        nearest = way;
-    }
-    dist[u] = nearest;
+    dist[u] = way.min(old);
     way < old
 }
 
 // More arcs than there may be nodes: many stand side by side, so that few are nearer, and stores to the one entry would wait for each other.
 fn crowded(begin: usize, end: usize) -> bool {
-    if end <= begin {
-        return false;
-    }
-    end - begin > MOST_NODES as usize
+    end.saturating_sub(begin) > MOST_NODES as usize
 }
 
 // There a look before saves the store: it says so only where the way is no nearer.
@@ -40,10 +33,7 @@ fn passed_by(crowd: bool, way: u64, u: usize, dist: &[u64]) -> bool
     requires { u < length dist.now }
     ensures { result ≡ true → get_or dist.now u 0 ≤ way }
 {
-    if crowd {
-        return way >= dist[u];
-    }
-    false
+    crowd && way >= dist[u]
 }
 
 // The arc at place p, one of those into v, is relaxed, and the node that it comes from goes onto the list if that brings it nearer. How many are on the list now.
@@ -93,14 +83,13 @@ pub fn relax_into(
     let x = through(into, lengths, v as usize);
     let onward = MOST_NODES * x + 1 + dist[v as usize];
     let mut count = size;
-    let mut p = into[v as usize] as usize;
+    let begin = into[v as usize] as usize;
     let end = into[v as usize + 1] as usize;
-    let crowd = crowded(p, end);
-    while p < end {
+    let crowd = crowded(begin, end);
+    for p in begin..end {
         count = reach(
             s, net, into, lengths, sink, v, onward, p, dist, listed, count, crowd,
         );
-        p += 1;
     }
     count
 }

@@ -1,22 +1,25 @@
--- The cleared tables are the definition's start, and the two outcomes. Assumes nothing.
+-- The cleared tables are the definition's start, what the first choice tells, and the two outcomes. Assumes nothing.
 use mathlib.Core.Path.{◌≡◌, refl, sym, ap, ◌∙◌}
 use mathlib.Core.Option.{none, some}
 use mathlib.Core.List.{List}
 use Prim.Native.Nat.{ℕ, ◌*◌}
 use native.Mathlib.Omega.{arith}
 use lib.IntN.{ℤ, pos}
-use lib.ListN.{length, get_or, replicate}
+use lib.ListN.{length, get_or, take, replicate}
+use Rattle.std.specs.Prelude.{Option, Some, None, true, false, is_some}
 use Rattle.network.specs.Network.{Network, arcs, commodities}
 use Rattle.network.specs.Resources.{resources, resource_capacities}
 use Rattle.network.specs.Sound.{Sound}
 use Rattle.network.proofs.Resources.{resource-capacities-length}
 use Rattle.network.proofs.Sounds.{resources-within, resource-capacity-within}
 use Rattle.method.specs.Answer.{outcome, outcome_of, unjoined}
-use Rattle.method.specs.Choice.{Choice, choice}
+use Rattle.method.specs.Choice.{Choice, choice_of, choice}
 use Rattle.method.specs.Iteration.{initial, weight}
 use Rattle.method.specs.Run.{run}
 use Rattle.method.proofs.Ends.{final-sizes}
 use Rattle.method.proofs.Guaranteed.{guarantee}
+use Rattle.method.specs.declared.Selected.{Selected}
+use Rattle.choice.specs.Chose.{Chose}
 use Rattle.tables.specs.Calls.{Ranking}
 use Rattle.tables.specs.Tables.{weight_of}
 use Rattle.lengths.specs.Results.{first_lengths}
@@ -37,6 +40,15 @@ initial-is net ec started unloaded nothing empty em ey ek ef = rw (started, unlo
 pub weight_is : (net : Network) {caps : List ℕ} → caps ≡ resource_capacities net → (L : List ℕ) {d : ℕ} → d ≡ weight_of caps L → d ≡ weight net L
 unfolding weight
 weight_is net ec L h = rw (ec, resource-capacities-length net) at h
+
+-- The first choice is none, or there is one.
+pub chose-none : (net : Network) (l path : List ℕ) (r : Option Selected) → Chose net l r path → is_some r ≡ false → choice net l ≡ none
+chose-none net l path None k e = k
+chose-none net l path (Some r) k e = cc
+
+pub chose-some : (net : Network) (l path : List ℕ) (r : Option Selected) → Chose net l r path → is_some r ≡ true → (c : Choice) × (choice net l ≡ some c)
+chose-some net l path None k e = cc
+chose-some net l path (Some r) k e = (choice_of r.commodity (take r.arcs path), k.chosen)
 
 pub outcome-some : (net : Network) (q : ℕ) (c : Choice) → choice net (initial net).lengths ≡ some c → outcome net q ≡ outcome_of net (run net q)
 unfolding outcome

@@ -9,7 +9,6 @@ use choice::RESOURCE_CAPACITIES;
 use method::Answer;
 use packed::{LENGTHS, LOADS, Shape};
 use run::runs;
-use search::FAR_LENGTH;
 use step::Progress;
 use tables::loads;
 
@@ -65,7 +64,7 @@ pub fn outcome(
 {
     let m = s.resources;
     let first = choice::choose(s, net, indexes, &tables[LENGTHS..LENGTHS + m], memory, path);
-    if first.alpha >= FAR_LENGTH {
+    if first.is_none() {
         return unjoined();
     }
     let p = runs::run(s, q, net, indexes, flow, tables, memory, path, weight);

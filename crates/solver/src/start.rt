@@ -11,7 +11,6 @@ use index::INDEX_NUMBERS;
 use memory::pages;
 use method::Answer;
 use packed::{KEPT, LENGTHS, LOADS, Shape};
-use tables::loads;
 
 // Both indexes, and the capacities of the resources.
 fn index_all(s: Shape, net: &[u64], indexes: &mut [u64])
@@ -43,9 +42,9 @@ fn prepare(
 {
     let m = s.resources;
     let weight = lengths::start(capacities, &mut tables[LENGTHS..LENGTHS + m]);
-    loads::clear(&mut tables[LOADS..LOADS + m]);
-    loads::clear(&mut tables[KEPT..KEPT + m]);
-    loads::clear_flow(flow);
+    tables[LOADS..LOADS + m].fill(0);
+    tables[KEPT..KEPT + m].fill(0);
+    flow.fill(0);
     pages::begin(s.nodes, memory);
     pages::forget(s.nodes, memory);
     weight

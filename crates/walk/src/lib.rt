@@ -25,25 +25,23 @@ fn over_at(out: &[u64], lengths: &[u64], dist: &[u64], p: usize) -> u64
     over(lengths, dist, x, out[ARCS + p] as usize, w)
 }
 
-// The place of the lowest-numbered tight arc from v, or the end of those of v where there is none.
-fn tight(s: Shape, net: &[u64], out: &[u64], lengths: &[u64], dist: &[u64], v: u64) -> usize
+// The place of the lowest-numbered tight arc from v.
+fn tight(s: Shape, net: &[u64], out: &[u64], lengths: &[u64], dist: &[u64], v: u64) -> Option<usize>
     requires { Leaving (net_in s net.now) out.now lengths.now dist.now v }
     ensures { Sought (net_in s net.now) out.now lengths.now dist.now v result }
 {
     let d = dist[v as usize];
-    let mut p = out[v as usize] as usize;
     let end = out[v as usize + 1] as usize;
-    while p < end {
+    for p in out[v as usize] as usize..end {
         if over_at(out, lengths, dist, p) == d {
-            return p;
+            return Some(p);
         }
-        p += 1;
     }
-    p
+    None
 }
 
-// The walk from the source to the sink is written into path. How many arcs it has, and no path that
-// is as short has fewer; 0 where it is stuck.
+// The walk from the source to the sink is written into path. How many arcs it has, and no path that is as short has
+// fewer; None where it is stuck.
 pub fn walk(
     s: Shape,
     net: &[u64],
@@ -53,22 +51,19 @@ pub fn walk(
     source: u64,
     sink: u64,
     path: &mut [u64],
-) -> usize
+) -> Option<usize>
     requires { Walkable (net_in s net.now) out.now lengths.now dist.now source sink (length path.old) }
     ensures { Walked (net_in s net.now) lengths.now dist.now source sink path.new result }
 {
     let mut v = source;
-    let mut k = 0;
+    let mut arcs = 0;
     while v != sink {
-        let p = tight(s, net, out, lengths, dist, v);
-        if p >= out[v as usize + 1] as usize {
-            return 0;
-        }
-        path[k] = out[ARCS + p];
-        k += 1;
+        let p = tight(s, net, out, lengths, dist, v)?;
+        path[arcs] = out[ARCS + p];
+        arcs += 1;
         v = out[ENDS + p];
     }
-    k
+    Some(arcs)
 }
 
 // The resource of node v comes behind the first numbers of path, if v is limited. How many numbers there are now.
@@ -114,12 +109,11 @@ pub fn visit(
     }
     let mut used = enter(s, net, out, source, arcs, path);
     let mut at = source;
-    let mut i = 0;
-    while i < arcs {
+    // Kept: enter writes path meanwhile, so its arcs cannot be lent to the loop.
+    for i in 0..arcs {
         let to = beyond(s, net, at, path[i] as usize);
         used = enter(s, net, out, to, used, path);
         at = to;
-        i += 1;
     }
     used
 }

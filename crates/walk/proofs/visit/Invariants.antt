@@ -1,14 +1,9 @@
 -- `walk::visit` meets its contract: the limited nodes up to the present one are written.
 -- Assumes nothing.
-use mathlib.Core.Path.{◌≡◌}
-use Prim.Native.Nat.{◌-◌}
-use lib.ListN.{length, take}
+use lib.ListN.{take}
 use Rattle.packed.specs.Packed.{net_in}
 use Rattle.paths.proofs.Collecting.{Collecting}
 use Rattle.walk.proofs.visit.Given as goal
 
 abbrev pub invariant-loop-i : goal.invariant-loop-i
-invariant-loop-i l = Collecting (net_in l.s l.net) l.source l.arcs (take l.arcs l.initial.path) l.path l.used l.at l.i × (length l.path ≡ length l.initial.path)
-
-abbrev pub decreases-loop-i : goal.decreases-loop-i
-decreases-loop-i l = l.arcs - l.i
+invariant-loop-i l = Collecting (net_in l.s l.net) l.source l.arcs (take l.arcs l.initial.path) l.path l.used l.at l.i

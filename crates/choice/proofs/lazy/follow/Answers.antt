@@ -4,7 +4,7 @@ use mathlib.Core.List.{List}
 use Prim.Native.Nat.{ℕ, ◌+◌, ◌≤◌, ◌<◌}
 use native.Mathlib.Omega.{arith}
 use lib.ListN.{length, get_or}
-use Rattle.bounds.specs.Bounds.{most_nodes, most_commodities}
+use Rattle.bounds.specs.Bounds.{most_nodes}
 use Rattle.network.specs.Network.{Network, source, sink}
 use Rattle.network.specs.Onward.{node_length}
 use Rattle.packed.specs.Packed.{part, net_in, sources_from, sinks_from}
@@ -31,9 +31,6 @@ dist s = distances_in (sink (net s) s.args.i) s.args.memory.now
 -- the commodity has ends, which are nodes,
 among : (s : Start) → s.args.i < s.args.s.commodities
 among s = omega (arith, s.requires.known.least.among, commodities-is s.requires.packed)
-
-few : (s : Start) → s.args.i < most_commodities
-few s = omega (arith, among s, s.requires.packed.few-commodities)
 
 from : (s : Start) → get_or s.args.net.now (sources_from + s.args.i) 0 ≡ source (net s) s.args.i
 unfolding net_in
@@ -87,7 +84,7 @@ told-requires c =
 
 pub returns-then-told-memory : goal.returns-then-told-memory
 returns-then-told-memory c =
-    followed-none (λ q. c.if-told-memory.true (tells (goal.at.returns-then-told-memory c).After-told ∙ (sym q ∙ sym (bound (goal.at.returns-then-told-memory c).Start))))
+    followed-none _ _ (λ q. c.if-told-memory.true (tells (goal.at.returns-then-told-memory c).After-told ∙ (sym q ∙ sym (bound (goal.at.returns-then-told-memory c).Start))))
 
 pub walk-requires : goal.walk-requires
 walk-requires c =
@@ -105,25 +102,7 @@ walk-requires c =
 
 pub returns : goal.returns
 returns c =
-    followed-walk (page (goal.at.returns c).Start).feasible (sym (bound (goal.at.returns c).Start) ∙ (sym c.if-told-memory.false ∙ tells (goal.at.returns c).After-told)) (rw (← from (goal.at.returns c).Start, ← to (goal.at.returns c).Start) c.walk.ensures)
-
-pub overflow_add-source : goal.overflow_add-source
-overflow_add-source c = omega (arith, few (goal.at.overflow_add-source c).Start)
-
-pub offset_bounds-net-i : goal.offset_bounds-net-i
-offset_bounds-net-i c = omega (arith, few (goal.at.offset_bounds-net-i c).Start)
-
-pub bounds-net-i : goal.bounds-net-i
-bounds-net-i c = omega (arith, few (goal.at.bounds-net-i c).Start, c.requires.packed.places)
-
-pub overflow_add-sink : goal.overflow_add-sink
-overflow_add-sink c = omega (arith, few (goal.at.overflow_add-sink c).Start)
-
-pub offset_bounds-net-i-2 : goal.offset_bounds-net-i-2
-offset_bounds-net-i-2 c = omega (arith, few (goal.at.offset_bounds-net-i-2 c).Start)
-
-pub bounds-net-i-2 : goal.bounds-net-i-2
-bounds-net-i-2 c = omega (arith, few (goal.at.bounds-net-i-2 c).Start, c.requires.packed.places)
+    followed-walk _ _ _ c.walk.result (page (goal.at.returns c).Start).feasible (sym (bound (goal.at.returns c).Start) ∙ (sym c.if-told-memory.false ∙ tells (goal.at.returns c).After-told)) (rw (← from (goal.at.returns c).Start, ← to (goal.at.returns c).Start) c.walk.ensures)
 
 pub overflow_mul-at : goal.overflow_mul-at
 overflow_mul-at c = omega (arith, sink-read (goal.at.overflow_mul-at c).Start)
@@ -139,9 +118,3 @@ offset_bounds-memory-at c = omega (arith, sink-read (goal.at.offset_bounds-memor
 
 pub slice_bounds-dist-end : goal.slice_bounds-dist-end
 slice_bounds-dist-end c = omega (arith, sink-read (goal.at.slice_bounds-dist-end c).Start, c.requires.known.places)
-
-pub offset_bounds-memory-i : goal.offset_bounds-memory-i
-offset_bounds-memory-i c = omega (arith, few (goal.at.offset_bounds-memory-i c).Start)
-
-pub bounds-memory-i : goal.bounds-memory-i
-bounds-memory-i c = omega (arith, few (goal.at.bounds-memory-i c).Start, c.requires.known.places)

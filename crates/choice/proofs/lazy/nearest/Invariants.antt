@@ -1,6 +1,4 @@
 -- `choice::lazy::nearest` meets its contract: the bounds stay below the paths, and rise until the walk of the least is as long. Assumes nothing.
-use mathlib.Core.Path.{◌≡◌}
-use lib.ListN.{length}
 use Rattle.network.specs.Network.{commodities}
 use Rattle.packed.specs.Packed.{net_in}
 use Rattle.memory.specs.Memory.{bounds_in, Known}
@@ -8,7 +6,7 @@ use Rattle.choice.proofs.Slack.{slack}
 use Rattle.choice.proofs.lazy.nearest.Given as goal
 
 abbrev pub invariant-loop-s : goal.invariant-loop-s
-invariant-loop-s l = Known l.s (net_in l.s l.net) l.lengths l.memory l.i × ((length l.memory ≡ length l.initial.memory) × (length l.path ≡ length l.initial.path))
+invariant-loop-s l = Known l.s (net_in l.s l.net) l.lengths l.memory l.i
 
 abbrev pub decreases-loop-s : goal.decreases-loop-s
 decreases-loop-s l = slack (commodities (net_in l.s l.net)) (bounds_in l.s l.memory)

@@ -1,39 +1,25 @@
 -- `memory::pages::begin` meets its contract: the pages passed have their order. Assumes nothing.
-use mathlib.Core.Path.{◌≡◌, ◌∙◌}
+use mathlib.Core.Path.{◌∙◌}
 use Prim.Native.Nat.{◌+◌, ◌≤◌}
 use native.Mathlib.Omega.{arith}
 use lib.ListN.{length}
+use Rattle.packed.specs.Packed.{put}
 use Rattle.packed.proofs.Columns.{part_length}
-use Rattle.paths.specs.Order.{page_numbers}
-use Rattle.memory.specs.Memory.{page_from, page_in}
-use Rattle.memory.proofs.Forgets.{paged-none, paged-more}
+use Rattle.paths.specs.Order.{page_numbers, LinedUp}
+use Rattle.memory.specs.Memory.{page_from}
+use Rattle.memory.proofs.Forgets.{Paged, paged-more}
 use Rattle.memory.proofs.pages.begin.Goals as goal
-use Rattle.memory.proofs.pages.begin.Goals.{In-loop-t}
+use Rattle.memory.proofs.pages.begin.Goals.{After-line_up}
 
-pub loop-t-init : goal.loop-t-init
-loop-t-init c = paged-none _ _
-
--- there is room for the page of t
-room : (c : In-loop-t) → page_from c.loop-t.t + page_numbers ≤ length c.loop-t.memory
-room c = omega (arith, c.requires, c.loop-t-test.true, c.loop-t.invariant.size)
-
-size : (c : In-loop-t) → length (page_in c.loop-t.t c.loop-t.memory) ≡ page_numbers
-size c = part_length (page_from c.loop-t.t) page_numbers c.loop-t.memory (room c)
-
-pub slice_bounds-line_up-end : goal.slice_bounds-line_up-end
-slice_bounds-line_up-end c = room c
-
-pub line_up-requires : goal.line_up-requires
-line_up-requires c = omega (arith, size (goal.at.line_up-requires c).In-loop-t, c.requires)
+-- one page more has its order
+more : (c : After-line_up) →
+    Paged (λ was page. LinedUp c.args.n page) c.args.memory.now (put (page_from c.loop-t.t) page_numbers c.loop-t.memory c.line_up.new.page) (c.loop-t.t + 1)
+more c =
+    let room : page_from c.loop-t.t + page_numbers ≤ length c.loop-t.memory = omega (arith, c.requires, c.loop-t-test.true) in
+    paged-more c.loop-t.invariant room c.line_up.new.page (c.line_up.auto.page ∙ part_length (page_from c.loop-t.t) page_numbers c.loop-t.memory room) c.line_up.ensures
 
 pub loop-t-preserved : goal.loop-t-preserved
-loop-t-preserved c =
-    paged-more c.loop-t.invariant (room (goal.at.loop-t-preserved c).In-loop-t) c.line_up.new.page (c.line_up.auto.page ∙ size (goal.at.loop-t-preserved c).In-loop-t) c.line_up.ensures
+loop-t-preserved c = more (goal.at.loop-t-preserved c).After-line_up
 
-pub shape_of-memory : goal.shape_of-memory
-shape_of-memory c = c.loop-t.invariant.size
-
-pub returns : goal.returns
-returns c =
-    let P = c.loop-t.invariant in
-    record { orders = λ t b. P.done t (omega (arith, c.loop-t-test.false)) }
+pub returns-2 : goal.returns-2
+returns-2 c = record { orders = λ t b. (more (goal.at.returns-2 c).After-line_up).done t (omega arith) }

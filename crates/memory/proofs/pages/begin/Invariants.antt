@@ -1,5 +1,4 @@
 -- `memory::pages::begin` meets its contract: the pages passed have their order. Assumes nothing.
-use Prim.Native.Nat.{◌+◌, ◌-◌}
 use Rattle.paths.specs.Order.{LinedUp}
 use Rattle.memory.proofs.Forgets.{Paged}
 use Rattle.memory.proofs.pages.begin.Given as goal
@@ -7,6 +6,3 @@ use Rattle.memory.proofs.pages.begin.Given as goal
 -- the first t pages have their order
 abbrev pub invariant-loop-t : goal.invariant-loop-t
 invariant-loop-t l = Paged (λ was page. LinedUp l.n page) l.initial.memory l.memory l.t
-
-abbrev pub decreases-loop-t : goal.decreases-loop-t
-decreases-loop-t l = l.n + 1 - l.t

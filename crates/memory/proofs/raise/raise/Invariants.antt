@@ -2,7 +2,7 @@
 use mathlib.Core.Path.{◌≡◌}
 use mathlib.Core.Logic.{◌⊎◌}
 use mathlib.Core.List.{List}
-use Prim.Native.Nat.{ℕ, ◌-◌, ◌≤◌}
+use Prim.Native.Nat.{ℕ}
 use Rattle.packed.specs.declared.Shape.{Shape}
 use Rattle.memory.specs.Least.{Least}
 use Rattle.memory.specs.Memory.{bounds_in}
@@ -17,10 +17,6 @@ Leading bounds i b = ((i ≡ 0) × (b ≡ 0)) ⊎ Least bounds i b
 pub record Passed (s : Shape) (net ix l : List ℕ) (t : ℕ) (old new : List ℕ) (i b : ℕ) : Type 0 where
   pub raised : RaisedIn s net ix l t old new i
   pub leading : Leading (bounds_in s new) i b
-  pub within : i ≤ s.commodities
 
 abbrev pub invariant-loop-i : goal.invariant-loop-i
 invariant-loop-i l = Passed l.s l.net l.ix l.lengths l.t l.initial.memory l.memory l.i l.b
-
-abbrev pub decreases-loop-i : goal.decreases-loop-i
-decreases-loop-i l = l.k - l.i

@@ -1,10 +1,10 @@
 -- `memory::raise::raise_at` meets its contract: the bound that is stored is the greater one. Assumes nothing.
-use mathlib.Core.Path.{◌≡◌, refl, sym, ◌∙◌}
-use mathlib.Core.Logic.{inl, inr}
-use Prim.Native.Nat.{ℕ, ◌+◌, ◌≤◌, ◌<◌}
+use mathlib.Core.Path.{◌≡◌, refl, sym}
+use mathlib.Core.Logic.{inl, inr, ⊎_elim}
+use Prim.Native.Nat.{ℕ, max, ◌+◌, ◌≤◌, ◌<◌}
 use native.Mathlib.Omega.{arith}
 use lib.ListN.{get_or}
-use Rattle.bounds.specs.Bounds.{most_commodities}
+use Rattle.arith.proofs.Order.{le-or-lt}
 use Rattle.network.specs.Network.{source, sink}
 use Rattle.packed.specs.Packed.{net_in, sources_from, sinks_from}
 use Rattle.packed.proofs.Columns.{part_at, part_length}
@@ -13,10 +13,7 @@ use Rattle.paths.specs.Through.{through}
 use Rattle.memory.specs.Memory.{page_from, distances_in}
 use Rattle.memory.specs.Raised.{told_by, Greater}
 use Rattle.memory.proofs.raise.raise_at.Goals as goal
-use Rattle.memory.proofs.raise.raise_at.Goals.{After-told-x, Start, then-bound-x, else-bound-x}
-
-few : (s : Start) → s.args.i < most_commodities
-few s = omega (arith, s.requires.among, s.requires.raising.packed.few-commodities)
+use Rattle.memory.proofs.raise.raise_at.Goals.{After-told-x, Start}
 
 -- the two ends, as they are read
 from : (s : Start) → get_or s.args.net.now (sources_from + s.args.i) 0 ≡ source (net_in s.args.s s.args.net.now) s.args.i
@@ -26,6 +23,17 @@ from s = sym (part_at sources_from s.args.s.commodities s.args.net.now s.args.i 
 to : (s : Start) → get_or s.args.net.now (sinks_from + s.args.i) 0 ≡ sink (net_in s.args.s s.args.net.now) s.args.i
 unfolding net_in
 to s = sym (part_at sinks_from s.args.s.commodities s.args.net.now s.args.i s.requires.among)
+
+-- what is told, of the commodity's own ends
+tells : (c : After-told-x) → let n = net_in c.args.s c.args.net.now in
+    c.told-x.result ≡
+    told_by (through c.args.ix.now c.args.lengths.now) (distances_in c.args.t c.args.memory.now) (source n c.args.i) (sink n c.args.i)
+tells c = rw (← from (goal.at.After-told-x c).Start, ← to (goal.at.After-told-x c).Start) c.told-x.ensures
+
+-- what is stored is the greater one
+greatest : {a b x r : ℕ} → r ≡ max a x → x ≡ b → Greater a b r
+greatest {a} {b} e q =
+    record { first = omega arith; second = omega arith; one = ⊎_elim (λ (h : a ≤ b). inr (omega arith)) (λ (h : b < a). inl (omega arith)) (le-or-lt a b) }
 
 pub told-x-requires : goal.told-x-requires
 told-x-requires c =
@@ -39,27 +47,7 @@ told-x-requires c =
       small = rw (from (goal.at.told-x-requires c).Start) (p.small i c.requires.among);
     }
 
--- what is told, of the commodity's own ends
-tells : (c : After-told-x) → let n = net_in c.args.s c.args.net.now in
-    c.told-x.result ≡
-    told_by (through c.args.ix.now c.args.lengths.now) (distances_in c.args.t c.args.memory.now) (source n c.args.i) (sink n c.args.i)
-tells c = rw (← from (goal.at.After-told-x c).Start, ← to (goal.at.After-told-x c).Start) c.told-x.ensures
-
--- the greater is taken
-risen : {a b r x : ℕ} → x ≡ b → a < x → r ≡ x → Greater a b r
-risen q b e = record { first = omega arith; second = omega arith; one = inr (e ∙ q) }
-
-left : {a b r x : ℕ} → x ≡ b → x ≤ a → r ≡ a → Greater a b r
-left q b e = record { first = omega arith; second = omega arith; one = inl e }
-
 pub returns : goal.returns
 returns c =
     let place : 0 + c.args.i ≡ c.args.i = omega arith in
-    rw place (record {
-      greater =
-          elim c.if-bound-x.branch [
-            | then-bound-x w ↦ risen (tells (goal.at.returns c).After-told-x) (rw place at w.if-bound-x.true) w.bound-is
-            | else-bound-x w ↦ left (tells (goal.at.returns c).After-told-x) (rw place at w.if-bound-x.false) (rw place at w.bound-is)
-          ];
-      stored = refl;
-    })
+    rw place (record { greater = greatest (rw place at c.max-bound.ensures) (tells (goal.at.returns c).After-told-x); stored = refl })

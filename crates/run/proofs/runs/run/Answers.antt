@@ -1,6 +1,6 @@
 -- `run::runs::run` meets its contract: the loop is the definition's, and what is left of m * T falls with each iteration.
 -- Assumes nothing.
-use mathlib.Core.Path.{refl, ap, ◌∙◌}
+use mathlib.Core.Path.{ap, ◌∙◌}
 use native.Mathlib.Omega.{arith}
 use Rattle.length.specs.Level.{threshold}
 use Rattle.network.specs.Network.{Network}
@@ -12,7 +12,6 @@ use Rattle.step.specs.Progress.{state_in}
 use Rattle.run.specs.Noted.{Iterated}
 use Rattle.run.proofs.Begun.{begin-noted, begin-running}
 use Rattle.run.proofs.Onward.{onward-less, onward-last, onward-running, onward-noted}
-use Rattle.run.proofs.Same.{Same}
 use Rattle.run.proofs.runs.run.Goals as goal
 use Rattle.run.proofs.runs.run.Goals.{After-iterate-p, Start}
 
@@ -37,7 +36,7 @@ loop-p-init c =
       begin-running c.begin-p.ensures a.sound c.requires.starting.start c.requires.starting.chooses,
       (
         begin-noted c.begin-p.ensures c.requires.starting.weight (c.threshold-threshold.ensures ∙ ap (λ m. threshold m c.args.q) a.counted),
-        (c.requires.starting.memory-of, record { flows = refl; tabled = refl; memorised = refl; paths = refl }),
+        c.requires.starting.memory-of,
       ),
     )
 
@@ -45,15 +44,14 @@ pub iterate-p-requires : goal.iterate-p-requires
 iterate-p-requires c =
     let p = c.requires in
     let i = c.loop-p.invariant in
-    let same = i.1.1.1 in
     record {
       room = record {
         lent = p.room.lent;
         indexed = p.room.indexed;
-        tables = omega (arith, same.tabled, p.room.tables);
-        path = omega (arith, same.paths, p.room.path);
+        tables = omega (arith, c.loop-p.auto.tables, p.room.tables);
+        path = omega (arith, c.loop-p.auto.path, p.room.path);
       };
-      iterating = record { memory-of = i.1.1.0; chooses = p.starting.chooses; underway = i.0.underway; noted = i.1.0 };
+      iterating = record { memory-of = i.1.1; chooses = p.starting.chooses; underway = i.0.underway; noted = i.1.0 };
     }
 
 abbrev old : After-iterate-p → State
@@ -67,20 +65,6 @@ new c =
 iterated : (c : After-iterate-p) → Iterated (net (goal.at.After-iterate-p c).Start) c.args.q (old c) (new c) c.iterate-p.result
 iterated c = c.iterate-p.ensures.iterated
 
-sizes : (c : After-iterate-p) →
-    let z = c.args in
-    let l = c.iterate-p.new in
-    Same z.flow.now z.tables.now z.memory.now z.path.now l.flow l.tables l.memory l.path
-sizes c =
-    let k = c.iterate-p.auto in
-    let i = c.loop-p.invariant.1.1.1 in
-    record {
-      flows = k.flow ∙ i.flows;
-      tabled = k.tables ∙ i.tabled;
-      memorised = k.memory ∙ i.memorised;
-      paths = k.path ∙ i.paths;
-    }
-
 pub loop-p-smaller : goal.loop-p-smaller
 loop-p-smaller c =
     onward-less (net (goal.at.loop-p-smaller c).Start) c.args.q c.requires.room.lent.sound c.requires.starting.chooses c.loop-p.invariant.0 (iterated (goal.at.loop-p-smaller c).After-iterate-p)
@@ -89,21 +73,9 @@ pub loop-p-preserved : goal.loop-p-preserved
 loop-p-preserved c =
     let i = c.loop-p.invariant in (
       onward-running (net (goal.at.loop-p-preserved c).Start) c.args.q c.requires.room.lent.sound c.requires.starting.chooses i.0 (iterated (goal.at.loop-p-preserved c).After-iterate-p) c.if-p.false,
-      (onward-noted i.1.0 (iterated (goal.at.loop-p-preserved c).After-iterate-p), (c.iterate-p.ensures.memory-of, sizes (goal.at.loop-p-preserved c).After-iterate-p)),
+      (onward-noted i.1.0 (iterated (goal.at.loop-p-preserved c).After-iterate-p), c.iterate-p.ensures.memory-of),
     )
 
-pub returns : goal.returns
-returns c =
-    onward-last (net (goal.at.returns c).Start) c.args.q c.requires.room.lent.sound c.requires.starting.chooses c.loop-p.invariant.0 (iterated (goal.at.returns c).After-iterate-p) c.if-p.true
-
-pub shape_of-flow : goal.shape_of-flow
-shape_of-flow c = (sizes (goal.at.shape_of-flow c).After-iterate-p).flows
-
-pub shape_of-tables : goal.shape_of-tables
-shape_of-tables c = (sizes (goal.at.shape_of-tables c).After-iterate-p).tabled
-
-pub shape_of-memory : goal.shape_of-memory
-shape_of-memory c = (sizes (goal.at.shape_of-memory c).After-iterate-p).memorised
-
-pub shape_of-path : goal.shape_of-path
-shape_of-path c = (sizes (goal.at.shape_of-path c).After-iterate-p).paths
+pub returns-then-p : goal.returns-then-p
+returns-then-p c =
+    onward-last (net (goal.at.returns-then-p c).Start) c.args.q c.requires.room.lent.sound c.requires.starting.chooses c.loop-p.invariant.0 (iterated (goal.at.returns-then-p c).After-iterate-p) c.if-p.true

@@ -5,14 +5,13 @@ use Rattle.memory.specs.Memory.{Memory}
 use Rattle.step.specs.Progress.{state_in}
 use Rattle.run.specs.Noted.{Noted}
 use Rattle.run.proofs.Running.{left, Running}
-use Rattle.run.proofs.Same.{Same}
 use Rattle.run.proofs.runs.run.Given as goal
 
 abbrev pub invariant-loop-p : goal.invariant-loop-p
 invariant-loop-p l =
     Running (net_in l.s l.net) l.q (state_in l.s l.flow l.tables l.p) ×
     (Noted (net_in l.s l.net) l.q l.threshold (state_in l.s l.flow l.tables l.p).lengths l.p ×
-    (Memory l.s (net_in l.s l.net) (state_in l.s l.flow l.tables l.p).lengths l.memory × Same l.initial.flow l.initial.tables l.initial.memory l.initial.path l.flow l.tables l.memory l.path))
+    Memory l.s (net_in l.s l.net) (state_in l.s l.flow l.tables l.p).lengths l.memory)
 
 abbrev pub decreases-loop-p : goal.decreases-loop-p
 decreases-loop-p l = left (net_in l.s l.net) l.q (state_in l.s l.flow l.tables l.p)

@@ -2,25 +2,17 @@
 -- Assumes nothing.
 use mathlib.Core.Path.{◌≡◌}
 use mathlib.Core.List.{List}
-use Prim.Native.Nat.{ℕ, ◌-◌, ◌≤◌}
-use lib.ListN.{length, get_or}
+use Prim.Native.Nat.{ℕ}
+use lib.ListN.{get_or}
 use Rattle.network.specs.Network.{Network}
 use Rattle.packed.specs.Packed.{net_in}
-use Rattle.index.specs.Index.{begins}
 use Rattle.paths.specs.Searching.{Passed, Spread}
 use Rattle.search.proofs.relax.relax_into.Given as goal
 
--- the arcs at the places before p are relaxed, in tables as large as at first
-pub record Relaxing (net : Network) (into l : List ℕ) (t v : ℕ) (dist₀ listed₀ : List ℕ) (size : ℕ)
-    (dist listed : List ℕ) (r p : ℕ) : Type 0 where
+-- the arcs at the places before p are relaxed
+pub record Relaxing (net : Network) (into l : List ℕ) (t v : ℕ) (dist₀ : List ℕ) (size : ℕ) (dist listed : List ℕ) (r p : ℕ) : Type 0 where
   pub spread : Spread net l t (Passed into v p) dist₀ size dist listed r
   pub head : get_or dist v 0 ≡ get_or dist₀ v 0
-  pub from : begins into v ≤ p
-  pub dists : length dist ≡ length dist₀
-  pub flags : length listed ≡ length listed₀
 
 abbrev pub invariant-loop-p : goal.invariant-loop-p
-invariant-loop-p l = Relaxing (net_in l.s l.net) l.into l.lengths l.sink l.v l.initial.dist l.initial.listed l.size l.dist l.listed l.count l.p
-
-abbrev pub decreases-loop-p : goal.decreases-loop-p
-decreases-loop-p l = l.end - l.p
+invariant-loop-p l = Relaxing (net_in l.s l.net) l.into l.lengths l.sink l.v l.initial.dist l.size l.dist l.listed l.count l.p

@@ -14,7 +14,7 @@ use Rattle.step.specs.Progress.{state_of, begun}
 use Rattle.step.proofs.Tabled.{Tabled, tabled, part-size, with-lengths, with-loads, with-kept, in-slice}
 use Rattle.solver.proofs.Solving.{initial-is, weight_is}
 use Rattle.solver.proofs.start.prepare.Goals as goal
-use Rattle.solver.proofs.start.prepare.Goals.{After-clear, After-clear-2, After-start-weight, Start}
+use Rattle.solver.proofs.start.prepare.Goals.{After-fill, After-fill-2, After-start-weight, Start}
 
 abbrev m : Start → ℕ
 m s = s.args.s.resources
@@ -44,14 +44,14 @@ started : (c : After-start-weight) → let T = c.args.tables.now in
 started c =
     with-lengths (tabled (m (goal.at.After-start-weight c).Start) c.args.tables.now (few (goal.at.After-start-weight c).Start) c.requires.tabled) c.start-weight.new.lengths c.start-weight.auto.lengths
 
-unloaded : (c : After-clear) → let T = c.args.tables.now in
-    Tabled (m (goal.at.After-clear c).Start) (put loads_from (m (goal.at.After-clear c).Start) (put lengths_from (m (goal.at.After-clear c).Start) T c.start-weight.new.lengths) c.clear.new.table) c.start-weight.new.lengths c.clear.new.table (part kept_from (m (goal.at.After-clear c).Start) T)
-unloaded c = with-loads (started (goal.at.After-clear c).After-start-weight) c.clear.new.table c.clear.auto.table
+unloaded : (c : After-fill) → let T = c.args.tables.now in
+    Tabled (m (goal.at.After-fill c).Start) (put loads_from (m (goal.at.After-fill c).Start) (put lengths_from (m (goal.at.After-fill c).Start) T c.start-weight.new.lengths) c.fill.new.self) c.start-weight.new.lengths c.fill.new.self (part kept_from (m (goal.at.After-fill c).Start) T)
+unloaded c = with-loads (started (goal.at.After-fill c).After-start-weight) c.fill.new.self c.fill.auto.self
 
-cleared : (c : After-clear-2) → let T = c.args.tables.now in
-    Tabled (m (goal.at.After-clear-2 c).Start) (put kept_from (m (goal.at.After-clear-2 c).Start) (put loads_from (m (goal.at.After-clear-2 c).Start) (put lengths_from (m (goal.at.After-clear-2 c).Start) T c.start-weight.new.lengths) c.clear.new.table) c.clear-2.new.table) c.start-weight.new.lengths
-    c.clear.new.table c.clear-2.new.table
-cleared c = with-kept (unloaded (goal.at.After-clear-2 c).After-clear) c.clear-2.new.table c.clear-2.auto.table
+cleared : (c : After-fill-2) → let T = c.args.tables.now in
+    Tabled (m (goal.at.After-fill-2 c).Start) (put kept_from (m (goal.at.After-fill-2 c).Start) (put loads_from (m (goal.at.After-fill-2 c).Start) (put lengths_from (m (goal.at.After-fill-2 c).Start) T c.start-weight.new.lengths) c.fill.new.self) c.fill-2.new.self) c.start-weight.new.lengths
+    c.fill.new.self c.fill-2.new.self
+cleared c = with-kept (unloaded (goal.at.After-fill-2 c).After-fill) c.fill-2.new.self c.fill-2.auto.self
 
 pub returns : goal.returns
 unfolding net_in
@@ -59,23 +59,13 @@ returns c =
     let z = c.args in let p = c.requires in let net = net_in z.s z.net.now in
     record {
       state =
-          in-slice (cleared (goal.at.returns c).After-clear-2) (λ L Y K. state_of L c.clear_flow.new.flow Y K begun ≡ initial net)
-          (initial-is net p.caps-are c.start-weight.ensures.lengths c.clear.ensures c.clear-2.ensures c.clear_flow.ensures
-          p.lent.counted (part-size (started (goal.at.returns c).After-start-weight) loads_from (omega arith)) (part-size (unloaded (goal.at.returns c).After-clear) kept_from (omega arith)) p.flows);
+          in-slice (cleared (goal.at.returns c).After-fill-2) (λ L Y K. state_of L c.fill-3.new.self Y K begun ≡ initial net)
+          (initial-is net p.caps-are c.start-weight.ensures.lengths (c.fill.ensures.after (λ y e. e)) (c.fill-2.ensures.after (λ y e. e)) (c.fill-3.ensures.after (λ y e. e))
+          p.lent.counted (part-size (started (goal.at.returns c).After-start-weight) loads_from (omega arith)) (part-size (unloaded (goal.at.returns c).After-fill) kept_from (omega arith)) p.flows);
       memory-of =
           forgotten-memory (sound-ends net z.q p.lent.sound) p.lent.sound.counts.of-nodes.most p.lent.packed.few-commodities
           (sym (commodities-is p.lent.packed)) p.lent.sound.counts.of-commodities.least
           (omega (arith, c.forget.auto.memory, c.begin.auto.memory, p.memorised)) (begun-ordered c.begin.ensures) c.forget.ensures _;
       weight =
-          in-slice (cleared (goal.at.returns c).After-clear-2) (λ L Y K. c.start-weight.result ≡ weight net L) (weight_is net p.caps-are c.start-weight.new.lengths c.start-weight.ensures.weight);
+          in-slice (cleared (goal.at.returns c).After-fill-2) (λ L Y K. c.start-weight.result ≡ weight net L) (weight_is net p.caps-are c.start-weight.new.lengths c.start-weight.ensures.weight);
     }
-
-pub begin-requires : goal.begin-requires
-begin-requires c =
-    let p = c.requires in
-    (p.lent.packed.few-nodes, p.memorised)
-
-pub forget-requires : goal.forget-requires
-forget-requires c =
-    let p = c.requires in
-    (p.lent.packed.few-nodes, omega (arith, c.begin.auto.memory, p.memorised))
