@@ -8,14 +8,12 @@ use lib.Dec.{ltb}
 use borrow.Author.Tests.{ltb-false}
 use Rattle.bounds.specs.Bounds.{most_running, offices, answer_numbers}
 use Rattle.network.specs.Network.{Network, arcs, commodities}
-use Rattle.network.specs.Refusal.{refusal_code, host_number}
+use Rattle.network.specs.Refusal.{refusal_code, host_number, Verdict, Accepted, Refused}
 use Rattle.network.specs.Resources.{resources}
 use Rattle.network.specs.Sound.{Within, Counts}
 use Rattle.network.specs.Verdict.{Condition, verdict, outside, size_conditions, item_conditions, verdict_on}
 use Rattle.network.specs.declared.Refusal.{Refusal}
 use Rattle.network.specs.declared.Refusal.TheVariants.{Office}
-use Rattle.network.specs.declared.Verdict.{Verdict}
-use Rattle.network.specs.declared.Verdict.TheVariants.{Accepted, Refused}
 use Rattle.network.proofs.Bounds.{within}
 use Rattle.network.proofs.Decided.{Quiet, accepted-quiet, quiet-accepted, refusal-has}
 use Rattle.network.proofs.Each.{Each, none, more, each_append, each_left, each_right}

@@ -4,13 +4,11 @@ use mathlib.Core.Path.{◌≡◌, refl, sym, ap, ◌∙◌}
 use mathlib.Core.List.{List}
 use Prim.Native.Nat.{ℕ, ◌*◌, ◌-◌, ◌^◌, ◌<◌}
 use Rattle.network.specs.Network.{Network, arcs, commodities}
-use Rattle.network.specs.Refusal.{host_number}
+use Rattle.network.specs.Refusal.{host_number, Verdict, Accepted, Refused}
 use Rattle.network.specs.Resources.{resources}
 use Rattle.network.specs.Sound.{Counts}
 use Rattle.network.specs.Verdict.{verdict, item_conditions, afterwards}
 use Rattle.network.specs.declared.Refusal.{Refusal}
-use Rattle.network.specs.declared.Verdict.{Verdict}
-use Rattle.network.specs.declared.Verdict.TheVariants.{Accepted, Refused}
 use Rattle.network.proofs.Accepted.{items-accepted}
 use Rattle.network.proofs.Decided.{no-refusal}
 use Rattle.network.proofs.HostNumber.{items-fit}

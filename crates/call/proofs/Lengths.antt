@@ -8,8 +8,7 @@ use lib.ListN.{length, length-map}
 use Rattle.signed.specs.Signed.{twos}
 use Rattle.network.specs.Network.{Network}
 use Rattle.network.specs.Verdict.{afterwards}
-use Rattle.network.specs.declared.Verdict.{Verdict}
-use Rattle.network.specs.declared.Verdict.TheVariants.{Accepted, Refused}
+use Rattle.network.specs.Refusal.{Verdict, Accepted, Refused}
 use Rattle.numbers.proofs.Tables.{length-written}
 use Rattle.method.specs.Answer.{numbers_of, outcome}
 use Rattle.method.specs.Guarantee.{Guarantee}

@@ -12,8 +12,7 @@ use Rattle.network.specs.Network.{Network, arcs, commodities}
 use Rattle.network.specs.Resources.{resources}
 use Rattle.network.specs.Sound.{Sound}
 use Rattle.network.specs.Verdict.{verdict, afterwards}
-use Rattle.network.specs.declared.Verdict.{Verdict}
-use Rattle.network.specs.declared.Verdict.TheVariants.{Accepted}
+use Rattle.network.specs.Refusal.{Verdict, Accepted}
 use Rattle.network.proofs.Accepted.{accepted-sound}
 use Rattle.network.proofs.HostNumber.{zero-accepted, other-kept}
 use Rattle.numbers.specs.Numbers.{count, number_at, written}

@@ -3,12 +3,10 @@ use Rattle.std.specs.Prelude.{◌≡◌, Bool, ◌||◌, List, [], ◌∷◌, ma
 use Rattle.bounds.specs.Bounds.{most_running, offices, answer_numbers}
 use Rattle.signed.specs.Signed.{twos}
 use Rattle.network.specs.Network.{Network, arcs, commodities}
-use Rattle.network.specs.Refusal.{host_number}
+use Rattle.network.specs.Refusal.{host_number, Verdict, Accepted}
 use Rattle.network.specs.Resources.{resources}
 use Rattle.network.specs.Verdict.{Condition, when, outside, verdict_on, afterwards}
 use Rattle.network.specs.declared.Refusal.TheVariants.{ShortTable, FullCount, Office}
-use Rattle.network.specs.declared.Verdict.{Verdict}
-use Rattle.network.specs.declared.Verdict.TheVariants.{Accepted}
 use Rattle.numbers.specs.Numbers.{count, number_at, written, put_at}
 use Rattle.decode.specs.Decode.{network_in}
 use Rattle.method.specs.Answer.{outcome, numbers_of}

@@ -14,7 +14,7 @@ use packed::{CAPACITIES, HEADS, LIMITS, SINKS, SOURCES, Shape, TAILS};
 fn at(s: &[u64], i: usize) -> u64
     ensures { result ≡ get_or s.now i 0 }
 {
-    if i < s.len() { s[i] } else { 0 }
+    s.get(i).copied().unwrap_or(0)
 }
 
 // One end of the two is no node, or they are equal.
@@ -24,61 +24,46 @@ fn loose(n: u64, a: u64, b: u64) -> bool
     outside(1, n, a) || outside(1, n, b) || a == b
 }
 
-// 6 and 7: the arcs in turn, 6 before 7. The search ends at the first faulty arc and yields its refusal, with its number from 1 as the place.
+// 6 and 7: the arcs in turn, 6 before 7. The first faulty arc yields its refusal, with its number from 1 as the place.
 pub fn check_arcs(n: u64, tails: &[u64], heads: &[u64], capacities: &[u64]) -> Verdict
     ensures { result ≡ verdict (flat (arc_conditions (of_arcs n tails.now heads.now capacities.now)) (up_to (length tails.now))) }
 {
-    let mut e = 0;
-    let found = loop {
-        if e >= tails.len() {
-            break Verdict::Accepted;
-        }
+    for e in 0..tails.len() {
         let place = e as u64 + 1;
         if loose(n, at(tails, e), at(heads, e)) {
-            break Verdict::Refused(Refusal::LooseArc(place));
+            return Err(Refusal::LooseArc(place));
         }
         if outside(1, MOST_CAPACITY, at(capacities, e)) {
-            break Verdict::Refused(Refusal::Capacity(place));
+            return Err(Refusal::Capacity(place));
         }
-        e += 1;
-    };
-    found
+    }
+    Ok(())
 }
 
 // 14: the limits in turn, each at its node's number.
 pub fn check_limits(limits: &[u64]) -> Verdict
     ensures { result ≡ verdict (flat (limit_conditions (of_limits limits.now)) (up_to (length limits.now))) }
 {
-    let mut v = 0;
-    let found = loop {
-        if v >= limits.len() {
-            break Verdict::Accepted;
-        }
+    for (v, limit) in limits.iter().enumerate() {
         let place = v as u64 + 1;
-        if MOST_CAPACITY < at(limits, v) {
-            break Verdict::Refused(Refusal::Limit(place));
+        if MOST_CAPACITY < *limit {
+            return Err(Refusal::Limit(place));
         }
-        v += 1;
-    };
-    found
+    }
+    Ok(())
 }
 
 // 8: the commodities in turn.
 pub fn check_commodities(n: u64, sources: &[u64], sinks: &[u64]) -> Verdict
     ensures { result ≡ verdict (flat (commodity_conditions (of_commodities n sources.now sinks.now)) (up_to (length sources.now))) }
 {
-    let mut i = 0;
-    let found = loop {
-        if i >= sources.len() {
-            break Verdict::Accepted;
-        }
+    for i in 0..sources.len() {
         let place = i as u64 + 1;
         if loose(n, at(sources, i), at(sinks, i)) {
-            break Verdict::Refused(Refusal::LooseCommodity(place));
+            return Err(Refusal::LooseCommodity(place));
         }
-        i += 1;
-    };
-    found
+    }
+    Ok(())
 }
 
 // 6, 7, 14 and 8 of a network whose sizes have passed.
@@ -89,18 +74,12 @@ pub fn check_items(s: Shape, net: &[u64]) -> Verdict
     let m = s.arcs;
     let k = s.commodities;
     let given = s.limits;
-    let arcs = check_arcs(
+    check_arcs(
         s.nodes,
         &net[TAILS..TAILS + m],
         &net[HEADS..HEADS + m],
         &net[CAPACITIES..CAPACITIES + m],
-    );
-    if let Verdict::Refused(_) = arcs {
-        return arcs;
-    }
-    let limits = check_limits(&net[LIMITS..LIMITS + given]);
-    if let Verdict::Refused(_) = limits {
-        return limits;
-    }
+    )?;
+    check_limits(&net[LIMITS..LIMITS + given])?;
     check_commodities(s.nodes, &net[SOURCES..SOURCES + k], &net[SINKS..SINKS + k])
 }

@@ -19,19 +19,19 @@ pub fn check_sizes(n: u64, m: usize, r: usize, k: usize, q: u64) -> Verdict
     ensures { result ≡ verdict (size_conditions n m r k q) }
 {
     if outside(LEAST_NODES, MOST_NODES, n) {
-        return Verdict::Refused(Refusal::Nodes);
+        return Err(Refusal::Nodes);
     }
     if outside(1, MOST_ARCS as u64, m as u64) {
-        return Verdict::Refused(Refusal::Arcs);
+        return Err(Refusal::Arcs);
     }
     if MOST_ARCS < r {
-        return Verdict::Refused(Refusal::Resources);
+        return Err(Refusal::Resources);
     }
     if outside(1, MOST_COMMODITIES as u64, k as u64) {
-        return Verdict::Refused(Refusal::Commodities);
+        return Err(Refusal::Commodities);
     }
     if outside(LEAST_PRECISION, MOST_PRECISION, q) {
-        return Verdict::Refused(Refusal::Precision);
+        return Err(Refusal::Precision);
     }
-    Verdict::Accepted
+    Ok(())
 }

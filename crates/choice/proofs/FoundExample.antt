@@ -15,7 +15,7 @@ use Rattle.network.specs.Path.{path_length}
 use Rattle.network.specs.Resources.{limits_below, place, resources, used_at, uses}
 use Rattle.network.specs.Onward.{node_length}
 use Rattle.network.specs.Verdict.{verdict, outside, loose, size_conditions, arc_conditions, limit_conditions, commodity_conditions, item_conditions, verdict_on}
-use Rattle.network.specs.declared.Verdict.TheVariants.{Accepted}
+use Rattle.network.specs.Refusal.{Accepted}
 use Rattle.network.proofs.Accepted.{accepted-sound}
 use Rattle.network.proofs.Sounds.{sound-ends}
 use Rattle.method.specs.Choice.{choice_of, choice}

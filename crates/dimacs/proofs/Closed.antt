@@ -7,7 +7,7 @@ use native.Mathlib.Omega.{arith}
 use lib.ListN.{take, take-append-drop}
 use borrow.Author.Tests.{eq-eqb, ne_eqb}
 use Rattle.network.specs.declared.Refusal.TheVariants.{Layout}
-use Rattle.network.specs.declared.Verdict.TheVariants.{Accepted}
+use Rattle.network.specs.Refusal.{Accepted}
 use Rattle.lines.specs.declared.Maybe.TheVariants.{Missing, Given}
 use Rattle.dimacs.specs.File.{refused, network_read, complete, closing}
 use Rattle.dimacs.specs.Result.{padded, result_of}

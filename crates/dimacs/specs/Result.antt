@@ -2,10 +2,8 @@
 use Rattle.std.specs.Prelude.{◌≡◌, List, ◌++◌, ℕ, ◌-◌, length, replicate}
 use Rattle.bounds.specs.Bounds.{most_arcs}
 use Rattle.network.specs.Network.{source, sink}
-use Rattle.network.specs.Refusal.{at, refusal_code}
+use Rattle.network.specs.Refusal.{at, refusal_code, Verdict, Accepted, Refused}
 use Rattle.network.specs.declared.Code.{Code}
-use Rattle.network.specs.declared.Verdict.{Verdict}
-use Rattle.network.specs.declared.Verdict.TheVariants.{Accepted, Refused}
 use Rattle.dimacs.specs.File.{File, holds, refused, parsed}
 use Rattle.dimacs.specs.declared.Parsed.{Parsed}
 

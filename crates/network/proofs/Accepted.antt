@@ -11,7 +11,7 @@ use Rattle.network.specs.Network.{Network, arcs, commodities, tail, head, capaci
 use Rattle.network.specs.Resources.{resources}
 use Rattle.network.specs.Sound.{Within, TwoNodes, Counts, Sound}
 use Rattle.network.specs.Verdict.{Condition, size_conditions, arc_conditions, limit_conditions, commodity_conditions, item_conditions, verdict, verdict_on}
-use Rattle.network.specs.declared.Verdict.TheVariants.{Accepted}
+use Rattle.network.specs.Refusal.{Accepted}
 use Rattle.network.proofs.Bounds.{within, not-outside, ends, not-loose}
 use Rattle.network.proofs.Decided.{Quiet, accepted-quiet, quiet-accepted}
 use Rattle.network.proofs.Each.{none, more, each_append, each_left, each_right, each-flat, each_item}

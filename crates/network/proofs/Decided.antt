@@ -7,8 +7,7 @@ use Prim.Native.Nat.{ℕ}
 use native.Mathlib.Omega.{arith}
 use Rattle.network.specs.Verdict.{Condition, when, verdict}
 use Rattle.network.specs.declared.Refusal.{Refusal}
-use Rattle.network.specs.declared.Verdict.{Verdict}
-use Rattle.network.specs.declared.Verdict.TheVariants.{Accepted, Refused}
+use Rattle.network.specs.Refusal.{Verdict, Accepted, Refused}
 use Rattle.network.proofs.Each.{Each, none, more}
 use Rattle.network.proofs.First.{first-accepts}
 

@@ -9,7 +9,7 @@ use Rattle.network.specs.Resources.{limits_below, place, resources}
 use Rattle.network.specs.Sound.{Sound}
 use Rattle.network.specs.Verdict.{verdict, outside, loose, size_conditions, arc_conditions, limit_conditions, commodity_conditions, item_conditions, verdict_on}
 use Rattle.network.specs.declared.Refusal.TheVariants.{LooseArc, Capacity, Commodities, Limit, Resources}
-use Rattle.network.specs.declared.Verdict.TheVariants.{Accepted, Refused}
+use Rattle.network.specs.Refusal.{Accepted, Refused}
 use Rattle.network.proofs.Accepted.{accepted-sound}
 
 -- one commodity from node 1 to this sink, two arcs to node 2 with these tails and capacities, and these limits

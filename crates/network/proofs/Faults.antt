@@ -13,8 +13,7 @@ use Rattle.network.specs.Sound.{Counts}
 use Rattle.network.specs.Verdict.{Condition, verdict, outside, loose, size_conditions, arc_conditions, limit_conditions, commodity_conditions, item_conditions, verdict_on}
 use Rattle.network.specs.declared.Refusal.{Refusal}
 use Rattle.network.specs.declared.Refusal.TheVariants.{Nodes, Arcs, Commodities, Precision, LooseArc, Capacity, LooseCommodity, Limit, Resources}
-use Rattle.network.specs.declared.Verdict.{Verdict}
-use Rattle.network.specs.declared.Verdict.TheVariants.{Accepted, Refused}
+use Rattle.network.specs.Refusal.{Verdict, Accepted, Refused}
 use Rattle.network.proofs.Decided.{accepted-quiet, refusal-has}
 use Rattle.network.proofs.Each.{none, more, each_append, each-flat}
 use Rattle.network.proofs.First.{first-refuses, first-accepts}

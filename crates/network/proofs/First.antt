@@ -1,12 +1,13 @@
 -- How the first condition that holds is found: it decides, one that does not hold is passed, and of two lists the first decides unless it accepts.
 -- Assumes nothing.
-use mathlib.Core.Path.{◌≡◌, refl, sym, ◌∙◌}
+use mathlib.Core.Path.{◌≡◌, refl, sym, ap, ◌∙◌}
 use mathlib.Core.Bool.{Bool, true, false, cond}
 use mathlib.Core.List.{List, [], ◌∷◌, ◌++◌}
+use Rattle.std.specs.Result.{IsErrAnd}
+use Rattle.std.proofs.lemmas.Result.{err_from_is_err_and}
 use Rattle.network.specs.Verdict.{Condition, when, verdict}
 use Rattle.network.specs.declared.Refusal.{Refusal}
-use Rattle.network.specs.declared.Verdict.{Verdict}
-use Rattle.network.specs.declared.Verdict.TheVariants.{Accepted, Refused}
+use Rattle.network.specs.Refusal.{Verdict, Accepted, Refused}
 
 -- The value t of a test stands for the condition b. Where it is true the condition decides; where it is false the later ones do; where none are left the
 -- call is accepted.
@@ -48,3 +49,10 @@ refused-first xs ys {v} {r} e h = h ∙ sym (first-refuses xs ys r (sym e ∙ h)
 
 pub accepted-first : (xs ys : List Condition) {v u : Verdict} → v ≡ verdict xs → v ≡ Accepted → u ≡ verdict ys → u ≡ verdict (xs ++ ys)
 accepted-first xs ys e h w = w ∙ sym (first-accepts xs ys (sym e ∙ h))
+
+-- A `?` hands the refusal r of v on as u.
+handed : {u v : Verdict} {r : Refusal} → v ≡ Refused r → IsErrAnd u (λ e. e ≡ r) → u ≡ v
+handed {u} e h = let p = err_from_is_err_and u h in p.1 ∙ ap Refused p.2 ∙ sym e
+
+pub refused-handed : (xs ys : List Condition) {u v : Verdict} {r : Refusal} → v ≡ verdict xs → v ≡ Refused r → IsErrAnd u (λ e. e ≡ r) → u ≡ verdict (xs ++ ys)
+refused-handed xs ys e w h = handed w h ∙ refused-first xs ys e w

@@ -5,14 +5,12 @@ use mathlib.Core.Path.{◌≡◌, refl}
 use Prim.Native.Nat.{ℕ, ◌≤◌, ◌<◌, ◌^◌}
 use native.Mathlib.Omega.{arith}
 use Rattle.network.specs.Network.{Network, arcs, commodities}
-use Rattle.network.specs.Refusal.{refusal_code, host_number}
+use Rattle.network.specs.Refusal.{refusal_code, host_number, Verdict, Accepted, Refused}
 use Rattle.network.specs.Resources.{resources}
 use Rattle.network.specs.Sound.{Within, Counts}
 use Rattle.network.specs.Verdict.{verdict, size_conditions, item_conditions, afterwards}
 use Rattle.network.specs.declared.Refusal.{Refusal}
 use Rattle.network.specs.declared.Refusal.TheVariants.{Nodes, Arcs, Commodities, Precision, ShortTable, LooseArc, Capacity, LooseCommodity, Layout, LongFile, FullCount, Networks, Limit, Resources, Office}
-use Rattle.network.specs.declared.Verdict.{Verdict}
-use Rattle.network.specs.declared.Verdict.TheVariants.{Accepted, Refused}
 use Rattle.network.proofs.Faults.{SizeFault, ItemFault, of-nodes, of-arcs, of-resources, of-commodities, of-precision, of-ends, of-capacity, of-limit, of-commodity, size-refused, item_refused}
 
 -- numbers from 1 to 16, each its own case

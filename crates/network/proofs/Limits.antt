@@ -13,7 +13,7 @@ use Rattle.arith.specs.Lists.{up_from, up_to, flat}
 use Rattle.bounds.specs.Bounds.{most_capacity}
 use Rattle.network.specs.Network.{Network, limit}
 use Rattle.network.specs.Verdict.{Condition, verdict, limit_conditions}
-use Rattle.network.specs.declared.Verdict.TheVariants.{Accepted, Refused}
+use Rattle.network.specs.Refusal.{Accepted, Refused}
 use Rattle.network.proofs.First.{first-accepts, passes, none_left}
 
 -- Conditions after the same ones decide alike if they do so alone.

@@ -8,8 +8,7 @@ use native.Mathlib.Omega.{arith}
 use Rattle.arith.specs.Lists.{up_from, up_to, flat}
 use Rattle.network.specs.Verdict.{Condition, verdict}
 use Rattle.network.specs.declared.Refusal.{Refusal}
-use Rattle.network.specs.declared.Verdict.{Verdict}
-use Rattle.network.specs.declared.Verdict.TheVariants.{Accepted, Refused}
+use Rattle.network.specs.Refusal.{Verdict, Accepted, Refused}
 use Rattle.network.proofs.First.{first-refuses, first-accepts, none_left}
 
 -- what the rows of items e, e + 1, .., m - 1 decide

@@ -1,11 +1,19 @@
 -- The numbers of the refusals, and their places. Document 01, "Turned down". No other definition has them.
-use Rattle.std.specs.Prelude.{ℕ, ◌+◌, ◌*◌}
+use Rattle.std.specs.Prelude.{ℕ, ◌+◌, ◌*◌, Result, Ok, Err}
 use Rattle.bounds.specs.Bounds.{place_numbers}
 use Rattle.network.specs.declared.Code.{Code}
 use Rattle.network.specs.declared.Refusal.{Refusal}
 use Rattle.network.specs.declared.Refusal.TheVariants.{Nodes, Arcs, Commodities, Precision, ShortTable, LooseArc, Capacity, LooseCommodity, Layout, LongFile, FullCount, Networks, Limit, Resources, Office}
-use Rattle.network.specs.declared.Verdict.{Verdict}
-use Rattle.network.specs.declared.Verdict.TheVariants.{Accepted, Refused}
+
+-- What the checks of a call come to: nothing is at fault, or why it is turned down.
+abbrev pub Verdict : Type 0
+Verdict = Result Unit Refusal
+
+pattern abbrev pub Accepted : Verdict
+Accepted = Ok tt
+
+pattern abbrev pub Refused : Refusal → Verdict
+Refused r = Err r
 
 -- the number x at the place p
 abbrev pub at : ℕ → ℕ → Code

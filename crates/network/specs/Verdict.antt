@@ -6,8 +6,7 @@ use Rattle.network.specs.Network.{Network, arcs, commodities, tail, head, capaci
 use Rattle.network.specs.Resources.{resources}
 use Rattle.network.specs.declared.Refusal.{Refusal}
 use Rattle.network.specs.declared.Refusal.TheVariants.{Nodes, Arcs, Commodities, Precision, LooseArc, Capacity, LooseCommodity, Limit, Resources}
-use Rattle.network.specs.declared.Verdict.{Verdict}
-use Rattle.network.specs.declared.Verdict.TheVariants.{Accepted, Refused}
+use Rattle.network.specs.Refusal.{Verdict, Accepted, Refused}
 
 -- A condition of the table, and the refusal with its place
 pub record Condition : Type 0 where

@@ -9,8 +9,7 @@ use Rattle.network.specs.Resources.{resources}
 use Rattle.network.specs.Sound.{Counts}
 use Rattle.network.specs.Verdict.{verdict, item_conditions, afterwards}
 use Rattle.network.specs.declared.Refusal.{Refusal}
-use Rattle.network.specs.declared.Verdict.{Verdict}
-use Rattle.network.specs.declared.Verdict.TheVariants.{Accepted, Refused}
+use Rattle.network.specs.Refusal.{Verdict, Accepted, Refused}
 use Rattle.network.proofs.Accepted.{items-accepted}
 use Rattle.network.proofs.Decided.{no-refusal}
 use Rattle.method.specs.Answer.{outcome}

@@ -10,7 +10,7 @@ use Rattle.network.specs.Network.{Network}
 use Rattle.network.specs.Resources.{resources}
 use Rattle.network.specs.Verdict.{Condition, verdict, size_conditions, item_conditions, verdict_on}
 use Rattle.network.specs.declared.Refusal.{Refusal}
-use Rattle.network.specs.declared.Verdict.TheVariants.{Accepted, Refused}
+use Rattle.network.specs.Refusal.{Accepted, Refused}
 use Rattle.network.proofs.Decided.{Quiet, accepted-quiet}
 use Rattle.network.proofs.Each.{none, more, each_left, each_right}
 use Rattle.network.proofs.First.{first-refuses, first-accepts}

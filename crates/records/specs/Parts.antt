@@ -5,7 +5,7 @@ use Rattle.network.specs.Given.{given}
 use Rattle.network.specs.Network.{Network}
 use Rattle.network.specs.Sound.{Counts}
 use Rattle.network.specs.Verdict.{verdict, item_conditions}
-use Rattle.network.specs.declared.Verdict.TheVariants.{Accepted}
+use Rattle.network.specs.Refusal.{Accepted}
 use Rattle.packed.specs.Packed.{part, tails_from, heads_from, capacities_from, marks_from, limits_from, Packed, Lent}
 use Rattle.packed.specs.declared.Shape.{Shape}
 use Rattle.records.specs.Records.{sources_in, sinks_in}

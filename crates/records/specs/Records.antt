@@ -1,12 +1,10 @@
 -- The call with a slice of records: the network that it lends, and what it returns and leaves in both tables. Document 01, "The floor and its flow".
 use Rattle.std.specs.Prelude.{◌≡◌, List, [], ◌∷◌, map, ◌||◌, ℕ, ◌*◌, ltb, ℤ, length, take}
 use Rattle.network.specs.Network.{Network, arcs, commodities}
-use Rattle.network.specs.Refusal.{host_number}
+use Rattle.network.specs.Refusal.{host_number, Verdict, Accepted}
 use Rattle.network.specs.Resources.{resources}
 use Rattle.network.specs.Verdict.{Condition, when, verdict_on, afterwards}
 use Rattle.network.specs.declared.Refusal.TheVariants.{ShortTable}
-use Rattle.network.specs.declared.Verdict.{Verdict}
-use Rattle.network.specs.declared.Verdict.TheVariants.{Accepted}
 use Rattle.method.specs.Answer.{outcome, numbers_of}
 use Rattle.method.specs.Overlaid.{overlaid}
 use Rattle.method.specs.Guarantee.{Guarantee}

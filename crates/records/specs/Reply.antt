@@ -1,8 +1,6 @@
 -- What a call returns: document 01's numbers for each case of the reply.
 use Rattle.std.specs.Prelude.{List, [], ℕ}
-use Rattle.network.specs.Refusal.{host_number}
-use Rattle.network.specs.declared.Verdict.{Verdict}
-use Rattle.network.specs.declared.Verdict.TheVariants.{Accepted, Refused}
+use Rattle.network.specs.Refusal.{host_number, Verdict, Accepted, Refused}
 use Rattle.method.specs.Answer.{numbers_of}
 use Rattle.method.specs.declared.Answer.{Answer}
 use Rattle.records.specs.declared.Reply.{Reply}

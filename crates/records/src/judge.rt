@@ -1,7 +1,7 @@
 // A call whose sizes have passed and whose records have been copied: arcs, limits and commodities checked, and the network solved into the lent tables.
 ghost use Rattle.std.specs.Prelude.{◌≡◌, take};
 ghost use Rattle.network.specs.Verdict.{verdict, item_conditions};
-ghost use Rattle.network.specs.declared.Verdict.TheVariants.{Accepted};
+ghost use Rattle.network.specs.Refusal.{Accepted};
 ghost use Rattle.packed.specs.Packed.{part, net_in, limits_from};
 ghost use Rattle.records.specs.Parts.{network_copied, half_of, Halving, Pairing, Limiting, Limited, Completing, Checking, Delivering, Passed};
 ghost use Rattle.records.specs.Records.{Replied};

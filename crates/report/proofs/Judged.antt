@@ -8,7 +8,7 @@ use Rattle.network.specs.Network.{Network, arcs, commodities}
 use Rattle.network.specs.Resources.{resources}
 use Rattle.network.specs.Sound.{Counts, Sound}
 use Rattle.network.specs.Verdict.{verdict, size_conditions, item_conditions, verdict_on}
-use Rattle.network.specs.declared.Verdict.TheVariants.{Accepted}
+use Rattle.network.specs.Refusal.{Accepted}
 use Rattle.network.proofs.Accepted.{items-accepted}
 use Rattle.network.proofs.Decided.{quiet-accepted}
 use Rattle.network.proofs.First.{first-accepts}

@@ -8,7 +8,7 @@ use lib.IntN.{ℤ, pos}
 use lib.ListN.{length, get_or}
 use Rattle.signed.specs.Signed.{size}
 use Rattle.network.specs.Network.{Network, arcs, commodities}
-use Rattle.network.specs.declared.Verdict.TheVariants.{Accepted}
+use Rattle.network.specs.Refusal.{Accepted}
 use Rattle.method.specs.Answer.{outcome}
 use Rattle.method.specs.declared.Answer.{Answer}
 use Rattle.packed.specs.Packed.{net_in}

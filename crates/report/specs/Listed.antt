@@ -1,7 +1,7 @@
 -- The contract of the listing.
 use Rattle.std.specs.Prelude.{◌≡◌, List, ℕ, ◌≤◌, length}
 use Rattle.network.specs.Network.{Network}
-use Rattle.network.specs.declared.Verdict.TheVariants.{Accepted}
+use Rattle.network.specs.Refusal.{Accepted}
 use Rattle.method.specs.Answer.{outcome}
 use Rattle.method.specs.Overlaid.{overlaid}
 use Rattle.method.specs.Guarantee.{Guarantee}

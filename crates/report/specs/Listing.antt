@@ -4,8 +4,7 @@ use Rattle.arith.specs.Lists.{up_to, flat}
 use Rattle.network.specs.Flow.{sizes_on}
 use Rattle.network.specs.Network.{Network, arcs, tail, head}
 use Rattle.network.specs.Verdict.{verdict_on}
-use Rattle.network.specs.declared.Verdict.{Verdict}
-use Rattle.network.specs.declared.Verdict.TheVariants.{Accepted, Refused}
+use Rattle.network.specs.Refusal.{Verdict, Accepted, Refused}
 use Rattle.method.specs.Answer.{Outcome, amounts, outcome}
 use Rattle.dimacs.specs.File.{File, holds, refused, parsed}
 use Rattle.lines.specs.Text.{bytes}

@@ -4,8 +4,7 @@ use Rattle.arith.specs.Lists.{up_to, flat}
 use Rattle.bounds.specs.Bounds.{most_arcs}
 use Rattle.signed.specs.Signed.{size}
 use Rattle.network.specs.Network.{Network, commodities}
-use Rattle.network.specs.declared.Verdict.{Verdict}
-use Rattle.network.specs.declared.Verdict.TheVariants.{Accepted}
+use Rattle.network.specs.Refusal.{Verdict, Accepted}
 use Rattle.method.specs.Answer.{outcome}
 use Rattle.method.specs.Fits.{Signed64}
 use Rattle.method.specs.Guarantee.{Guarantee}

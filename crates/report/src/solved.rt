@@ -1,6 +1,6 @@
 // The rows of an accepted network: it is solved, and its outcome written.
 ghost use Rattle.std.specs.Prelude.{length};
-ghost use Rattle.network.specs.declared.Verdict.TheVariants.{Accepted};
+ghost use Rattle.network.specs.Refusal.{Accepted};
 ghost use Rattle.packed.specs.Packed.{net_in};
 ghost use Rattle.rows.specs.Put.{Put};
 ghost use Rattle.report.specs.Shown.{belts_of, Belted, Ready, Showing, Shown};

@@ -7,9 +7,8 @@ use native.Mathlib.Omega.{arith}
 use lib.Dec.{ltb}
 use borrow.Author.Tests.{ltb-false}
 use Rattle.bounds.specs.Sites.{most_networks, floor_numbers}
-use Rattle.network.specs.Refusal.{refusal_code, host_number}
+use Rattle.network.specs.Refusal.{refusal_code, host_number, Accepted}
 use Rattle.network.specs.Verdict.{Condition, verdict, outside}
-use Rattle.network.specs.declared.Verdict.TheVariants.{Accepted}
 use Rattle.network.proofs.Bounds.{within}
 use Rattle.network.proofs.Decided.{Quiet, accepted-quiet, refusal-has}
 use Rattle.network.proofs.Each.{Each, none, more}

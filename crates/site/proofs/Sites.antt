@@ -1,10 +1,9 @@
 -- The two ways in which a site's call ends: its list is refused, or all its floors are sent. Assumes nothing.
 use mathlib.Core.Path.{◌≡◌, refl, sym, ap, ◌∙◌}
 use Prim.Native.Nat.{ℕ}
-use Rattle.network.specs.Refusal.{host_number}
+use Rattle.network.specs.Refusal.{host_number, Accepted, Refused}
 use Rattle.network.specs.Verdict.{verdict, afterwards}
 use Rattle.network.specs.declared.Refusal.{Refusal}
-use Rattle.network.specs.declared.Verdict.TheVariants.{Accepted, Refused}
 use Rattle.network.proofs.Decided.{no-refusal}
 use Rattle.network.proofs.HostNumber.{zero-accepted}
 use Rattle.call.specs.Host.{Slices}

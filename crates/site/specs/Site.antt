@@ -3,11 +3,9 @@
 use Rattle.std.specs.Prelude.{◌≡◌, false, List, [], ◌∷◌, ◌++◌, ℕ, zero, suc, ◌+◌, ◌*◌, ◌<◌, ltb}
 use Rattle.bounds.specs.Sites.{most_networks, floor_numbers}
 use Rattle.network.specs.Network.{Network}
-use Rattle.network.specs.Refusal.{host_number}
+use Rattle.network.specs.Refusal.{host_number, Verdict, Accepted}
 use Rattle.network.specs.Verdict.{Condition, when, outside, verdict, afterwards}
 use Rattle.network.specs.declared.Refusal.TheVariants.{ShortTable, Networks}
-use Rattle.network.specs.declared.Verdict.{Verdict}
-use Rattle.network.specs.declared.Verdict.TheVariants.{Accepted}
 use Rattle.numbers.specs.Digits.{to_bytes}
 use Rattle.numbers.specs.Numbers.{count, items}
 use Rattle.packed.specs.Part.{part, put}

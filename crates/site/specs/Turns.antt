@@ -1,7 +1,7 @@
 -- What taking the floors in turn asks and leaves. No contract of a call rests on it.
 use Rattle.std.specs.Prelude.{◌≡◌, List, ℕ, ◌*◌, ◌≤◌, ◌<◌}
 use Rattle.bounds.specs.Sites.{most_networks, floor_numbers}
-use Rattle.network.specs.declared.Verdict.TheVariants.{Accepted}
+use Rattle.network.specs.Refusal.{Accepted}
 use Rattle.numbers.specs.Numbers.{count, items}
 use Rattle.method.specs.Answer.{outcome}
 use Rattle.method.specs.Guarantee.{Guarantee}

@@ -8,7 +8,7 @@ use native.Mathlib.Omega.{arith}
 use lib.Dec.{lit≤}
 use lib.ListN.{get_or}
 use Rattle.network.specs.Network.{Network, commodities}
-use Rattle.network.specs.declared.Verdict.TheVariants.{Accepted}
+use Rattle.network.specs.Refusal.{Accepted}
 use Rattle.numbers.specs.Numbers.{number_at}
 use Rattle.numbers.proofs.Tables.{number_at-written}
 use Rattle.decode.specs.Decode.{network_in}

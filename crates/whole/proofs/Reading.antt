@@ -9,8 +9,7 @@ use Rattle.bounds.specs.Bounds.{answer_numbers}
 use Rattle.signed.specs.FromTwos.{from_twos}
 use Rattle.network.specs.Flow.{outflow}
 use Rattle.network.specs.Network.{Network, arcs, commodities}
-use Rattle.network.specs.declared.Verdict.{Verdict}
-use Rattle.network.specs.declared.Verdict.TheVariants.{Accepted}
+use Rattle.network.specs.Refusal.{Verdict, Accepted}
 use Rattle.numbers.specs.Numbers.{count, items, number_at}
 use Rattle.decode.specs.Decode.{network_in}
 use Rattle.decode.proofs.Items.{arcs-in, commodities-in, source_in}

@@ -4,10 +4,9 @@ use mathlib.Core.List.{List}
 use Rattle.network.specs.Network.{Network}
 use native.Mathlib.Omega.{arith}
 use Rattle.bounds.specs.Bounds.{offices}
-use Rattle.network.specs.Refusal.{host_number}
+use Rattle.network.specs.Refusal.{host_number, Accepted}
 use Rattle.network.specs.Sound.{Within}
 use Rattle.network.specs.Verdict.{Condition, verdict}
-use Rattle.network.specs.declared.Verdict.TheVariants.{Accepted}
 use Rattle.decode.specs.Calls.{Shaped}
 use Rattle.decode.specs.Decode.{network_in}
 use Rattle.call.specs.Deliver.{slices}

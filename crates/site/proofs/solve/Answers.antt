@@ -1,8 +1,7 @@
 -- `site::solve` meets its contract, for every input. Assumes nothing.
 use mathlib.Core.Path.{◌≡◌, sym, ap, ◌∙◌}
-use Rattle.network.specs.Refusal.{host_number}
+use Rattle.network.specs.Refusal.{host_number, Accepted}
 use Rattle.network.specs.Verdict.{verdict}
-use Rattle.network.specs.declared.Verdict.TheVariants.{Accepted}
 use Rattle.call.specs.Deliver.{slices}
 use Rattle.call.specs.Host.{Slices}
 use Rattle.site.specs.Site.{Site, list_conditions}

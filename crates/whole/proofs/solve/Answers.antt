@@ -5,7 +5,7 @@ use Prim.Native.Nat.{◌*◌}
 use native.Mathlib.Omega.{arith}
 use lib.Dec.{ltb}
 use Rattle.network.specs.Network.{Network}
-use Rattle.network.specs.declared.Verdict.TheVariants.{Accepted}
+use Rattle.network.specs.Refusal.{Accepted}
 use Rattle.numbers.specs.Numbers.{written}
 use Rattle.decode.specs.Decode.{network_in}
 use Rattle.decode.proofs.Items.{commodities-in}

@@ -7,7 +7,7 @@ use lib.ListN.{drop}
 use borrow.Author.Tests.{lt-ltb, le-ltb}
 use Rattle.bounds.specs.Bounds.{most_arcs}
 use Rattle.network.specs.Verdict.{Condition, verdict, size_conditions}
-use Rattle.network.specs.declared.Verdict.{Verdict}
+use Rattle.network.specs.Refusal.{Verdict}
 use Rattle.network.proofs.First.{decides, passes, none_left}
 use Rattle.checks.proofs.sizes.check_sizes.Goals as goal
 use Rattle.checks.proofs.sizes.check_sizes.Goals.{Else-outside, Else-outside-2, Else-outside-3, Else-r-gt-MOST_ARCS, Start}

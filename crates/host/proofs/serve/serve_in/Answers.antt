@@ -2,10 +2,9 @@
 use mathlib.Core.Path.{◌≡◌, refl, sym, ap, ◌∙◌}
 use native.Mathlib.Omega.{arith}
 use Rattle.network.specs.Network.{Network}
-use Rattle.network.specs.Refusal.{host_number}
+use Rattle.network.specs.Refusal.{host_number, Accepted}
 use Rattle.network.specs.Resources.{resources}
 use Rattle.network.specs.Verdict.{verdict, item_conditions}
-use Rattle.network.specs.declared.Verdict.TheVariants.{Accepted}
 use Rattle.packed.specs.Packed.{net_in, Packed}
 use Rattle.call.specs.Deliver.{slices}
 use Rattle.call.specs.Host.{Slices}
