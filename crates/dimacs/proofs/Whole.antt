@@ -2,17 +2,19 @@
 -- Assumes nothing.
 use mathlib.Core.Path.{◌≡◌, refl, sym}
 use mathlib.Core.List.{List}
-use Prim.Native.Nat.{ℕ, ◌≤◌}
+use Prim.Native.Nat.{ℕ, ◌≤◌, ◌<◌}
 use native.Mathlib.Omega.{arith}
 use lib.ListN.{length, length-append, length-replicate}
 use Rattle.network.specs.Network.{Network}
 use Rattle.network.specs.declared.Refusal.{Refusal}
-use Rattle.std.specs.Prelude.{Result, Ok, IfOk}
+use Rattle.network.specs.declared.Refusal.TheVariants.{LongFile}
+use Rattle.std.specs.Prelude.{Result, Ok, Err, IfOk}
 use Rattle.dimacs.specs.File.{File, holds, refused, parsed}
 use Rattle.dimacs.specs.OneCommodity.{OneCommodity}
 use Rattle.dimacs.specs.Result.{padded, result_of, file_code, verdict_code, Read}
 use Rattle.dimacs.specs.declared.Parsed.{Parsed}
 use Rattle.dimacs.proofs.Holds.{network-sizes}
+use Rattle.dimacs.proofs.LineByLine.{long-file}
 
 -- The three tables have 256 places, of which the arcs fill the first ones.
 pub record Whole (r : Parsed) : Type 0 where
@@ -49,3 +51,14 @@ code_of (refused w) = refl
 -- What the reader's contract says follows from what it hands over.
 pub read_whole : (text : List ℕ) {r : Result Parsed Refusal} → r ≡ result_of (parsed text) → Read text r
 read_whole text {r} e = record { result = e; code = rw e (sym (code_of (parsed text))) }
+
+pub long-result : (text : List ℕ) → 65536 < length text → result_of (parsed text) ≡ Err LongFile
+unfolding result_of
+long-result text h = rw (← (long-file text h))
+
+pub long-code : (text : List ℕ) → 65536 < length text → file_code (parsed text) ≡ verdict_code (Err LongFile)
+unfolding file_code verdict_code
+long-code text h = rw (← (long-file text h))
+
+-- by which a file that is too long is turned down
+pub ruleset long_files = (long-result, long-code)

@@ -122,6 +122,7 @@ fn finish(
 }
 
 // What a file of these bytes comes to.
+#[tactic(auto, using(crate::proofs::Whole::long_files))]
 pub fn read(text: &[u8]) -> Result<Parsed, Refusal>
     ensures { Read text.now result }
 {

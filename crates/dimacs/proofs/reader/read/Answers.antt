@@ -7,7 +7,7 @@ use Rattle.std.proofs.lemmas.Result.{err_from_is_err_and}
 use Rattle.lines.specs.Pieces.{line_feed}
 use Rattle.dimacs.specs.Result.{result_of}
 use Rattle.dimacs.proofs.Cuts.{cut}
-use Rattle.dimacs.proofs.LineByLine.{all_read, line_read, long-file, none_read, turned_down}
+use Rattle.dimacs.proofs.LineByLine.{all_read, line_read, none_read, turned_down}
 use Rattle.dimacs.proofs.Whole.{read_whole}
 use Rattle.dimacs.proofs.reader.read.Goals as goal
 
@@ -16,10 +16,6 @@ loop-line-init c = rw (c.into_iter-line-iterator.ensures.into_iter_gives, c.spli
 
 pub returns : goal.returns
 returns c = read_whole _ (c.ok_or.ensures.value ∙ c.finish.ensures ∙ ap result_of (all_read _ (omega arith) c.in-None.ensures.steps.0 c.loop-line.invariant))
-
-pub returns-then-text-gt-MOST_BYTES : goal.returns-then-text-gt-MOST_BYTES
-unfolding result_of
-returns-then-text-gt-MOST_BYTES c = read_whole _ (ap result_of (long-file _ c.if-text-gt-MOST_BYTES.true))
 
 pub loop-line-preserved : goal.loop-line-preserved
 unfolding line_feed
