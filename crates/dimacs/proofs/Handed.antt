@@ -8,7 +8,7 @@ use lib.ListN.{length, get_or, take, replicate}
 use lib.Seq.{take_at}
 use Rattle.network.specs.Network.{Network}
 use Rattle.network.specs.declared.Refusal.{Refusal}
-use Rattle.network.specs.Refusal.{Accepted, Refused}
+use Rattle.std.specs.Prelude.{Result, Ok, Err}
 use Rattle.dimacs.specs.File.{File, holds, refused, parsed}
 use Rattle.dimacs.specs.OneCommodity.{OneCommodity}
 use Rattle.dimacs.specs.Result.{padded, result_of}
@@ -38,10 +38,14 @@ one [] h = absurd (omega arith)
 one (x ∷ []) h = refl
 one (x ∷ y ∷ xs) h = absurd (omega arith)
 
-unpadded : (net : Network) → OneCommodity net → handed_over (result_of (holds net)) ≡ net
+same_Ok : {r p : Parsed} → ◌≡◌ {A = Result Parsed Refusal} (Ok r) (Ok p) → r ≡ p
+same_Ok e = cc
+
+unpadded : (net : Network) → OneCommodity net → {r : Parsed} → Ok r ≡ result_of (holds net) → handed_over r ≡ net
 unfolding result_of
-unpadded net s =
-    rw (
+unpadded net s {r} e =
+    rw (same_Ok e)
+    (rw (
       cut net.tails refl,
       cut net.heads s.of-heads,
       cut net.capacities s.of-capacities,
@@ -49,23 +53,23 @@ unpadded net s =
       s.of-limits,
       one net.sources s.of-sources,
       one net.sinks s.of-sinks,
-    )
+    ))
 
-module _ (text : List ℕ) {r : Parsed} (e : r ≡ result_of (parsed text)) where
+module _ (text : List ℕ) where
   -- Accepted: the file holds the network handed over.
-  pub accepted-holds : r.verdict ≡ Accepted → parsed text ≡ holds (handed_over r)
+  pub accepted-holds : {r : Parsed} → Ok r ≡ result_of (parsed text) → parsed text ≡ holds (handed_over r)
   unfolding result_of
-  accepted-holds v = by (parsed text) refl
+  accepted-holds {r} e = by (parsed text) refl
     where
       by : (o : File) → parsed text ≡ o → parsed text ≡ holds (handed_over r)
-      by (holds net) h = h ∙ ap holds (sym (ap handed_over (e ∙ ap result_of h) ∙ unpadded net (network-sizes text h)))
-      by (refused w) h = let q : r.verdict ≡ Refused w = ap (λ (x : Parsed). x.verdict) (e ∙ ap result_of h) in cc
+      by (holds net) h = h ∙ ap holds (sym (unpadded net (network-sizes text h) (e ∙ ap result_of h)))
+      by (refused w) h = let q : ◌≡◌ {A = Result Parsed Refusal} (Ok r) (Err w) = e ∙ ap result_of h in cc
 
   -- Refused: the file is turned down for the same reason.
-  pub refused_why : {w : Refusal} → r.verdict ≡ Refused w → parsed text ≡ refused w
+  pub refused_why : {w : Refusal} → Err w ≡ result_of (parsed text) → parsed text ≡ refused w
   unfolding result_of
-  refused_why {w} v = by (parsed text) refl
+  refused_why {w} e = by (parsed text) refl
     where
       by : (o : File) → parsed text ≡ o → parsed text ≡ refused w
-      by (holds net) h = let q : r.verdict ≡ Accepted = ap (λ (x : Parsed). x.verdict) (e ∙ ap result_of h) in cc
-      by (refused u) h = let q : r.verdict ≡ Refused u = ap (λ (x : Parsed). x.verdict) (e ∙ ap result_of h) in cc
+      by (holds net) h = let q : Err w ≡ result_of (holds net) = e ∙ ap result_of h in cc
+      by (refused u) h = let q : ◌≡◌ {A = Result Parsed Refusal} (Err w) (Err u) = e ∙ ap result_of h in cc

@@ -3,7 +3,7 @@
 use mathlib.Core.Path.{◌≡◌, refl}
 use mathlib.Core.Bool.{Bool, true, false, cond}
 use mathlib.Core.List.{List}
-use mathlib.Core.Option.{Option, none, some}
+use Rattle.std.specs.Prelude.{Option, Some, None}
 use Prim.Native.Nat.{ℕ, ◌≤◌}
 use native.Mathlib.Omega.{arith}
 use lib.Dec.{ltb, eqb}
@@ -43,9 +43,9 @@ module _ (p : Progress) (k : Kept p) where
 
   complete-bounded : (a b : Option ℕ) → Bounded (complete p a b)
   unfolding complete
-  complete-bounded none b = omega arith
-  complete-bounded (some a) none = omega arith
-  complete-bounded (some a) (some b) = full a b (eqb (length p.tails) p.wanted) refl
+  complete-bounded None b = omega arith
+  complete-bounded (Some a) None = omega arith
+  complete-bounded (Some a) (Some b) = full a b (eqb (length p.tails) p.wanted) refl
 
 closing-bounded : (r : Reading) → Sized r → Bounded (closing r)
 unfolding closing

@@ -1,5 +1,6 @@
 pub mod Added
 pub mod Closed
+pub mod Cuts
 pub mod Entries
 pub mod Examples
 pub mod Handed

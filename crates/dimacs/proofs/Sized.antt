@@ -3,7 +3,7 @@
 use mathlib.Core.Path.{◌≡◌, refl}
 use mathlib.Core.Bool.{Bool, true, false, cond}
 use mathlib.Core.List.{List, [], ◌∷◌, ◌++◌}
-use mathlib.Core.Option.{Option, none, some}
+use Rattle.std.specs.Prelude.{Option, Some, None}
 use Prim.Native.Nat.{ℕ, suc, ◌+◌, ◌≤◌}
 use native.Mathlib.Omega.{arith}
 use lib.Dec.{ltb}
@@ -53,8 +53,8 @@ module _ (i : ℕ) (l : i ≤ 65536) where
 
   once-sized : (o : Option ℕ) {p : Progress} → Kept p → Sized (once i o p)
   unfolding once
-  once-sized none k = k
-  once-sized (some w) k = l
+  once-sized None k = k
+  once-sized (Some w) k = l
 
   arc-sized : (u v c : ℕ) (p : Progress) (t : Bool) → Kept p → Sized (cond t (past (with_arc u v c p)) (down (Layout i)))
   unfolding with_arc

@@ -1,6 +1,5 @@
 -- What a file comes to: a network of one commodity, or a refusal. Document 01, "File and listing" and "Turned down".
-use Rattle.std.specs.Prelude.{cond, List, [], ◌∷◌, ℕ, ltb, eqb, length, replicate}
-use Rattle.std.proofs.Math.Option.{Option, none, some}
+use Rattle.std.specs.Prelude.{cond, List, [], ◌∷◌, ℕ, ltb, eqb, length, replicate, Option, Some, None}
 use Rattle.bounds.specs.Files.{most_bytes}
 use Rattle.network.specs.Network.{Network}
 use Rattle.network.specs.declared.Refusal.{Refusal}
@@ -30,9 +29,9 @@ network_read p s t =
 
 -- The end of the file shows a missing s, t or a line: the place is then 0.
 unfoldable pub complete : Progress → Option ℕ → Option ℕ → File
-complete p none t = refused (Layout 0)
-complete p (some s) none = refused (Layout 0)
-complete p (some s) (some t) = cond (eqb (length p.tails) p.wanted) (holds (network_read p s t)) (refused (Layout 0))
+complete p None t = refused (Layout 0)
+complete p (Some s) None = refused (Layout 0)
+complete p (Some s) (Some t) = cond (eqb (length p.tails) p.wanted) (holds (network_read p s t)) (refused (Layout 0))
 
 -- It shows a missing p line too, as in the empty file.
 unfoldable pub closing : Reading → File

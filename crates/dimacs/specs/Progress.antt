@@ -1,6 +1,5 @@
 -- What a file has given so far, past its p line. Document 01, "File and listing".
-use Rattle.std.specs.Prelude.{List, [], ◌∷◌, ◌++◌, ℕ}
-use Rattle.std.proofs.Math.Option.{Option, none, some}
+use Rattle.std.specs.Prelude.{List, [], ◌∷◌, ◌++◌, ℕ, Option, Some, None}
 
 -- What the p line and the lines after it gave so far: n, m, the ends of the only pair, and the a lines in order.
 pub record Progress : Type 0 where
@@ -18,15 +17,15 @@ progress n m s t us vs cs = record { nodes = n; wanted = m; source = s; sink = t
 
 -- just past the line p max n m
 unfoldable pub begun : ℕ → ℕ → Progress
-begun n m = progress n m none none [] [] []
+begun n m = progress n m None None [] [] []
 
 -- past the line n v s
 unfoldable pub with_source : ℕ → Progress → Progress
-with_source v p = progress p.nodes p.wanted (some v) p.sink p.tails p.heads p.capacities
+with_source v p = progress p.nodes p.wanted (Some v) p.sink p.tails p.heads p.capacities
 
 -- past the line n v t
 unfoldable pub with_sink : ℕ → Progress → Progress
-with_sink v p = progress p.nodes p.wanted p.source (some v) p.tails p.heads p.capacities
+with_sink v p = progress p.nodes p.wanted p.source (Some v) p.tails p.heads p.capacities
 
 -- past the line a u v c
 unfoldable pub with_arc : ℕ → ℕ → ℕ → Progress → Progress

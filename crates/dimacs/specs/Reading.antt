@@ -1,6 +1,5 @@
 -- The lines of a file one after the other. Document 01, "File and listing" and "Turned down".
-use Rattle.std.specs.Prelude.{cond, List, [], ◌∷◌, ℕ, suc, ltb, length}
-use Rattle.std.proofs.Math.Option.{Option, none, some}
+use Rattle.std.specs.Prelude.{cond, List, [], ◌∷◌, ℕ, suc, ltb, length, Option, Some, None}
 use Rattle.bounds.specs.Bounds.{least_nodes, most_nodes, most_arcs}
 use Rattle.network.specs.Verdict.{outside}
 use Rattle.network.specs.declared.Refusal.{Refusal}
@@ -27,8 +26,8 @@ opening i Broken = down (Layout i)
 
 -- "One s and one t": where there was one already, line i breaks the layout.
 unfoldable pub once : ℕ → Option ℕ → Progress → Reading
-once i none p = past p
-once i (some w) p = down (Layout i)
+once i None p = past p
+once i (Some w) p = down (Layout i)
 
 -- Line i past the p line: no second p line, n and a lines in any order, and no more a lines than "exactly m".
 unfoldable pub following : ℕ → Line → Progress → Reading

@@ -2,8 +2,6 @@
 #![tactic(auto)]
 
 use bounds::MOST_ARCS;
-use lines::Maybe;
-use network::{Refusal, Verdict};
 
 mod reader;
 
@@ -15,22 +13,13 @@ pub struct Tally {
     pub nodes: u64,
     pub wanted: usize,
     pub found: usize,
-    pub source: Maybe,
-    pub sink: Maybe,
+    pub source: Option<u64>,
+    pub sink: Option<u64>,
 }
 
-// How far the reading of a file is: before its p line, past it, or turned down.
-#[derive(Clone, Copy)]
-pub enum Stage {
-    Before,
-    Past(Tally),
-    Down(Refusal),
-}
-
-// What a file holds. Of a refused file every number is 0.
+// What a file holds.
 #[derive(Clone, Copy)]
 pub struct Parsed {
-    pub verdict: Verdict,
     pub nodes: u64,
     pub arcs: usize,
     pub source: u64,

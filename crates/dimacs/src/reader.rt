@@ -1,223 +1,143 @@
 // The lines of a file one after the other.
-ghost use Rattle.std.specs.Prelude.{◌≡◌, List, ℕ, ◌+◌, ◌<◌};
-ghost use Rattle.dimacs.specs.File.{closing, refused};
-ghost use Rattle.dimacs.specs.Reading.{opening, following, next};
+ghost use Rattle.std.specs.Prelude.{◌≡◌, List, ℕ, ok_or};
+ghost use Rattle.network.specs.declared.Refusal.TheVariants.{Layout};
+ghost use Rattle.dimacs.specs.File.{closing};
+ghost use Rattle.dimacs.specs.Reading.{down, opening, following, next};
 ghost use Rattle.dimacs.specs.Result.{result_of, Read};
-ghost use Rattle.dimacs.specs.Stage.{progress_of, reading_of, Held, Reached};
+ghost use Rattle.dimacs.specs.Stage.{progress_of, reading_of, Held, Comes, GoesOn};
 
-use crate::{Parsed, Stage, Tally};
+use crate::{Parsed, Tally};
 use bounds::{LEAST_NODES, MOST_ARCS, MOST_BYTES, MOST_NODES};
 use checks::sizes::outside;
-use lines::{Line, Maybe, Stop, meaning, scan};
-use network::{Refusal, Verdict};
+use lines::{Line, meaning};
+use network::Refusal;
 
 // A line before the p line.
-fn begin(place: u64, line: Line) -> Stage
-    ensures { (ts hs cs : List ℕ) → Held Stage.Before ts hs cs → Reached (opening place line) result ts hs cs }
+fn begin(place: u64, line: Line) -> Result<Option<Tally>, Refusal>
+    ensures { (ts hs cs : List ℕ) → Held None ts hs cs → Comes (opening place line) result ts hs cs }
 {
     match line {
-        Line::Comment => Stage::Before,
+        Line::Comment => Ok(None),
         Line::Problem(n, m) => {
             if outside(LEAST_NODES, MOST_NODES, n) {
-                return Stage::Down(Refusal::Nodes);
+                return Err(Refusal::Nodes);
             }
             if outside(1, MOST_ARCS as u64, m) {
-                return Stage::Down(Refusal::Arcs);
+                return Err(Refusal::Arcs);
             }
-            Stage::Past(Tally {
+            Ok(Some(Tally {
                 nodes: n,
                 wanted: m as usize,
                 found: 0,
-                source: Maybe::Missing,
-                sink: Maybe::Missing,
-            })
+                source: None,
+                sink: None,
+            }))
         }
-        Line::Source(_) => Stage::Down(Refusal::Layout(place)),
-        Line::Sink(_) => Stage::Down(Refusal::Layout(place)),
-        Line::Arc(_, _, _) => Stage::Down(Refusal::Layout(place)),
-        Line::Broken => Stage::Down(Refusal::Layout(place)),
+        _ => Err(Refusal::Layout(place)),
     }
 }
 
-// The same tally with the source v.
-fn with_source(tally: Tally, v: u64) -> Tally
-    ensures { result ≡ record { nodes = tally.nodes; wanted = tally.wanted; found = tally.found; source = Maybe.Given v; sink = tally.sink } }
-{
-    let sink = tally.sink;
-    Tally {
-        nodes: tally.nodes,
-        wanted: tally.wanted,
-        found: tally.found,
-        source: Maybe::Given(v),
-        sink,
-    }
-}
-
-// The same tally with the sink v.
-fn with_sink(tally: Tally, v: u64) -> Tally
-    ensures { result ≡ record { nodes = tally.nodes; wanted = tally.wanted; found = tally.found; source = tally.source; sink = Maybe.Given v } }
-{
-    let source = tally.source;
-    Tally {
-        nodes: tally.nodes,
-        wanted: tally.wanted,
-        found: tally.found,
-        source,
-        sink: Maybe::Given(v),
-    }
-}
-
-// The same tally with one more arc found.
-fn with_arc(tally: Tally) -> Tally
-    requires { tally.found < tally.wanted }
-    ensures { result ≡ record { nodes = tally.nodes; wanted = tally.wanted; found = tally.found + 1; source = tally.source; sink = tally.sink } }
-{
-    let source = tally.source;
-    let sink = tally.sink;
-    Tally {
-        nodes: tally.nodes,
-        wanted: tally.wanted,
-        found: tally.found + 1,
-        source,
-        sink,
-    }
-}
-
-// A line past the p line.
+// The tally past a line behind the p line, if the line keeps the layout.
 fn go_on(
     tally: Tally,
-    place: u64,
     line: Line,
     tails: &mut [u64],
     heads: &mut [u64],
     capacities: &mut [u64],
-) -> Stage
-    requires { Held (Stage.Past tally) tails.old heads.old capacities.old }
-    ensures { Reached (following place line (progress_of tally tails.old heads.old capacities.old)) result tails.new heads.new capacities.new }
+) -> Option<Tally>
+    requires { Held (Some tally) tails.old heads.old capacities.old }
+    ensures { (i : ℕ) → GoesOn i (following i line (progress_of tally tails.old heads.old capacities.old)) result tails.new heads.new capacities.new }
 {
-    let source = tally.source;
-    let sink = tally.sink;
-    let found = tally.found;
     match line {
-        Line::Comment => Stage::Past(tally),
-        Line::Problem(_, _) => Stage::Down(Refusal::Layout(place)),
-        Line::Source(v) => match source {
-            Maybe::Missing => Stage::Past(with_source(tally, v)),
-            Maybe::Given(_) => Stage::Down(Refusal::Layout(place)),
-        },
-        Line::Sink(v) => match sink {
-            Maybe::Missing => Stage::Past(with_sink(tally, v)),
-            Maybe::Given(_) => Stage::Down(Refusal::Layout(place)),
-        },
-        Line::Arc(u, v, c) => {
-            if found >= tally.wanted {
-                return Stage::Down(Refusal::Layout(place));
-            }
-            tails[found] = u;
-            heads[found] = v;
-            capacities[found] = c;
-            Stage::Past(with_arc(tally))
+        Line::Comment => Some(tally),
+        Line::Problem(_, _) | Line::Broken => None,
+        Line::Source(v) if tally.source.is_none() => Some(Tally {
+            source: Some(v),
+            ..tally
+        }),
+        Line::Sink(v) if tally.sink.is_none() => Some(Tally {
+            sink: Some(v),
+            ..tally
+        }),
+        Line::Arc(u, v, c) if tally.found < tally.wanted => {
+            tails[tally.found] = u;
+            heads[tally.found] = v;
+            capacities[tally.found] = c;
+            Some(Tally {
+                found: tally.found + 1,
+                ..tally
+            })
         }
-        Line::Broken => Stage::Down(Refusal::Layout(place)),
+        // A second s or t, or an arc too many.
+        Line::Source(_) | Line::Sink(_) | Line::Arc(_, _, _) => None,
     }
 }
 
 // The next line, whatever came before it.
 fn next(
-    stage: Stage,
+    tally: Option<Tally>,
     place: u64,
     line: Line,
     tails: &mut [u64],
     heads: &mut [u64],
     capacities: &mut [u64],
-) -> Stage
-    requires { Held stage tails.old heads.old capacities.old }
-    ensures { Reached (next place line (reading_of stage tails.old heads.old capacities.old)) result tails.new heads.new capacities.new }
+) -> Result<Option<Tally>, Refusal>
+    requires { Held tally tails.old heads.old capacities.old }
+    ensures { Comes (next place line (reading_of tally tails.old heads.old capacities.old)) result tails.new heads.new capacities.new }
 {
-    match stage {
-        Stage::Before => begin(place, line),
-        Stage::Past(tally) => go_on(tally, place, line, tails, heads, capacities),
-        Stage::Down(_) => stage,
-    }
-}
-
-// A file turned down: every number is 0.
-fn refuse(why: Refusal) -> Parsed
-    ensures { result ≡ result_of (refused why) }
-{
-    let none = [0u64; MOST_ARCS];
-    Parsed {
-        verdict: Verdict::Refused(why),
-        nodes: 0,
-        arcs: 0,
-        source: 0,
-        sink: 0,
-        tails: none,
-        heads: none,
-        capacities: none,
-    }
-}
-
-// The end of the file, which shows what is missing.
-fn finish(
-    stage: Stage,
-    tails: [u64; MOST_ARCS],
-    heads: [u64; MOST_ARCS],
-    capacities: [u64; MOST_ARCS],
-) -> Parsed
-    requires { Held stage tails heads capacities }
-    ensures { result ≡ result_of (closing (reading_of stage tails heads capacities)) }
-{
-    match stage {
-        Stage::Before => refuse(Refusal::Layout(0)),
-        Stage::Down(why) => refuse(why),
-        Stage::Past(tally) => {
-            let found = tally.found;
-            let source = tally.source;
-            let Maybe::Given(s) = source else {
-                return refuse(Refusal::Layout(0));
-            };
-            let sink = tally.sink;
-            let Maybe::Given(t) = sink else {
-                return refuse(Refusal::Layout(0));
-            };
-            if found != tally.wanted {
-                return refuse(Refusal::Layout(0));
-            }
-            Parsed {
-                verdict: Verdict::Accepted,
-                nodes: tally.nodes,
-                arcs: found,
-                source: s,
-                sink: t,
-                tails,
-                heads,
-                capacities,
-            }
+    match tally {
+        None => begin(place, line),
+        Some(tally) => {
+            let further = go_on(tally, line, tails, heads, capacities);
+            Ok(Some(further.ok_or(Refusal::Layout(place))?))
         }
     }
 }
 
+// The end of the file, if nothing is missing.
+fn finish(
+    tally: Option<Tally>,
+    tails: [u64; MOST_ARCS],
+    heads: [u64; MOST_ARCS],
+    capacities: [u64; MOST_ARCS],
+) -> Option<Parsed>
+    requires { Held tally tails heads capacities }
+    ensures { ok_or result (Layout 0) ≡ result_of (closing (reading_of tally tails heads capacities)) }
+{
+    let tally = tally?;
+    let source = tally.source?;
+    let sink = tally.sink?;
+    if tally.found != tally.wanted {
+        return None;
+    }
+    Some(Parsed {
+        nodes: tally.nodes,
+        arcs: tally.found,
+        source,
+        sink,
+        tails,
+        heads,
+        capacities,
+    })
+}
+
 // What a file of these bytes comes to.
 #[tactic(auto, using(crate::proofs::Whole::long_files))]
-pub fn read(text: &[u8]) -> Parsed
+pub fn read(text: &[u8]) -> Result<Parsed, Refusal>
     ensures { Read text.now result }
 {
     if MOST_BYTES < text.len() {
-        return refuse(Refusal::LongFile);
+        return Err(Refusal::LongFile);
     }
     let mut tails = [0u64; MOST_ARCS];
     let mut heads = [0u64; MOST_ARCS];
     let mut capacities = [0u64; MOST_ARCS];
-    let mut stage = Stage::Before;
-    let mut at = 0;
+    let mut tally = None;
     let mut place: u64 = 1;
-    while at < text.len() {
-        let end = scan(Stop::LineFeed, text, at);
-        let line = meaning(&text[at..end]);
-        stage = next(stage, place, line, &mut tails, &mut heads, &mut capacities);
-        at = end + 1;
+    for line in text.split_inclusive(|b| *b == b'\n') {
+        let said = meaning(line.strip_suffix(b"\n").unwrap_or(line));
+        tally = next(tally, place, said, &mut tails, &mut heads, &mut capacities)?;
         place += 1;
     }
-    finish(stage, tails, heads, capacities)
+    finish(tally, tails, heads, capacities).ok_or(Refusal::Layout(0))
 }

@@ -1,41 +1,18 @@
--- A word compared with given bytes, one after the other.
+-- A word compared with given bytes.
 -- Assumes nothing.
-use mathlib.Core.Path.{◌≡◌, refl, ap}
-use mathlib.Core.Bool.{Bool, true, false, ◌&&◌}
+use mathlib.Core.Path.{◌≡◌, refl}
 use mathlib.Core.List.{List, [], ◌∷◌}
-use Prim.Native.Nat.{ℕ, suc}
-use native.Mathlib.Omega.{arith}
+use Prim.Native.Nat.{ℕ}
 use lib.Dec.{eqb}
-use lib.ListN.{length, get_or}
+use Rattle.std.specs.Cmp.Lexicographic.{pointwise}
 use Rattle.arith.specs.Same.{same}
 
--- Words of different lengths differ.
-pub same_length : (xs ys : List ℕ) → (length xs ≡ length ys → ⊥) → same xs ys ≡ false
+-- what `==` of two slices says
+pub same-bytes : (xs ys : List ℕ) → pointwise eqb xs ys ≡ same xs ys
 unfolding same
-same_length [] [] h = absurd (h refl)
-same_length [] (y ∷ ys) h = refl
-same_length (x ∷ xs) [] h = refl
-same_length (x ∷ xs) (y ∷ ys) h = rw (same_length xs ys (λ e. h (ap suc e))) (by (eqb x y))
-  where
-    by : (t : Bool) → t && false ≡ false
-    by true = refl
-    by false = refl
+same-bytes [] [] = refl
+same-bytes [] (y ∷ ys) = refl
+same-bytes (x ∷ xs) [] = refl
+same-bytes (x ∷ xs) (y ∷ ys) = rw (same-bytes xs ys)
 
-and-true : (t : Bool) → t && true ≡ t
-and-true true = refl
-and-true false = refl
-
-pub same-one : (xs : List ℕ) (y : ℕ) → length xs ≡ 1 → same xs (y ∷ []) ≡ eqb (get_or xs 0 0) y
-unfolding same
-same-one [] y h = absurd (omega arith)
-same-one (x ∷ []) y h = and-true (eqb x y)
-same-one (x ∷ z ∷ xs) y h = absurd (omega arith)
-
-pub same-three : (xs : List ℕ) (a b c : ℕ) → length xs ≡ 3 →
-    same xs (a ∷ b ∷ c ∷ []) ≡ eqb (get_or xs 0 0) a && (eqb (get_or xs 1 0) b && eqb (get_or xs 2 0) c)
-unfolding same
-same-three [] a b c h = absurd (omega arith)
-same-three (x ∷ []) a b c h = absurd (omega arith)
-same-three (x ∷ y ∷ []) a b c h = absurd (omega arith)
-same-three (x ∷ y ∷ z ∷ []) a b c h = rw (and-true (eqb z c))
-same-three (x ∷ y ∷ z ∷ u ∷ xs) a b c h = absurd (omega arith)
+pub ruleset byte_tests = (same-bytes)

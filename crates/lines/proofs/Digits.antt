@@ -3,9 +3,10 @@
 use mathlib.Core.Path.{◌≡◌, refl, ◌∙◌}
 use mathlib.Core.Bool.{true, false}
 use mathlib.Core.List.{List}
-use mathlib.Core.Option.{none, some}
+use Rattle.std.specs.Prelude.{Some, None}
+use Rattle.std.proofs.Common.{tests}
+use Rattle.std.specs.Char.{is_ascii_digit}
 use Prim.Native.Nat.{ℕ, ◌+◌, ◌*◌, ◌-◌, ◌^◌, ◌≤◌, ◌<◌}
-use native.Mathlib.Nat.{pow-le-pow_right}
 use native.Mathlib.Numerals.{add-one}
 use native.Mathlib.Omega.{arith}
 use lib.ListN.{length, get_or, drop, drop_of_length-le}
@@ -22,60 +23,51 @@ pub record DigitsRead (w : List ℕ) (i x : ℕ) : Type 0 where
   pub worth : from_digits 0 w ≡ from_digits x (drop i w)
   pub small : x < 10 ^ i
 
+pub digit-most : (b : ℕ) → digit b ≡ true → b ≤ 57
+unfolding digit
+digit-most b e = grind (arith, tests)
+
+-- a digit, as std's test says it
+pub digit-is : (b : ℕ) → is_ascii_digit b ≡ digit b
+unfolding digit
+digit-is b = refl
+
 pub digit-in : (b : ℕ) → 48 ≤ b → b ≤ 57 → digit b ≡ true
 unfolding digit
 digit-in b h l = rw (le-leb 48 b h, le-leb b 57 l)
 
-pub digit-below : (b : ℕ) → b < 48 → digit b ≡ false
-unfolding digit
-digit-below b h = rw (lt-leb 48 b h)
-
-pub digit-above : (b : ℕ) → 57 < b → digit b ≡ false
-unfolding digit
-digit-above b h = let l : 48 ≤ b = omega arith in rw (le-leb 48 b l, lt-leb b 57 h)
-
 module _ (w : List ℕ) where
-  pub no-digit-read : 1 ≤ length w → length w ≤ 9 → DigitsRead w 0 0
-  no-digit-read h l = record { least = h; most = l; within = omega arith; digits = refl; worth = refl; small = omega arith }
-
-  -- While a digit is left to read, there were at most eight.
-  pub room : (i x : ℕ) → DigitsRead w i x → i < length w → x < 10 ^ 8
-  room i x r h = omega (arith, pow-le-pow_right {n = 10} (omega arith) (le i r.most h))
-    where
-      le : (i : ℕ) → length w ≤ 9 → i < length w → i ≤ 8
-      le i m l = omega arith
-
-  pub digit-read : (i x : ℕ) → DigitsRead w i x → i < length w → 48 ≤ get_or w i 0 → get_or w i 0 ≤ 57 →
+  pub digit-read : (i x : ℕ) → DigitsRead w i x → i < length w → digit (get_or w i 0) ≡ true →
       DigitsRead w (i + 1) (x * 10 + (get_or w i 0 - 48))
   unfolding every from_digits
-  digit-read i x r h l m =
+  digit-read i x r h e =
       rw add-one
       record {
         least = r.least;
         most = r.most;
         within = omega arith;
-        digits = r.digits ∙ rw (drop-cons w i 0 h, digit-in (get_or w i 0) l m);
+        digits = r.digits ∙ rw (drop-cons w i 0 h, e);
         worth = r.worth ∙ rw (drop-cons w i 0 h);
-        small = omega (arith, r.small);
+        small = omega (arith, r.small, digit-most (get_or w i 0) e);
       }
 
-  pub number_read : (i x : ℕ) → DigitsRead w i x → length w ≤ i → some x ≡ number_of w
+  pub number_read : (i x : ℕ) → DigitsRead w i x → length w ≤ i → Some x ≡ number_of w
   unfolding number_of every from_digits
   number_read i x r h =
       let d : every digit w ≡ true = r.digits ∙ rw (drop_of_length-le w h) in
       let v : from_digits 0 w ≡ x = r.worth ∙ rw (drop_of_length-le w h) in
       rw (le-leb 1 (length w) r.least, le-leb (length w) 9 r.most, d, v)
 
-  pub no_number : (i x : ℕ) → DigitsRead w i x → i < length w → digit (get_or w i 0) ≡ false → none ≡ number_of w
+  pub no_number : (i x : ℕ) → DigitsRead w i x → i < length w → digit (get_or w i 0) ≡ false → None ≡ number_of w
   unfolding number_of every
   no_number i x r h e =
       let d : every digit w ≡ false = r.digits ∙ rw (drop-cons w i 0 h, e) in
       rw (le-leb 1 (length w) r.least, le-leb (length w) 9 r.most, d)
 
-  pub no_size : (length w < 1) → none ≡ number_of w
+  pub no_size : (length w < 1) → None ≡ number_of w
   unfolding number_of
   no_size h = rw (lt-leb 1 (length w) h)
 
-  pub too_long : 9 < length w → none ≡ number_of w
+  pub too_long : 9 < length w → None ≡ number_of w
   unfolding number_of
   too_long h = let l : 1 ≤ length w = omega arith in rw (le-leb 1 (length w) l, lt-leb (length w) 9 h)

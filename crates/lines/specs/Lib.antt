@@ -1,5 +1,4 @@
 pub mod Meaning
 pub mod Number
 pub mod Pieces
-pub mod Scan
 pub mod Text

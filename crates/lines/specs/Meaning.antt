@@ -1,6 +1,5 @@
 -- What one line says. Document 01, "File and listing": "Their first letter decides".
-use Rattle.std.specs.Prelude.{Bool, cond, ◌&&◌, List, [], ◌∷◌, ℕ, eqb, length, get_or}
-use Rattle.std.proofs.Math.Option.{Option, none, some}
+use Rattle.std.specs.Prelude.{Bool, cond, ◌&&◌, List, [], ◌∷◌, ℕ, eqb, length, get_or, Option, Some, None}
 use Rattle.arith.specs.Same.{same}
 use Rattle.lines.specs.Number.{number_of}
 use Rattle.lines.specs.Pieces.{words_of}
@@ -18,8 +17,8 @@ shaped n ws = eqb (length ws) n && eqb (length (word ws 0)) 1
 
 -- what follows from a number where there is one; else the line is broken
 unfoldable pub given : Option ℕ → (ℕ → Line) → Line
-given none f = Broken
-given (some x) f = f x
+given None f = Broken
+given (Some x) f = f x
 
 -- what follows from the number of a word
 abbrev pub given_number : List ℕ → (ℕ → Line) → Line

@@ -5,7 +5,6 @@ mod kinds;
 mod words;
 
 pub use kinds::meaning;
-pub use words::scan;
 
 // What one line says.
 #[derive(Clone, Copy)]
@@ -16,19 +15,4 @@ pub enum Line {
     Sink(u64),
     Arc(u64, u64, u64),
     Broken,
-}
-
-// A number that may be missing.
-#[derive(Clone, Copy)]
-pub enum Maybe {
-    Missing,
-    Given(u64),
-}
-
-// What a scan looks for: the end of a line, the end of a word, the start of a word.
-#[derive(Clone, Copy)]
-pub enum Stop {
-    LineFeed,
-    Blank,
-    Word,
 }

@@ -57,10 +57,7 @@ module _ (s : Shape) (few : s.arcs ≤ 256) (xs : List ℕ) (places : net_number
         put-length tails_from m xs t' (omega arith) nt
 
     -- The slice keeps its length.
-    pub sink-place : 800 < length (set arced 768 source)
-    sink-place = omega (arith, length-set arced 768 source, long)
-
-    pub filled-length : length filled ≡ length xs
+    filled-length : length filled ≡ length xs
     filled-length = length-set (set arced 768 source) 800 sink ∙ (length-set arced 768 source ∙ long)
 
     tails-in : part tails_from m filled ≡ t
@@ -105,9 +102,6 @@ module _ (s : Shape) (few : s.arcs ≤ 256) (xs : List ℕ) (places : net_number
 
       stays : (b k : ℕ) → b + k ≤ marks_from → part b k marked ≡ part b k filled
       stays b k past = part-before marks_from m filled b k z (omega (arith, fits)) past
-
-      pub packed-length : length marked ≡ length xs
-      packed-length = put-length marks_from m filled z fits nz ∙ filled-length
 
       pub packed :
           s.commodities ≡ 1 → s.limits ≡ 0 →

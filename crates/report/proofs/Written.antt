@@ -1,5 +1,5 @@
 -- The listing from its parts: the header, then the rows that follow from the file. Assumes nothing.
-use mathlib.Core.Path.{◌≡◌, sym, ap, ◌∙◌}
+use mathlib.Core.Path.{◌≡◌, refl, sym, ap, ◌∙◌}
 use mathlib.Core.List.{List}
 use Prim.Native.Nat.{ℕ}
 use native.Mathlib.Omega.{arith}
@@ -12,43 +12,41 @@ use Rattle.method.specs.Guarantee.{Guarantee}
 use Rattle.dimacs.specs.File.{holds, refused, parsed}
 use Rattle.rows.specs.Put.{Put}
 use Rattle.rows.specs.Row.{header}
-use Rattle.rows.specs.Rows.{refusal_row}
+use Rattle.std.specs.Prelude.{Ok, Err}
 use Rattle.rows.proofs.Puts.{put-length, put_next, put-after}
 use Rattle.report.specs.Listed.{Listed}
 use Rattle.report.specs.Listing.{verdict_held, verdict_rows, file_rows, listing}
-use Rattle.report.specs.Shown.{Shown}
+use Rattle.report.specs.Shown.{Shown, Filed}
 
-module _ (net : Network) {out out' : List ℕ} {at end : ℕ} where
-  -- A refused network.
-  pub shown-refused : {w : Refusal} → verdict_held net ≡ Refused w → Put (refusal_row w) out at out' end → Shown net (verdict_held net) out at out' end
-  unfolding verdict_rows
-  shown-refused e p = record { rows = rw e p; guarantee = λ a. absurd (no-refusal (sym a ∙ e)) }
+module _ (text : List ℕ) where
+  -- A refused file.
+  pub filed-refused : {out : List ℕ} {at : ℕ} {w : Refusal} → parsed text ≡ refused w → Filed text out at out (Err w)
+  unfolding file_rows
+  filed-refused {w = w} e = record { rows = (refl, rw e); guarantee = λ net k v. absurd (apart (sym e ∙ k)) }
+    where
+      apart : {net : Network} → refused w ≡ holds net → ⊥
+      apart k = let z : ◌≡◌ {A = ℕ} 0 1 = cc in omega arith
 
-  -- An accepted one.
-  pub shown-accepted : verdict_held net ≡ Accepted → Shown net Accepted out at out' end → Shown net (verdict_held net) out at out' end
-  shown-accepted e s = rw e s
+  module _ {net : Network} (e : parsed text ≡ holds net) where
+    same : {net' : Network} → parsed text ≡ holds net' → net ≡ net'
+    same k = cc
+
+    -- A file that holds a refused network,
+    pub filed-faulty : {out : List ℕ} {at : ℕ} {w : Refusal} → verdict_held net ≡ Refused w → Filed text out at out (Err w)
+    unfolding file_rows verdict_rows
+    filed-faulty v =
+        record { rows = (refl, rw (e, v)); guarantee = λ net' k a. absurd (no-refusal (sym a ∙ (ap verdict_held (sym (same k)) ∙ v))) }
+
+    -- and one that holds an accepted one.
+    pub filed-held : {out out' : List ℕ} {at end : ℕ} → verdict_held net ≡ Accepted → Shown net Accepted out at out' end → Filed text out at out' (Ok end)
+    unfolding file_rows
+    filed-held v s = record { rows = rw (e, v) s.rows; guarantee = λ net' k a. rw (← (same k)) (s.guarantee refl) }
 
 module _ (text : List ℕ) {out mid out' : List ℕ} {at end : ℕ} (h : Put header out 0 mid at) where
-  listed :
+  pub listed :
       Put (file_rows (parsed text)) mid at out' end →
       ((net : Network) → parsed text ≡ holds net → verdict_held net ≡ Accepted → Guarantee net 4 (outcome net 4)) → Listed text out end out'
   unfolding listing
   listed p g =
       let whole = put_next h p in
       record { count = omega (arith, whole.next); places = put-after whole; within = omega (arith, whole.next, whole.room, put-length whole); guarantee = g }
-
-  -- A refused file.
-  pub listed-refused : {w : Refusal} → parsed text ≡ refused w → Put (refusal_row w) mid at out' end → Listed text out end out'
-  unfolding file_rows
-  listed-refused {w} e p = listed (rw e p) (λ net k v. absurd (apart (sym e ∙ k)))
-    where
-      apart : {net : Network} → refused w ≡ holds net → ⊥
-      apart k = let z : ◌≡◌ {A = ℕ} 0 1 = cc in omega arith
-
-  -- A file that holds a network.
-  pub listed-held : {net : Network} → parsed text ≡ holds net → Shown net (verdict_held net) mid at out' end → Listed text out end out'
-  unfolding file_rows
-  listed-held {net} e s = listed (rw e s.rows) guaranteed
-    where
-      guaranteed : (net' : Network) → parsed text ≡ holds net' → verdict_held net' ≡ Accepted → Guarantee net' 4 (outcome net' 4)
-      guaranteed net' k v = let same : net ≡ net' = cc in rw (← same) (s.guarantee (ap verdict_held same ∙ v))

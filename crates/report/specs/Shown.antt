@@ -1,22 +1,24 @@
 -- What the parts of the program that solve and judge ask and leave; cited only by their contracts.
-use Rattle.std.specs.Prelude.{◌≡◌, List, [], ◌∷◌, ℕ, ◌+◌, ◌*◌, ◌^◌, ◌≤◌, ◌<◌, ℤ, pos, length, get_or, take, replicate}
+use Rattle.std.specs.Prelude.{◌≡◌, List, [], ◌∷◌, ℕ, ◌+◌, ◌*◌, ◌^◌, ◌≤◌, ◌<◌, ℤ, pos, length, get_or, take, replicate, Result, MatchResult}
 use Rattle.arith.specs.Lists.{up_to, flat}
 use Rattle.bounds.specs.Bounds.{most_arcs}
 use Rattle.signed.specs.Signed.{size}
 use Rattle.network.specs.Network.{Network, commodities}
 use Rattle.network.specs.Refusal.{Verdict, Accepted}
+use Rattle.network.specs.declared.Refusal.{Refusal}
 use Rattle.method.specs.Answer.{outcome}
 use Rattle.method.specs.Fits.{Signed64}
 use Rattle.method.specs.Guarantee.{Guarantee}
-use Rattle.packed.specs.Packed.{net_in, Packed, Lent, net_numbers, table_numbers}
+use Rattle.packed.specs.Packed.{net_in, Lent, net_numbers, table_numbers}
 use Rattle.packed.specs.declared.Shape.{Shape}
-use Rattle.dimacs.specs.OneCommodity.{OneCommodity}
+use Rattle.dimacs.specs.File.{holds, parsed}
 use Rattle.dimacs.specs.declared.Parsed.{Parsed}
 use Rattle.lines.specs.Text.{bytes}
 use Rattle.rows.specs.Decimal.{decimal}
 use Rattle.rows.specs.Put.{Put}
 use Rattle.rows.specs.Row.{row}
-use Rattle.report.specs.Listing.{verdict_rows}
+use Rattle.rows.specs.Rows.{refusal_row}
+use Rattle.report.specs.Listing.{verdict_held, verdict_rows, file_rows}
 
 -- The row of arc e, of whose amount the size times a is written over y.
 abbrev pub belt_of : List ℕ → List ℕ → List ℤ → ℕ → ℕ → ℕ → List ℕ
@@ -59,14 +61,7 @@ pub record Packing (file : Parsed) (net : List ℕ) : Type 0 where
   pub of-capacities : length file.capacities ≡ most_arcs
   pub places : net_numbers ≤ length net
 
--- A file's network, and room for its rows: 159 bytes for the first three, and 90 for each of 256 arcs.
-pub record Judging (s : Shape) (net : List ℕ) (at room : ℕ) : Type 0 where
-  pub packed : Packed s net
-  pub plain : s.resources ≡ s.arcs
-  pub held : OneCommodity (net_in s net)
-  pub enough : at + 23199 ≤ room
-
--- An accepted one of one commodity.
+-- An accepted network of one commodity, and room for its rows: 159 bytes for the first three, and 90 for each of 256 arcs.
 pub record Ready (s : Shape) (net : List ℕ) (at room : ℕ) : Type 0 where
   pub lent : Lent s 4 net
   pub one : commodities (net_in s net) ≡ 1
@@ -82,3 +77,9 @@ pub record Showing (s : Shape) (net : List ℕ) (flow : List ℤ) (tables : List
 pub record Shown (net : Network) (v : Verdict) (out : List ℕ) (at : ℕ) (out' : List ℕ) (end : ℕ) : Type 0 where
   pub rows : Put (verdict_rows net v) out at out' end
   pub guarantee : v ≡ Accepted → Guarantee net 4 (outcome net 4)
+
+-- The rows that follow from a file of the bytes text: they stand from place `at` on, or they are a refusal's and none is written. Where the file
+-- holds an accepted network, all that holds of its outcome.
+pub record Filed (text out : List ℕ) (at : ℕ) (out' : List ℕ) (r : Result ℕ Refusal) : Type 0 where
+  pub rows : MatchResult r (λ end. Put (file_rows (parsed text)) out at out' end) (λ why. (out' ≡ out) × (file_rows (parsed text) ≡ refusal_row why))
+  pub guarantee : (net : Network) → parsed text ≡ holds net → verdict_held net ≡ Accepted → Guarantee net 4 (outcome net 4)

@@ -1,59 +1,38 @@
 // A file read, packed, judged and listed.
-ghost use Rattle.std.specs.Prelude.{◌≡◌, length};
+ghost use Rattle.std.specs.Prelude.{◌≡◌, ◌+◌, ◌≤◌, length};
 ghost use Rattle.packed.specs.Packed.{net_in};
 ghost use Rattle.report.specs.Listed.{Listed};
-ghost use Rattle.report.specs.Listing.{verdict_held};
-ghost use Rattle.report.specs.Shown.{shape_of, network_of_file, Packing, Judging, Shown};
+ghost use Rattle.report.specs.Shown.{shape_of, network_of_file, Packing, Filed};
 
 use crate::solved::show;
 use checks::items::check_items;
 use dimacs::Parsed;
-use network::Verdict;
+use network::Refusal;
 use packed::{CAPACITIES, HEADS, MARKS, NET_NUMBERS, SINKS, SOURCES, Shape, TAILS};
 use rows::put::put;
 use rows::put_refusal;
-use tables::loads::{clear, copy};
 
 // The network of a file that has been read, into one slice. A file marks no arc and limits no node.
-fn pack(file: Parsed, net: &mut [u64])
-    requires { Packing file net.old }
-    ensures { net_in (shape_of file) net.new ≡ network_of_file file }
+fn pack(file: &Parsed, net: &mut [u64])
+    requires { Packing file.now net.old }
+    ensures { net_in (shape_of file.now) net.new ≡ network_of_file file.now }
 {
     let m = file.arcs;
-    let tails = file.tails;
-    copy(&tails[..m], &mut net[TAILS..TAILS + m]);
-    let heads = file.heads;
-    copy(&heads[..m], &mut net[HEADS..HEADS + m]);
-    let capacities = file.capacities;
-    copy(&capacities[..m], &mut net[CAPACITIES..CAPACITIES + m]);
+    net[TAILS..TAILS + m].copy_from_slice(&file.tails[..m]);
+    net[HEADS..HEADS + m].copy_from_slice(&file.heads[..m]);
+    net[CAPACITIES..CAPACITIES + m].copy_from_slice(&file.capacities[..m]);
     net[SOURCES] = file.source;
     net[SINKS] = file.sink;
-    clear(&mut net[MARKS..MARKS + m]);
+    net[MARKS..MARKS + m].fill(0);
 }
 
-// The network that a file holds. Its counts are within their bounds, so only arcs and the commodity are left to check.
-fn judge(s: Shape, net: &[u64], out: &mut [u8], at: usize) -> usize
-    requires { Judging s net.now at (length out.old) }
-    ensures { Shown (net_in s net.now) (verdict_held (net_in s net.now)) out.old at out.new result }
+// The rows of an accepted network in a file of these bytes, or why the file or its network is turned down. The counts of a file's network are
+// within their bounds, so only arcs and the commodity are left to check.
+fn file_rows(text: &[u8], out: &mut [u8], at: usize) -> Result<usize, Refusal>
+    requires { at + 23199 ≤ length out.old }
+    ensures { Filed text.now out.old at out.new result }
 {
-    let items = check_items(s, net);
-    if let Verdict::Refused(why) = items {
-        return put_refusal(out, at, why);
-    }
-    show(s, net, out, at)
-}
-
-// The listing of a file of these bytes, from the first place on; returns how many bytes it has. The table holds every listing: 27 bytes for the
-// header, 159 for total, bound and steps, 90 for each of 256 belts.
-pub fn listing(text: &[u8], out: &mut [u8; 24576]) -> usize
-    ensures { Listed text.now out.old result out.new }
-{
-    let file = dimacs::read(text);
-    let at = put(out, 0, b"row,tail,head,upper,lower\r\n");
-    let verdict = file.verdict;
-    if let Verdict::Refused(why) = verdict {
-        return put_refusal(out, at, why);
-    }
+    let file = dimacs::read(text)?;
     let s = Shape {
         nodes: file.nodes,
         arcs: file.arcs,
@@ -62,6 +41,19 @@ pub fn listing(text: &[u8], out: &mut [u8; 24576]) -> usize
         resources: file.arcs,
     };
     let mut net = [0u64; NET_NUMBERS];
-    pack(file, &mut net);
-    judge(s, &net, out, at)
+    pack(&file, &mut net);
+    check_items(s, &net)?;
+    Ok(show(s, &net, out, at))
+}
+
+// The listing of a file of these bytes, from the first place on; returns how many bytes it has. The table holds every listing: 27 bytes for the
+// header, 159 for total, bound and steps, 90 for each of 256 belts.
+pub fn listing(text: &[u8], out: &mut [u8; 24576]) -> usize
+    ensures { Listed text.now out.old result out.new }
+{
+    let at = put(out, 0, b"row,tail,head,upper,lower\r\n");
+    match file_rows(text, out, at) {
+        Ok(end) => end,
+        Err(why) => put_refusal(out, at, why),
+    }
 }

@@ -23,11 +23,9 @@ fn put_belts(
     ensures { Put (belts_of tails.now heads.now flow.now a y) out.old at out.new result }
 {
     let mut next = at;
-    let mut e = 0;
-    while e < tails.len() {
+    for e in 0..tails.len() {
         let load = signed::size(flow[e]);
         next = put_belt(out, next, tails[e], heads[e], load * a, y);
-        e += 1;
     }
     next
 }
@@ -46,9 +44,8 @@ fn show_in(
 {
     let a = solver::solve(s, LEAST_PRECISION, net, flow, tables);
     let next = put_answer(out, at, a);
-    let m = s.arcs;
-    let tails = &net[TAILS..TAILS + m];
-    let heads = &net[HEADS..HEADS + m];
+    let tails = &net[TAILS..TAILS + s.arcs];
+    let heads = &net[HEADS..HEADS + s.arcs];
     put_belts(out, next, tails, heads, flow, a.capacity, a.load)
 }
 
@@ -57,8 +54,7 @@ pub fn show(s: Shape, net: &[u64], out: &mut [u8], at: usize) -> usize
     requires { Ready s net.now at (length out.old) }
     ensures { Shown (net_in s net.now) Accepted out.old at out.new result }
 {
-    let m = s.arcs;
     let mut flow = [0i64; MOST_ARCS];
     let mut tables = [0u64; TABLE_NUMBERS];
-    show_in(s, net, &mut flow[..m], &mut tables, out, at)
+    show_in(s, net, &mut flow[..s.arcs], &mut tables, out, at)
 }

@@ -3,4 +3,3 @@ pub mod Digits
 pub mod Lengths
 pub mod Numbers
 pub mod Puts
-pub mod Putting

@@ -8,12 +8,9 @@ pub fn put(out: &mut [u8], at: usize, xs: &[u8]) -> usize
     requires { at + length xs.now ≤ length out.old }
     ensures { Put xs.now out.old at out.new result }
 {
-    let mut i = 0;
-    while i < xs.len() {
-        out[at + i] = xs[i];
-        i += 1;
-    }
-    at + i
+    let end = at + xs.len();
+    out[at..end].copy_from_slice(xs);
+    end
 }
 
 // The byte of a digit.

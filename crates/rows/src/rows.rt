@@ -7,9 +7,8 @@ ghost use Rattle.rows.specs.Row.{delimited, row};
 ghost use Rattle.lines.specs.Text.{bytes};
 
 use crate::put::{put, put_number};
-use checks::numbers::refusal_code;
 use method::Answer;
-use network::Refusal;
+use network::{Code, Refusal};
 
 // The last two fields and the end of a row.
 fn put_fraction(out: &mut [u8], at: usize, upper: u64, lower: u64) -> usize
@@ -60,6 +59,6 @@ pub fn put_refusal(out: &mut [u8], at: usize, why: Refusal) -> usize
     requires { at + 53 ≤ length out.old }
     ensures { Put (refusal_row why) out.old at out.new result }
 {
-    let c = refusal_code(why);
+    let c = Code::from(why);
     put_row(out, at, b"refused", c.number, c.place)
 }

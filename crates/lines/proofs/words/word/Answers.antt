@@ -1,21 +1,23 @@
--- `lines::words::word` meets its contract: `at` is where word k starts.
+-- `lines::words::word` meets its contract: the parts with a byte are the words.
 -- Assumes nothing.
-use mathlib.Core.Path.{ap, ◌∙◌}
-use native.Mathlib.Omega.{arith}
-use Rattle.arith.proofs.Until.{scan-within}
-use Rattle.lines.specs.Meaning.{word}
-use Rattle.lines.specs.Pieces.{words_of}
-use Rattle.lines.proofs.Split.{first-start, word-there, next_start}
+use mathlib.Core.Path.{◌≡◌, refl}
+use mathlib.Core.List.{List}
+use Prim.Native.Nat.{ℕ}
+use denote.Ref.{Bor}
+use Rattle.std.proofs.Common.{rules, Option, Some, None, unwrap_or}
+use Rattle.std.specs.Option.{option_map}
+use Rattle.std.proofs.lemmas.Iterator.Consumers.{nth_from_yields_List}
+use Rattle.std.proofs.lemmas.Option.{unwrap_or-slice_get}
+use Rattle.lines.proofs.Split.{YieldsList-from_words}
 use Rattle.lines.proofs.words.word.Goals as goal
 
-pub loop-k-init : goal.loop-k-init
-loop-k-init c = (rw c.scan-at.ensures (first-start _), omega arith)
-
-pub loop-k-preserved : goal.loop-k-preserved
-loop-k-preserved c = (rw (c.scan-at-in-loop-k.ensures, c.scan-end.ensures) (next_start _ _ _ c.loop-k.invariant.0), omega arith)
-
-pub slice_bounds-result-end : goal.slice_bounds-result-end
-slice_bounds-result-end c = rw c.scan-end-2.ensures (scan-within _ _ _ c.loop-k.invariant.0.within)
+behind : (o : Option (Bor (List ℕ))) (d : Bor (List ℕ)) → (unwrap_or o d).now ≡ unwrap_or (option_map (λ w. w.now) o) d.now
+behind None d = refl
+behind (Some w) d = refl
 
 pub returns : goal.returns
-returns c = rw c.scan-end-2.ensures (word-there _ _ _ c.loop-k.invariant.0 ∙ ap (word (words_of _)) (omega arith))
+returns c =
+    let h = nth_from_yields_List _ _ _ c.nth.ensures.ran
+    (YieldsList-from_words _ _ _ c.split.ensures.rest c.split.ensures.done c.split.ensures.closure (λ x b q k. search rules)
+    c.filter.ensures.source c.filter.ensures.closure (λ x b q k. search rules)) in
+    rw (c.unwrap_or.ensures, behind, h, unwrap_or-slice_get)

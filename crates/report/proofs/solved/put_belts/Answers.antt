@@ -1,4 +1,4 @@
--- `report::solved::put_belts` meets its contract. The loop's invariant: the rows of the first e arcs are put. The measure is what is left of them.
+-- `report::solved::put_belts` meets its contract. The loop's invariant: the rows of the first e arcs are put.
 -- Assumes nothing.
 use mathlib.Core.Path.{◌≡◌, ap, ◌∙◌}
 use Prim.Native.Nat.{◌*◌}
@@ -25,7 +25,7 @@ load : (c : After-size-load) → c.size-load.result ≡ size (amount (goal.at.Af
 load c = c.size-load.ensures ∙ ap (λ x. size x) (reads (goal.at.After-size-load c).After-size-arg-1)
 
 pub loop-e-init : goal.loop-e-init
-loop-e-init c = (none-rowed _ _ _ (omega arith), omega arith)
+loop-e-init c = none-rowed _ _ _ (omega arith)
 
 pub size-load-requires : goal.size-load-requires
 size-load-requires c = omega (arith, ap (λ x. size x) (reads c), c.requires.sizes c.loop-e.e)
@@ -37,16 +37,16 @@ overflow_mul-load c =
 pub put_belt-next-requires : goal.put_belt-next-requires
 put_belt-next-requires c =
     let i = c.loop-e.invariant in
-    omega (arith, put-length i.0.now, i.0.now.next, i.0.short)
+    omega (arith, put-length i.now, i.now.next, i.short)
 
 pub loop-e-preserved : goal.loop-e-preserved
 loop-e-preserved c =
     let a = c.args in
     let short = belt-length a.tails.now a.heads.now a.flow.now a.a a.y c.loop-e.e in
-    (one-rowed c.loop-e.invariant.0 (rw (load (goal.at.loop-e-preserved c).After-size-load) at c.put_belt-next.ensures) short, omega arith)
+    one-rowed c.loop-e.invariant (rw (load (goal.at.loop-e-preserved c).After-size-load) at c.put_belt-next.ensures) short
 
 pub shape_of-out : goal.shape_of-out
-shape_of-out c = put-length c.loop-e.invariant.0.now
+shape_of-out c = put-length c.loop-e.invariant.now
 
 pub returns : goal.returns
-returns c = all-rowed _ c.loop-e.invariant.0 c.loop-e.invariant.1 c.loop-e-test.false
+returns c = all-rowed _ c.loop-e.invariant (omega arith) (omega arith)

@@ -4,4 +4,4 @@ use Rattle.rows.proofs.rows.put_refusal.Goals as goal
 
 pub returns : goal.returns
 unfolding refusal_row
-returns c = rw c.refusal_code-c.ensures at c.put_row.ensures
+returns c = rw c.from-c.ensures at c.put_row.ensures
