@@ -16,7 +16,7 @@ use Rattle.lengths.specs.declared.Grown.{Grown}
 use Rattle.lengths.specs.Calls.{Growing}
 use Rattle.lengths.specs.Results.{Grew}
 use Rattle.tables.specs.Tables.{weight_of, at_mark}
-use Rattle.tables.proofs.Followed.{Following, follow-none, follow-more, follow-all}
+use Rattle.tables.proofs.Followed.{Following, follow-none, follow-more, follow-long, follow-all}
 use Rattle.tables.proofs.OnPath.{follow-next}
 use Rattle.tables.proofs.Stored.{set-weight, set-exists}
 use Rattle.lengths.proofs.Weighable.{Weighable, sum-most}
@@ -71,7 +71,7 @@ module _ {xs caps : List ℕ} {q g : ℕ} {p : List ℕ} (w : Growing xs caps q 
           (t : Bool) → t ≡ (b || leb mark v) →
           Lengthened caps xs q g p (j + 1) (set ys arc v) (d + get_or caps arc 0 * (v - get_or ys arc 0)) t
       lengthen-more t k =
-          let same : length ys ≡ length caps = r.follow.long ∙ w.same in
+          let same : length ys ≡ length caps = follow-long r.follow ∙ w.same in
           record {
             follow = follow-more arc v r.follow l refl h;
             weight = ap (λ x. x + get_or caps arc 0 * (v - get_or ys arc 0)) r.weight ∙ sym (set-weight caps ys arc v same next_place next-longer);

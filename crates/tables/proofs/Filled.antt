@@ -7,7 +7,7 @@ use Prim.Native.Nat.{ℕ, zero, suc, ◌+◌, ◌≤◌, ◌<◌}
 use native.Mathlib.Nat.{le_refl, le_of_suc-le-suc, eq-or-lt_of_le}
 use native.Mathlib.Numerals.{add-one}
 use native.Mathlib.Omega.{arith}
-use lib.ListN.{length, get_or, set, replicate, length-set, length-replicate, get_or-replicate}
+use lib.ListN.{length, get_or, set, length-set}
 use lib.Seq.{get_or-set_same, get_or-set_other, ext_get_or}
 
 -- xs after the first n places took their values
@@ -63,19 +63,9 @@ pub fill-next : {f : ℕ → ℕ} {n : ℕ} {xs ys : List ℕ} → Filling f n x
 fill-next {f} {n} {xs} {ys} h = rw h.now (filled-later 0 f n xs n (le_refl n))
 
 -- When all places have taken theirs, the table is the list of those values.
-fill-whole :
-    {A : Type 0} {f : ℕ → A} {n : ℕ} {xs ys : List A} (d : A) (zs : List A) → Filling f n xs ys → length xs ≤ n → length zs ≡ length xs →
-    ((j : ℕ) → j < length zs → get_or zs j d ≡ f j) → ys ≡ zs
-fill-whole {f} {n} {xs} {ys} d zs h l e k =
-    ext_get_or d ys zs (h.long ∙ sym e) (λ j b.
-    rw h.now (filled-before d f n xs j h.within (omega (arith, h.long)) ∙ sym (k j (omega (arith, h.long)))))
-
 pub fill-all :
     {f : ℕ → ℕ} {n : ℕ} {xs ys : List ℕ} (zs : List ℕ) → Filling f n xs ys → length xs ≤ n → length zs ≡ length xs →
     ((j : ℕ) → j < length zs → get_or zs j 0 ≡ f j) → ys ≡ zs
-fill-all = fill-whole 0
-
--- One value at every place
-pub fill-same : {A : Type 0} {v : A} {n : ℕ} {xs ys : List A} → Filling (λ j. v) n xs ys → length xs ≤ n → ys ≡ replicate (length xs) v
-fill-same {v} {xs} h l =
-    fill-whole v _ h l (length-replicate (length xs) v) (λ j b. get_or-replicate (length xs) j v v (rw length-replicate at b))
+fill-all {f} {n} {xs} {ys} zs h l e k =
+    ext_get_or 0 ys zs (h.long ∙ sym e) (λ j b.
+    rw h.now (filled-before 0 f n xs j h.within (omega (arith, h.long)) ∙ sym (k j (omega (arith, h.long)))))
