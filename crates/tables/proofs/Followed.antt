@@ -1,12 +1,11 @@
--- A table updated along a path: what it is after the first arcs of the path, one arc further, and after all.
+-- A table updated along a path: what it is after the first arcs of the path, and one arc further.
 -- Assumes nothing.
-use mathlib.Core.Path.{◌≡◌, refl, ap, ◌∙◌}
+use mathlib.Core.Path.{◌≡◌, refl}
 use mathlib.Core.List.{List, [], ◌∷◌}
-use Prim.Native.Nat.{ℕ, zero, suc, ◌+◌, ◌≤◌, ◌<◌}
+use Prim.Native.Nat.{ℕ, zero, suc, ◌+◌, ◌<◌}
 use native.Mathlib.Nat.{le_of_suc-le-suc, not-suc-le-zero}
 use native.Mathlib.Numerals.{add-one}
 use lib.ListN.{length, get_or, take, set}
-use lib.Seq.{take_all}
 use Rattle.method.specs.Iteration.{update}
 use Rattle.method.proofs.Times.{update-length}
 
@@ -40,7 +39,3 @@ follow-more {f} {p} {j} {xs} {ys} e v h l k w =
 -- The table keeps its length.
 pub follow-long : {f : ℕ → ℕ → ℕ} {p : List ℕ} {j : ℕ} {xs ys : List ℕ} → Following f p j xs ys → length ys ≡ length xs
 follow-long {f} {p} {j} {xs} h = rw h.now (update-length f (take j p) xs)
-
--- All arcs have had theirs.
-pub follow-all : {f : ℕ → ℕ → ℕ} {p : List ℕ} {j : ℕ} {xs ys : List ℕ} → Following f p j xs ys → length p ≤ j → ys ≡ update f p xs
-follow-all {f} {p} {j} {xs} h l = h.now ∙ ap (λ (q : List ℕ). update f q xs) (take_all j p l)
