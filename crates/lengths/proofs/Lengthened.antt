@@ -1,4 +1,4 @@
--- Growth along a path: what the lengths, D and the test of the mark are after the first arcs, one arc further, and after all.
+-- Growth along a path: what the lengths, D and the test of the mark are after the first arcs, and one arc further.
 -- Assumes nothing.
 use mathlib.Core.Path.{◌≡◌, refl, sym, ap, ◌∙◌}
 use mathlib.Core.Bool.{Bool, false, ◌||◌}
@@ -12,11 +12,9 @@ use lib.ListN.{length, get_or, set}
 use Rattle.arith.proofs.Exists.{none-exists}
 use Rattle.length.specs.Length.{mark, growth}
 use Rattle.length.proofs.Size.{growth-least, growth-fits}
-use Rattle.lengths.specs.declared.Grown.{Grown}
 use Rattle.lengths.specs.Calls.{Growing}
-use Rattle.lengths.specs.Results.{Grew}
 use Rattle.tables.specs.Tables.{weight_of, at_mark}
-use Rattle.tables.proofs.Followed.{Following, follow-none, follow-more, follow-all}
+use Rattle.tables.proofs.Followed.{Following, follow-none, follow-more, follow-long}
 use Rattle.tables.proofs.OnPath.{follow-next}
 use Rattle.tables.proofs.Stored.{set-weight, set-exists}
 use Rattle.lengths.proofs.Weighable.{Weighable, sum-most}
@@ -49,7 +47,7 @@ module _ {xs caps : List ℕ} {q g : ℕ} {p : List ℕ} (w : Growing xs caps q 
     arc = get_or p j 0
 
     -- The next arc is among the arcs, and its length still below the mark.
-    pub next_place : arc < length caps
+    next_place : arc < length caps
     next_place = w.places j l
 
     pub next-short : get_or ys arc 0 < 2 ^ 40
@@ -71,7 +69,7 @@ module _ {xs caps : List ℕ} {q g : ℕ} {p : List ℕ} (w : Growing xs caps q 
           (t : Bool) → t ≡ (b || leb mark v) →
           Lengthened caps xs q g p (j + 1) (set ys arc v) (d + get_or caps arc 0 * (v - get_or ys arc 0)) t
       lengthen-more t k =
-          let same : length ys ≡ length caps = r.follow.long ∙ w.same in
+          let same : length ys ≡ length caps = follow-long r.follow ∙ w.same in
           record {
             follow = follow-more arc v r.follow l refl h;
             weight = ap (λ x. x + get_or caps arc 0 * (v - get_or ys arc 0)) r.weight ∙ sym (set-weight caps ys arc v same next_place next-longer);
@@ -79,9 +77,3 @@ module _ {xs caps : List ℕ} {q g : ℕ} {p : List ℕ} (w : Growing xs caps q 
             marked =
                 k ∙ (ap (λ x. x || leb mark v) r.marked ∙ sym (set-exists (λ e. mark) ys arc v (omega (arith, next_place, same)) next-longer));
           }
-
--- All arcs of the path have grown.
-pub lengthen-all :
-    {caps xs : List ℕ} {q g : ℕ} {p : List ℕ} {j : ℕ} {ys : List ℕ} {r : Grown} → Lengthened caps xs q g p j ys r.weight r.marked →
-    length p ≤ j → Grew xs caps q g p ys r
-lengthen-all h l = record { lengths = follow-all h.follow l; weight = h.weight; marked = h.marked }

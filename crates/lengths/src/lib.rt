@@ -1,5 +1,5 @@
-// The lengths of all resources: their start, their growth where a path uses them and their halving. Each hands back the bound's D of what it leaves, so that
-// none is summed apart.
+// The lengths of all resources: their start, their growth where a path uses them and their halving. Each hands back the
+// bound's D of what it leaves, so that none is summed apart.
 #![tactic(auto)]
 
 ghost use Rattle.std.specs.Prelude.{◌≡◌, cond, map};
@@ -16,13 +16,11 @@ pub fn start(capacities: &[u64], lengths: &mut [u64]) -> u64
     ensures { Weighed (first_lengths capacities.now) capacities.now lengths.new result }
 {
     let mut d = 0;
-    let mut e = 0;
-    while e < capacities.len() {
+    for (e, l) in lengths.iter_mut().enumerate() {
         let capacity = capacities[e];
         let first = Length::start(capacity).value;
-        lengths[e] = first;
+        *l = first;
         d += capacity * first;
-        e += 1;
     }
     d
 }
@@ -43,9 +41,8 @@ fn grow(lengths: &mut [u64], capacities: &[u64], q: u64, g: u64, path: &[u64], w
 {
     let mut d = weight;
     let mut marked = false;
-    let mut j = 0;
-    while j < path.len() {
-        let e = path[j] as usize;
+    for e in path {
+        let e = *e as usize;
         let capacity = capacities[e];
         let old = lengths[e];
         let l = Length { value: old };
@@ -53,10 +50,7 @@ fn grow(lengths: &mut [u64], capacities: &[u64], q: u64, g: u64, path: &[u64], w
         let new = longer.value;
         lengths[e] = new;
         d += capacity * (new - old);
-        if longer.marked() {
-            marked = true;
-        }
-        j += 1;
+        marked |= longer.marked();
     }
     Grown { weight: d, marked }
 }
@@ -67,14 +61,10 @@ fn halve(lengths: &mut [u64], capacities: &[u64]) -> u64
     ensures { Weighed (map halving lengths.old) capacities.now lengths.new result }
 {
     let mut d = 0;
-    let mut e = 0;
-    while e < lengths.len() {
-        let old = lengths[e];
-        let l = Length { value: old };
-        let half = l.halving().value;
-        lengths[e] = half;
+    for (e, l) in lengths.iter_mut().enumerate() {
+        let half = Length { value: *l }.halving().value;
+        *l = half;
         d += capacities[e] * half;
-        e += 1;
     }
     d
 }
@@ -107,8 +97,5 @@ pub fn lengthen(
 {
     let grown = grow(lengths, capacities, q, g, path, weight);
     let d = settle(lengths, capacities, grown);
-    Grown {
-        weight: d,
-        marked: grown.marked,
-    }
+    Grown { weight: d, ..grown }
 }

@@ -17,9 +17,12 @@ module _ {net : Network} {q t : ℕ} {c : Choice} {a : ℕ} {s : State} {p : Pro
     pub pushing : Pushing net c.commodity c.path g s.flow
     pushing = rw drawn S.flow
 
-    pub loading : {Y : List ℕ} → Y ≡ s.loads → Loading Y (resource_capacities net) t (used_by net c) g
-    loading e = rw (e, drawn) (record { adding = S.loads; ending = K.ending; none = K.none })
+    module _ {caps path : List ℕ} (ec : caps ≡ resource_capacities net) (ep : path ≡ used_by net c) where
+      pub loading : {Y : List ℕ} → Y ≡ s.loads → Loading Y caps t path g
+      loading e = rw (e, drawn, ec, ep) (record { adding = S.loads; ending = K.ending; none = K.none })
 
-    pub lengthening : {L : List ℕ} → L ≡ s.lengths → Lengthening L (resource_capacities net) q g (used_by net c) p.weight
-    unfolding weight
-    lengthening e = rw (e, drawn) (record { growing = S.growing; grown = S.grown; weight = rw (resource-capacities-length net) K.weight })
+      pub lengthening : {L : List ℕ} → L ≡ s.lengths → Lengthening L caps q g path p.weight
+      unfolding weight
+      lengthening e =
+          rw (e, drawn, ec, ep)
+          (record { growing = S.growing; grown = S.grown; weight = rw (resource-capacities-length net) K.weight })

@@ -73,12 +73,15 @@ module _ (net : Network) (q t : ℕ) (c : Choice) (L : List ℕ) (F : List ℤ) 
 
   -- The same from what each part leaves, of the tables as they were then.
   pub put-together :
-      {a g : ℕ} {better : Bool} {F' : List ℤ} {K' Y₀ Y' L₀ L' : List ℕ} {ended : Bool} {grown : Grown} {r : Progress} →
-      p.weight ≡ weight net L → a ≡ path_length L path → g ≡ draw caps path → better ≡ ltb (p.weight * p.alpha) (p.bound * a) →
-      K' ≡ cond better L K → F' ≡ pushed net (c.commodity * arcs net) g (source net c.commodity) c.path F → Y₀ ≡ Y → Loaded Y₀ caps t path g Y' ended →
-      L₀ ≡ L → Lengthened L₀ caps q g path L' grown → r ≡ counted p g better a grown.weight grown.marked ended →
+      {caps' path' : List ℕ} {a g : ℕ} {better : Bool} {F' : List ℤ} {K' Y₀ Y' L₀ L' : List ℕ} {ended : Bool}
+      {grown : Grown} {r : Progress} →
+      caps' ≡ caps → path' ≡ path → p.weight ≡ weight net L → a ≡ path_length L path → g ≡ draw caps path →
+      better ≡ ltb (p.weight * p.alpha) (p.bound * a) → K' ≡ cond better L K →
+      F' ≡ pushed net (c.commodity * arcs net) g (source net c.commodity) c.path F → Y₀ ≡ Y →
+      Loaded Y₀ caps' t path' g Y' ended → L₀ ≡ L → Lengthened L₀ caps' q g path' L' grown →
+      r ≡ counted p g better a grown.weight grown.marked ended →
       Stepped net q t c (state_of L F Y K p) (state_of L' F' Y' K' r) r
-  put-together h ea eg eb ek ef ey loaded el long er =
+  put-together ec ep h ea eg eb ek ef ey loaded el long er =
       rw (
         er,
         long.weight,
@@ -93,5 +96,7 @@ module _ (net : Network) (q t : ℕ) (c : Choice) (L : List ℕ) (F : List ℤ) 
         eb,
         eg,
         ea,
+        ec,
+        ep,
       )
       (stepped h)

@@ -1,14 +1,21 @@
 -- The three tables of the resources in one slice: what each step leaves of them. Assumes nothing.
 use mathlib.Core.Path.{◌≡◌, refl, sym, ◌∙◌}
-use mathlib.Core.Bool.{Bool, true, false, cond}
-use mathlib.Core.List.{List}
-use Prim.Native.Nat.{ℕ, ◌+◌, ◌≤◌}
+use mathlib.Core.List.{List, append_assoc}
+use Prim.Native.Nat.{ℕ, ◌+◌, ◌-◌, ◌≤◌}
 use native.Mathlib.Omega.{arith}
-use lib.ListN.{length}
+use Rattle.std.specs.List.{copy_within}
+use lib.ListN.{length, take, drop}
+use lib.Seq.{drop-drop}
 use Rattle.bounds.specs.Bounds.{most_arcs}
 use Rattle.packed.specs.Packed.{part, put, lengths_from, loads_from, kept_from, table_numbers}
 use Rattle.packed.proofs.Columns.{part_length, put-length, part-put, part-behind, part-before}
-use Rattle.step.specs.Progress.{keeping}
+
+-- How std says that a part is copied elsewhere, and how the checker shows that it was put there.
+copied : (a b n : ℕ) (xs : List ℕ) → copy_within xs a (a + n) b ≡ put b n xs (part a n xs)
+copied a b n xs =
+    let there : a + n - a ≡ n = omega arith in
+    let here : b + n - b ≡ n = omega arith in
+    rw (there, here, drop-drop n b xs) (append_assoc (take b xs) (take n (drop a xs)) (drop (b + n) xs))
 
 -- The slice T has the lengths L, the loads Y and the kept lengths K of m resources.
 pub record Tabled (m : ℕ) (T L Y K : List ℕ) : Type 0 where
@@ -62,15 +69,13 @@ module _ {m : ℕ} {T L Y K : List ℕ} (H : Tabled m T L Y K) where
         kept = part-put kept_from m T ys (fits kept_from (omega arith)) same;
       }
 
-  -- The lengths kept, or not.
-  keeps : (better : Bool) → Tabled m (keeping better m T) L Y (cond better L K)
-  keeps true =
-      let k = with-kept (part lengths_from m T) (part-size lengths_from (omega arith) ∙ sym (part-size kept_from (omega arith))) in
-      record { few = k.few; places = k.places; lengths = k.lengths; loads = k.loads; kept = k.kept ∙ H.lengths }
-  keeps false = H
-
-  pub with-keeping : (better : Bool) {T' : List ℕ} → T' ≡ keeping better m T → Tabled m T' L Y (cond better L K)
-  with-keeping better e = rw e (keeps better)
+  -- The lengths kept, as std says that they are copied further on.
+  pub keeps : {T' : List ℕ} → T' ≡ copy_within T lengths_from (lengths_from + m) kept_from → Tabled m T' L Y L
+  keeps e =
+      let same = part-size lengths_from (omega arith) ∙ sym (part-size kept_from (omega arith)) in
+      let k = with-kept (part lengths_from m T) same in
+      rw (e, copied lengths_from kept_from m T)
+      (record { few = k.few; places = k.places; lengths = k.lengths; loads = k.loads; kept = k.kept ∙ H.lengths })
 
   -- What holds of the tables holds of those in the slice.
   pub in-slice : (P : List ℕ → List ℕ → List ℕ → Type 0) → P L Y K → P (part lengths_from m T) (part loads_from m T) (part kept_from m T)

@@ -1,6 +1,6 @@
 -- The tables and numbers of a run as the method's state.
 use Rattle.std.specs.Prelude.{Bool, false, cond, List, ℕ, ◌+◌, ℤ}
-use Rattle.packed.specs.Packed.{part, put, lengths_from, kept_from, lengths_in, loads_in, kept_in}
+use Rattle.packed.specs.Packed.{lengths_in, loads_in, kept_in}
 use Rattle.packed.specs.declared.Shape.{Shape}
 use Rattle.method.specs.Iteration.{State, draw}
 use Rattle.tables.specs.Tables.{longer, at_mark}
@@ -24,10 +24,6 @@ state_of lengths flow loads kept p =
 -- The same where the tables of the resources stand in one slice.
 abbrev pub state_in : Shape → List ℤ → List ℕ → Progress → State
 state_in s flow tables p = state_of (lengths_in s tables) flow (loads_in s tables) (kept_in s tables) p
-
--- Those tables, with the lengths of m resources kept where they gave a better bound.
-abbrev pub keeping : Bool → ℕ → List ℕ → List ℕ
-keeping better m tables = cond better (put kept_from m tables (part lengths_from m tables)) tables
 
 -- Before the first iteration, where D is d.
 abbrev pub begun_with : ℕ → Progress

@@ -1,10 +1,9 @@
 // One step of the run on the lent tables: what an iteration does once its path is chosen.
 #![tactic(auto)]
 
-ghost use Rattle.std.specs.Prelude.{◌≡◌, ◌+◌, ◌≤◌, ◌<◌, ◌^◌, length};
-ghost use Rattle.bounds.specs.Bounds.{most_arcs};
-ghost use Rattle.packed.specs.Packed.{net_in, table_numbers};
-ghost use Rattle.step.specs.Progress.{state_in, keeping, counted};
+ghost use Rattle.std.specs.Prelude.{◌≡◌, ◌+◌, ◌<◌, ◌^◌};
+ghost use Rattle.packed.specs.Packed.{net_in};
+ghost use Rattle.step.specs.Progress.{state_in, counted};
 ghost use Rattle.step.specs.Steps.{chosen_in, Steppable, Stepped};
 
 use lengths::Grown;
@@ -27,43 +26,29 @@ pub struct Progress {
     pub ended: bool,
 }
 
-// The lengths kept where they gave a better bound.
-fn keep(better: bool, m: usize, tables: &mut [u64])
-    requires { (m ≤ most_arcs) × (table_numbers ≤ length tables.old) }
-    ensures { tables.new ≡ keeping better m tables.old }
-{
-    if better {
-        loads::copy_within(tables, LENGTHS, KEPT, m);
-    }
-}
-
-// One more iteration, with draw g and fraction D / alpha, that left lengths grown so.
-fn count(p: Progress, g: u64, better: bool, alpha: u64, grown: Grown, ended: bool) -> Progress
-    requires { (p.total + g < 2 ^ 64) × (p.count + 1 < 2 ^ 64) }
-    ensures { result ≡ counted p g better alpha grown.weight grown.marked ended }
-{
-    let number = p.count + 1;
-    if better {
-        Progress {
-            total: p.total + g,
-            count: number,
-            bound: p.weight,
-            alpha,
-            best: number,
+impl Progress {
+    // One more iteration, with draw g and fraction D / alpha, that left lengths grown so.
+    fn counted(self, g: u64, better: bool, alpha: u64, grown: Grown, ended: bool) -> Progress
+        requires { (self.total + g < 2 ^ 64) × (self.count + 1 < 2 ^ 64) }
+        ensures { result ≡ counted self g better alpha grown.weight grown.marked ended }
+    {
+        let next = Progress {
+            total: self.total + g,
+            count: self.count + 1,
             weight: grown.weight,
             halved: grown.marked,
             ended,
-        }
-    } else {
-        Progress {
-            total: p.total + g,
-            count: number,
-            bound: p.bound,
-            alpha: p.alpha,
-            best: p.best,
-            weight: grown.weight,
-            halved: grown.marked,
-            ended,
+            ..self
+        };
+        if better {
+            Progress {
+                bound: self.weight,
+                alpha,
+                best: next.count,
+                ..next
+            }
+        } else {
+            next
         }
     }
 }
@@ -89,9 +74,10 @@ pub fn step(
     let m = s.resources;
     let g = draws::draw(capacities, path);
     let better = arith::less_product(p.weight, p.alpha, p.bound, c.alpha);
-    keep(better, m, tables);
-    let arcs = c.arcs;
-    draws::push(flow, s, net, c.commodity, &path[..arcs], g);
+    if better {
+        tables.copy_within(LENGTHS..LENGTHS + m, KEPT);
+    }
+    draws::push(flow, s, net, c.commodity, &path[..c.arcs], g);
     let ended = loads::load(
         &mut tables[LOADS..LOADS + m],
         capacities,
@@ -107,5 +93,5 @@ pub fn step(
         path,
         p.weight,
     );
-    count(p, g, better, c.alpha, grown, ended)
+    p.counted(g, better, c.alpha, grown, ended)
 }

@@ -1,13 +1,13 @@
--- A table updated along a path: what it is after the first arcs of the path, one arc further, and after all.
+-- A table updated along a path: what it is after the first arcs of the path, and one arc further.
 -- Assumes nothing.
-use mathlib.Core.Path.{◌≡◌, refl, ap, ◌∙◌}
+use mathlib.Core.Path.{◌≡◌, refl}
 use mathlib.Core.List.{List, [], ◌∷◌}
-use Prim.Native.Nat.{ℕ, zero, suc, ◌+◌, ◌≤◌, ◌<◌}
+use Prim.Native.Nat.{ℕ, zero, suc, ◌+◌, ◌<◌}
 use native.Mathlib.Nat.{le_of_suc-le-suc, not-suc-le-zero}
 use native.Mathlib.Numerals.{add-one}
-use lib.ListN.{length, get_or, take, set, length-set}
-use lib.Seq.{take_all}
+use lib.ListN.{length, get_or, take, set}
 use Rattle.method.specs.Iteration.{update}
+use Rattle.method.proofs.Times.{update-length}
 
 -- xs after arc e had its turn
 abbrev turned : (ℕ → ℕ → ℕ) → ℕ → List ℕ → List ℕ
@@ -23,20 +23,19 @@ further f (e ∷ p) xs (suc j) l = further f p (turned f e xs) j (le_of_suc-le-s
 -- The table ys on the way from xs, with the first j arcs of the path p done.
 pub record Following (f : ℕ → ℕ → ℕ) (p : List ℕ) (j : ℕ) (xs ys : List ℕ) : Type 0 where
   pub now : ys ≡ update f (take j p) xs
-  pub long : length ys ≡ length xs
 
 -- No arc has had its turn.
 pub follow-none : (f : ℕ → ℕ → ℕ) (p xs : List ℕ) → Following f p 0 xs xs
 unfolding update
-follow-none f p xs = record { now = refl; long = refl }
+follow-none f p xs = record { now = refl }
 
 -- The next arc of the path has its turn.
 pub follow-more :
     {f : ℕ → ℕ → ℕ} {p : List ℕ} {j : ℕ} {xs ys : List ℕ} (e v : ℕ) → Following f p j xs ys → j < length p → e ≡ get_or p j 0 → v ≡ f e (get_or ys e 0) →
     Following f p (j + 1) xs (set ys e v)
 follow-more {f} {p} {j} {xs} {ys} e v h l k w =
-    record { now = rw (add-one, w, k, h.now) (further f p xs j l); long = length-set ys e v ∙ h.long }
+    record { now = rw (add-one, w, k, h.now) (further f p xs j l) }
 
--- All arcs have had theirs.
-pub follow-all : {f : ℕ → ℕ → ℕ} {p : List ℕ} {j : ℕ} {xs ys : List ℕ} → Following f p j xs ys → length p ≤ j → ys ≡ update f p xs
-follow-all {f} {p} {j} {xs} h l = h.now ∙ ap (λ (q : List ℕ). update f q xs) (take_all j p l)
+-- The table keeps its length.
+pub follow-long : {f : ℕ → ℕ → ℕ} {p : List ℕ} {j : ℕ} {xs ys : List ℕ} → Following f p j xs ys → length ys ≡ length xs
+follow-long {f} {p} {j} {xs} h = rw h.now (update-length f (take j p) xs)

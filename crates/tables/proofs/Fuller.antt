@@ -4,7 +4,6 @@ use mathlib.Core.Path.{◌≡◌, refl}
 use mathlib.Core.Bool.{cond}
 use mathlib.Core.List.{List}
 use Prim.Native.Nat.{ℕ, zero, suc, ◌+◌, ◌-◌, ◌*◌, ◌≤◌, ◌<◌}
-use native.Mathlib.Nat.{le_antisymm}
 use native.Mathlib.Omega.{arith}
 use borrow.Author.Tests.{lt-ltb, le-ltb}
 use lib.Dec.{ltb}
@@ -25,28 +24,24 @@ compared :
 compared caps loads b zero l h = absurd (omega arith)
 compared caps loads b (suc n) l h = one_more caps loads b n (suc n - 1) (suc n + 1 - 1) (omega arith) (omega arith) h
 
--- b is the fullest of the first e arcs, of which there are m in all.
-pub record Ranked (caps loads : List ℕ) (m e b : ℕ) : Type 0 where
+-- b is the fullest of the first e arcs.
+pub record Ranked (caps loads : List ℕ) (e b : ℕ) : Type 0 where
   pub now : b ≡ fullest caps loads (e - 1)
   pub among : b < e
-  pub within : e ≤ m
 
 -- The first arc alone.
-pub rank-first : (caps loads : List ℕ) (m : ℕ) → 1 ≤ m → Ranked caps loads m 1 0
+pub rank-first : (caps loads : List ℕ) → Ranked caps loads 1 0
 unfolding fullest
-rank-first caps loads m l = record { now = refl; among = omega arith; within = l }
+rank-first caps loads = record { now = refl; among = omega arith }
 
 -- Arc e is fuller than b, or is not.
-module _ {caps loads : List ℕ} {m e b : ℕ} (r : Ranked caps loads m e b) (l : e < m) where
+module _ {caps loads : List ℕ} {e b : ℕ} (r : Ranked caps loads e b) where
   next : cond (ltb (get_or loads b 0 * get_or caps e 0) (get_or loads e 0 * get_or caps b 0)) e b ≡ fullest caps loads (e + 1 - 1)
   next = compared caps loads b e (omega (arith, r.among)) r.now
 
-  pub rank-fuller : get_or loads b 0 * get_or caps e 0 < get_or loads e 0 * get_or caps b 0 → Ranked caps loads m (e + 1) e
-  rank-fuller k = record { now = rw (lt-ltb _ _ k) at next; among = omega arith; within = omega arith }
+  pub rank-fuller :
+      get_or loads b 0 * get_or caps e 0 < get_or loads e 0 * get_or caps b 0 → Ranked caps loads (e + 1) e
+  rank-fuller k = record { now = rw (lt-ltb _ _ k) at next; among = omega arith }
 
-  pub rank-other : get_or loads e 0 * get_or caps b 0 ≤ get_or loads b 0 * get_or caps e 0 → Ranked caps loads m (e + 1) b
-  rank-other k = record { now = rw (le-ltb _ _ k) at next; among = omega (arith, r.among); within = omega arith }
-
--- No arc is left.
-pub rank-all : {caps loads : List ℕ} {m e b : ℕ} → Ranked caps loads m e b → m ≤ e → b ≡ fullest caps loads (m - 1)
-rank-all {caps} {loads} {m} {e} r l = let q : m ≡ e = le_antisymm l r.within in rw q r.now
+  pub rank-other : get_or loads e 0 * get_or caps b 0 ≤ get_or loads b 0 * get_or caps e 0 → Ranked caps loads (e + 1) b
+  rank-other k = record { now = rw (le-ltb _ _ k) at next; among = omega (arith, r.among) }

@@ -1,12 +1,10 @@
 pub mod Amounts
-pub mod Copied
 pub mod Crossings
 pub mod Filled
 pub mod Followed
 pub mod Fuller
 pub mod Instances
 pub mod Loadings
-pub mod Lowered
 pub mod OnPath
 pub mod Pushed
 pub mod Stored

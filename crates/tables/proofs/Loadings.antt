@@ -1,18 +1,17 @@
--- A draw added to the loads along a path: what they and the test of the threshold are after the first arcs, one arc further, and after all.
+-- A draw added to the loads along a path: what they and the test of the threshold are after the first arcs, and one arc
+-- further.
 -- Assumes nothing.
 use mathlib.Core.Path.{◌≡◌, refl, sym, ap, ◌∙◌}
 use mathlib.Core.Bool.{Bool, false, ◌||◌}
 use mathlib.Core.List.{List}
-use Prim.Native.Nat.{ℕ, ◌+◌, ◌*◌, ◌^◌, ◌≤◌, ◌<◌}
-use native.Mathlib.Nat.{mul-le-mul}
+use Prim.Native.Nat.{ℕ, ◌+◌, ◌*◌, ◌^◌, ◌<◌}
 use native.Mathlib.Omega.{arith}
 use lib.Dec.{leb}
 use lib.ListN.{length, get_or, set}
 use Rattle.tables.specs.Calls.{Loading}
-use Rattle.tables.specs.Results.{Loaded}
 use Rattle.tables.specs.Tables.{at_threshold}
 use Rattle.tables.proofs.Amounts.{follow-most}
-use Rattle.tables.proofs.Followed.{Following, follow-none, follow-more, follow-all}
+use Rattle.tables.proofs.Followed.{Following, follow-none, follow-more, follow-long}
 use Rattle.tables.proofs.Stored.{set-exists}
 
 -- Of the loads ys, with the first j arcs of the path p raised: b is the test of the threshold t.
@@ -29,17 +28,13 @@ module _ {xs caps : List ℕ} {t : ℕ} {p : List ℕ} {g : ℕ} (w : Loading xs
     abbrev arc : ℕ
     arc = get_or p j 0
 
-    -- The next arc is among the arcs; its load and what that is compared with are small.
-    pub next_place : arc < length xs
+    -- The next arc is among the arcs, and its load is small.
+    next_place : arc < length xs
     next_place = omega (arith, w.adding.places j l)
 
     pub next-load : get_or ys arc 0 < 2 ^ 32 + 128 * 1000
     next-load =
         omega (arith, follow-most 128 1000 r.follow w.adding.few w.adding.small arc, w.adding.amounts arc next_place)
-
-    pub next-limit : t * get_or caps arc 0 ≤ 2 ^ 20 * 1000
-    next-limit =
-        mul-le-mul {n₁ = t} {n₂ = 2 ^ 20} (omega (arith, w.ending.small)) (w.ending.sizes arc (omega (arith, next_place, w.ending.same)))
 
     pub raise-more :
         (f : Bool) → f ≡ (b || leb (t * get_or caps arc 0) (get_or ys arc 0 + g)) →
@@ -49,13 +44,8 @@ module _ {xs caps : List ℕ} {t : ℕ} {p : List ℕ} {g : ℕ} (w : Loading xs
         record {
           follow = follow-more arc v r.follow l refl refl;
           full =
+              let among : arc < length ys = omega (arith, next_place, follow-long r.follow) in
               k ∙
               (ap (λ x. x || leb (t * get_or caps arc 0) v) r.full ∙
-              sym (set-exists (λ e. t * get_or caps e 0) ys arc v (omega (arith, next_place, r.follow.long)) (omega arith)));
+              sym (set-exists (λ e. t * get_or caps e 0) ys arc v among (omega arith)));
         }
-
--- All arcs of the path are raised.
-pub raise-all :
-    {caps xs : List ℕ} {t : ℕ} {p : List ℕ} {g j : ℕ} {ys : List ℕ} {b : Bool} → Raised caps xs t p g j ys b → length p ≤ j →
-    Loaded xs caps t p g ys b
-raise-all h l = record { loads = follow-all h.follow l; ended = h.full }

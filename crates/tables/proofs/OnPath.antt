@@ -39,6 +39,22 @@ follow-next {f} {p} {j} {xs} h l k = rw h.now (update_other f (take j p) xs (get
 pub draw-at : (capacities p : List ℕ) (j : ℕ) → j < length p → draw capacities p ≤ get_or capacities (get_or p j 0) 0
 draw-at capacities p j l = draw-within capacities p (get_or p j 0) (times-at p j l)
 
+-- it is the greatest such number,
+draw-greatest :
+    (capacities p : List ℕ) (g : ℕ) → 1 ≤ length p → ((j : ℕ) → j < length p → g ≤ get_or capacities (get_or p j 0) 0) →
+    g ≤ draw capacities p
+unfolding draw
+draw-greatest capacities [] g l h = absurd (not-suc-le-zero l)
+draw-greatest capacities (e ∷ []) g l h = h 0 (omega arith)
+draw-greatest capacities (e ∷ (d ∷ p)) g l h =
+    omega (arith, h 0 (omega arith), draw-greatest capacities (d ∷ p) g (omega arith) (λ j b. h (suc j) (omega arith)))
+
+pub draw-least :
+    (capacities p : List ℕ) {g : ℕ} → ((j : ℕ) → j < length p → g ≤ get_or capacities (get_or p j 0) 0) →
+    ((j : ℕ) × (j < length p) × (g ≡ get_or capacities (get_or p j 0) 0)) → g ≡ draw capacities p
+draw-least capacities p {g} h (j, l, q) =
+    omega (arith, draw-greatest capacities p g (omega arith) h, draw-at capacities p j l)
+
 -- and so at most 1000.
 pub draw-most : (capacities p : List ℕ) → 1 ≤ length p → Under (length capacities) p → NoneAbove 1000 capacities → draw capacities p ≤ 1000
 draw-most capacities p l u w = le_trans (draw-at capacities p 0 l) (w (get_or p 0 0) (u 0 l))

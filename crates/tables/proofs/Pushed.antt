@@ -10,7 +10,7 @@ use native.Mathlib.Omega.{arith}
 use borrow.Author.Tests.{eqb-true, eqb-false}
 use lib.Dec.{eqb}
 use lib.IntN.{ℤ, pos}
-use lib.ListN.{length, get_or, set, drop, length-set, drop_of_length-le}
+use lib.ListN.{length, get_or, set, drop, drop_of_length-le}
 use lib.Seq.{get_or-set_same, get_or-set_other}
 use Rattle.signed.specs.Signed.{size, moved}
 use Rattle.signed.proofs.Signed.{moved-size}
@@ -26,7 +26,6 @@ drop-next (e ∷ p) (suc j) l = drop-next p j (le_of_suc-le-suc l)
 -- The flow ys on the way from xs, drawn over the first j arcs of the path p from u, to node v.
 pub record Underway (net : Network) (base g u : ℕ) (p : List ℕ) (xs : List ℤ) (v j : ℕ) (ys : List ℤ) : Type 0 where
   pub rest : pushed net base g v (drop j p) ys ≡ pushed net base g u p xs
-  pub long : length ys ≡ length xs
   pub sizes : (k : ℕ) → k < length xs → size (get_or ys k (pos 0)) ≤ size (get_or xs k (pos 0)) + j * g
 
 module _ (net : Network) (base g : ℕ) where
@@ -44,21 +43,17 @@ module _ (net : Network) (base g : ℕ) where
       by_place false q =
           omega (arith, ap (λ y. size y) (get_or-set_other xs (base + e) k x (pos 0) (eqb-false k (base + e) q)))
 
-  -- No arc has had its turn,
-  pub push-none : (u : ℕ) (p : List ℕ) (xs : List ℤ) → Underway net base g u p xs u 0 xs
-  push-none u p xs = record { rest = refl; long = refl; sizes = λ k l. omega arith }
-
-  -- and the next has it.
+  -- The next arc has its turn.
   pub push-more :
-      {u v j w : ℕ} {p : List ℕ} {xs ys zs : List ℤ} → Underway net base g u p xs v j ys → j < length p →
+      {u v j w : ℕ} {p : List ℕ} {xs ys zs : List ℤ} →
+      Underway net base g u p xs v j ys → length ys ≡ length xs → j < length p →
       zs ≡ crossed net base g v (get_or p j 0) ys → w ≡ beyond net v (get_or p j 0) → Underway net base g u p xs w (j + 1) zs
   unfolding pushed
-  push-more {u} {v} {j} {w} {p} {xs} {ys} {zs} U l e f =
+  push-more {u} {v} {j} {w} {p} {xs} {ys} {zs} U long l e f =
       rw (e, f)
       (record {
         rest = rw add-one (sym (ap (λ r. pushed net base g v r ys) (drop-next p j l)) ∙ U.rest);
-        long = length-set ys (base + get_or p j 0) _ ∙ U.long;
-        sizes = λ k b. omega (arith, cross-most v (get_or p j 0) ys k (omega (arith, U.long)), U.sizes k b);
+        sizes = λ k b. omega (arith, cross-most v (get_or p j 0) ys k (omega (arith, long)), U.sizes k b);
       })
 
 -- All arcs have had their turn.

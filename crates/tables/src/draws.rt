@@ -14,17 +14,7 @@ pub fn draw(capacities: &[u64], path: &[u64]) -> u64
     requires { (1 ≤ length path.now) × Under (length capacities.now) path.now }
     ensures { result ≡ draw capacities.now path.now }
 {
-    let first = path[0] as usize;
-    let mut g = capacities[first];
-    let mut j = 1;
-    while j < path.len() {
-        let e = path[j] as usize;
-        if capacities[e] < g {
-            g = capacities[e];
-        }
-        j += 1;
-    }
-    g
+    path.iter().map(|e| capacities[*e as usize]).min().unwrap()
 }
 
 // The draw g over arc e taken at node v, in the row of a flow that begins at base: forward from its tail, back from its head. Its other end.
@@ -34,13 +24,12 @@ fn cross(flow: &mut [i64], s: Shape, net: &[u64], base: usize, g: u64, v: u64, e
 {
     let x = flow[base + e];
     if net[TAILS + e] == v {
-        let y = signed::more(x, g);
-        flow[base + e] = y;
-        return net[HEADS + e];
+        flow[base + e] = signed::more(x, g);
+        net[HEADS + e]
+    } else {
+        flow[base + e] = signed::less(x, g);
+        net[TAILS + e]
     }
-    let y = signed::less(x, g);
-    flow[base + e] = y;
-    net[TAILS + e]
 }
 
 // The draw g along the path of a commodity, in its row of the flow.
@@ -51,9 +40,7 @@ pub fn push(flow: &mut [i64], s: Shape, net: &[u64], commodity: usize, path: &[u
 {
     let base = commodity * s.arcs;
     let mut v = net[SOURCES + commodity];
-    let mut j = 0;
-    while j < path.len() {
-        v = cross(flow, s, net, base, g, v, path[j] as usize);
-        j += 1;
+    for e in path {
+        v = cross(flow, s, net, base, g, v, *e as usize);
     }
 }

@@ -12,15 +12,11 @@ pub fn load(loads: &mut [u64], capacities: &[u64], threshold: u64, path: &[u64],
     ensures { Loaded loads.old capacities.now threshold path.now g loads.new result }
 {
     let mut full = false;
-    let mut j = 0;
-    while j < path.len() {
-        let e = path[j] as usize;
+    for e in path {
+        let e = *e as usize;
         let y = loads[e] + g;
         loads[e] = y;
-        if threshold * capacities[e] <= y {
-            full = true;
-        }
-        j += 1;
+        full |= threshold * capacities[e] <= y;
     }
     full
 }
@@ -31,12 +27,10 @@ pub fn fullest(loads: &[u64], capacities: &[u64]) -> usize
     ensures { (result ≡ fullest capacities.now loads.now (length loads.now - 1)) × (result < length loads.now) }
 {
     let mut b = 0;
-    let mut e = 1;
-    while e < loads.len() {
+    for e in 1..loads.len() {
         if loads[b] * capacities[e] < loads[e] * capacities[b] {
             b = e;
         }
-        e += 1;
     }
     b
 }
@@ -45,22 +39,14 @@ pub fn fullest(loads: &[u64], capacities: &[u64]) -> usize
 pub fn clear(table: &mut [u64])
     ensures { table.new ≡ replicate (length table.old) 0 }
 {
-    let mut e = 0;
-    while e < table.len() {
-        table[e] = 0;
-        e += 1;
-    }
+    table.fill(0);
 }
 
 // Nothing on every arc.
 pub fn clear_flow(flow: &mut [i64])
     ensures { flow.new ≡ replicate (length flow.old) (pos 0) }
 {
-    let mut e = 0;
-    while e < flow.len() {
-        flow[e] = 0;
-        e += 1;
-    }
+    flow.fill(0);
 }
 
 // One table's numbers put into another.
@@ -68,11 +54,7 @@ pub fn copy(from: &[u64], to: &mut [u64])
     requires { length to.old ≡ length from.now }
     ensures { to.new ≡ from.now }
 {
-    let mut e = 0;
-    while e < from.len() {
-        to[e] = from[e];
-        e += 1;
-    }
+    to.copy_from_slice(from);
 }
 
 // The n numbers from one place of a table on put at another place, further on.
@@ -80,9 +62,5 @@ pub fn copy_within(table: &mut [u64], from: usize, to: usize, n: usize)
     requires { (from + n ≤ to) × (to + n ≤ length table.old) }
     ensures { table.new ≡ put to n table.old (part from n table.old) }
 {
-    let mut e = 0;
-    while e < n {
-        table[to + e] = table[from + e];
-        e += 1;
-    }
+    table.copy_within(from..from + n, to);
 }

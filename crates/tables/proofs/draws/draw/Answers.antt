@@ -1,47 +1,23 @@
--- `tables::draws::draw` meets its contract: g, lowered by the arcs that are left, is the draw.
--- Assumes nothing.
-use Prim.Native.Nat.{◌<◌}
-use native.Mathlib.Omega.{arith}
-use lib.ListN.{length, get_or}
-use Rattle.tables.proofs.Lowered.{lower-first, lower-more, lower-all}
+-- `tables::draws::draw` meets its contract: each place of the path has an arc, and the least of their capacities is the
+-- draw. Assumes nothing.
+use Rattle.std.proofs.Common.{rules, arith, ◌<◌, length}
+use Rattle.std.proofs.iter.runs.Made.{chains}
+use Rattle.std.proofs.lemmas.Grind.{get_or_default_zero}
+use Rattle.std.proofs.lemmas.Iterator.{YieldsList-from_slice}
+use Rattle.std.proofs.lemmas.Iterator.Adapters.{serves_from_places}
+use Rattle.tables.proofs.OnPath.{draw-least}
 use Rattle.tables.proofs.draws.draw.Goals as goal
-use Rattle.tables.proofs.draws.draw.Goals.{In-loop-j, Start, then-capacities-e, else-capacities-e}
 
--- the arc at the first place and that at the present one are among the arcs
-first : (c : Start) → get_or c.args.path.now 0 0 < length c.args.capacities.now
-first c = c.requires.1 0 c.requires.0
-
-place : (c : In-loop-j) → get_or c.args.path.now c.loop-j.j 0 < length c.args.capacities.now
-place c = c.requires.1 c.loop-j.j (omega arith)
-
-pub offset_bounds-capacities-first : goal.offset_bounds-capacities-first
-offset_bounds-capacities-first c = omega (arith, first (goal.at.offset_bounds-capacities-first c).Start)
-
-pub bounds-capacities-first : goal.bounds-capacities-first
-bounds-capacities-first c = omega (arith, first (goal.at.bounds-capacities-first c).Start)
-
-pub loop-j-init : goal.loop-j-init
-loop-j-init c = lower-first _ _ (omega arith)
-
-pub offset_bounds-capacities-e : goal.offset_bounds-capacities-e
-offset_bounds-capacities-e c = omega (arith, place (goal.at.offset_bounds-capacities-e c).In-loop-j)
-
-pub bounds-capacities-e : goal.bounds-capacities-e
-bounds-capacities-e c = omega (arith, place (goal.at.bounds-capacities-e c).In-loop-j)
-
-pub offset_bounds-capacities-e-then-capacities-e : goal.offset_bounds-capacities-e-then-capacities-e
-offset_bounds-capacities-e-then-capacities-e c = omega (arith, place (goal.at.offset_bounds-capacities-e-then-capacities-e c).In-loop-j)
-
-pub bounds-capacities-e-then-capacities-e : goal.bounds-capacities-e-then-capacities-e
-bounds-capacities-e-then-capacities-e c = omega (arith, place (goal.at.bounds-capacities-e-then-capacities-e c).In-loop-j)
-
-pub loop-j-preserved : goal.loop-j-preserved
-loop-j-preserved c =
-    let turn = c.loop-j in
-    elim c.if-capacities-e.branch [
-      | then-capacities-e w ↦ lower-more _ turn.invariant (omega arith) (omega arith)
-      | else-capacities-e w ↦ lower-more _ turn.invariant (omega arith) (omega arith)
-    ]
+pub min-requires-clause-can : goal.min-requires-clause-can
+min-requires-clause-can c =
+    let path = c.args.path.now in (
+      tt,
+      serves_from_places (YieldsList-from_slice path (cc)) (λ x q k. search rules)
+          (λ x k l e.
+          let b : x.now < length c.args.capacities.now =
+          omega (arith, e, get_or_default_zero path k x.now l, c.requires.1 k l) in
+          search rules),
+    )
 
 pub returns : goal.returns
-returns c = lower-all c.loop-j.invariant (omega arith)
+returns c = draw-least _ _ (λ k l. search (rules, chains)) (search (rules, chains))

@@ -1,13 +1,8 @@
--- `tables::draws::push` meets its contract: after j turns the flow is drawn over the first j arcs of the path, and no amount has grown by more than
--- 64 draws, so the sums fit. Assumes nothing.
-use Prim.Native.Nat.{◌-◌}
-use lib.ListN.{length}
+-- `tables::draws::push` meets its contract: the flow is drawn over the arcs passed, and no amount has grown by more
+-- than a draw for each of them. Assumes nothing.
 use Rattle.packed.specs.Packed.{net_in}
 use Rattle.tables.proofs.Pushed.{Underway}
 use Rattle.tables.proofs.draws.push.Given as goal
 
-abbrev pub invariant-loop-j : goal.invariant-loop-j
-invariant-loop-j l = Underway (net_in l.s l.net) l.base l.g l.initial.v l.path l.initial.flow l.v l.j l.flow
-
-abbrev pub decreases-loop-j : goal.decreases-loop-j
-decreases-loop-j l = length l.path - l.j
+abbrev pub invariant-loop-e : goal.invariant-loop-e
+invariant-loop-e l = Underway (net_in l.s l.net) l.base l.g l.initial.v l.path l.initial.flow l.v l.e-index l.flow
