@@ -27,12 +27,10 @@ fn put_totes(belts: &[u8], pairs: &[u8], flow: &[u8], answer: &[u8], totes: &mut
     let k = numbers::items(pairs, 2);
     let capacity = numbers::read(answer, 1);
     let load = numbers::read(answer, 2);
-    let mut i = 0;
-    while i < k {
+    for i in 0..k {
         let source = numbers::read(pairs, 2 * i);
         let scaled = sent::leaves(belts, flow, i * m, source) * capacity;
         put_pair(totes, i, scaled, load);
-        i += 1;
     }
 }
 
