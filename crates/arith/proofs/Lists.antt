@@ -5,7 +5,7 @@ use mathlib.Core.List.{List, [], ◌∷◌, map}
 use Prim.Native.Nat.{ℕ, zero, suc, ◌<◌}
 use native.Mathlib.Nat.{le_of_suc-le-suc}
 use native.Mathlib.Omega.{arith}
-use lib.ListN.{length, get_or, set, replicate}
+use lib.ListN.{length, get_or, take, set, replicate}
 
 -- A store of a value that has the property.
 pub all_set {ℓ} : {A : Type ℓ} (P : A → Type 0) (d : A) (xs : List A) (i : ℕ) (v : A) → ((j : ℕ) → P (get_or xs j d)) → P v → (j : ℕ) → P (get_or (set xs i v) j d)
@@ -14,6 +14,14 @@ all_set P d (x ∷ xs) zero v h p zero = p
 all_set P d (x ∷ xs) zero v h p (suc j) = h (suc j)
 all_set P d (x ∷ xs) (suc i) v h p zero = h zero
 all_set P d (x ∷ xs) (suc i) v h p (suc j) = all_set P d xs i v (λ k. h (suc k)) p j
+
+-- The first n entries of a list whose entries and default have the property.
+pub all_take {ℓ} : {A : Type ℓ} (P : A → Type 0) (d : A) (n : ℕ) (xs : List A) → ((j : ℕ) → P (get_or xs j d)) → P d
+    → (j : ℕ) → P (get_or (take n xs) j d)
+all_take P d zero xs h p j = p
+all_take P d (suc n) [] h p j = p
+all_take P d (suc n) (x ∷ xs) h p zero = h zero
+all_take P d (suc n) (x ∷ xs) h p (suc j) = all_take P d n xs (λ k. h (suc k)) p j
 
 -- f of every number of a list, read at a place.
 pub map_at : (f : ℕ → ℕ) (xs : List ℕ) (i : ℕ) → i < length xs → get_or (map f xs) i 0 ≡ f (get_or xs i 0)

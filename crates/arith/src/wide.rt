@@ -3,7 +3,7 @@ ghost use Rattle.std.specs.Prelude.{◌+◌, ◌*◌, ◌<◌, ◌≡◌, ltb};
 ghost use Rattle.arith.specs.Limbs.{base, width, limit, from_limbs, Limbs, Writes};
 
 // What a limb is below.
-const BASE: u64 = 0x1_0000_0000;
+const BASE: u64 = 1 << 32;
 
 // How many limbs a number has. To hold larger numbers, raise this and the specification's width.
 const LIMBS: usize = 5;
@@ -13,33 +13,30 @@ pub struct Wide {
     pub limbs: [u64; LIMBS],
 }
 
-impl Wide {
-    // The number x.
-    pub fn from(x: u64) -> Wide
-        ensures { Writes result.limbs x }
-    {
+impl From<u64> for Wide {
+    ghost from_gives = { λ x w. Writes w.limbs x };
+
+    fn from(x: u64) -> Wide {
         let mut r = [0; LIMBS];
         r[0] = x % BASE;
         r[1] = x / BASE;
         Wide { limbs: r }
     }
+}
 
+impl Wide {
     // self * k + other, for one limb k: t is below 2 ^ 64, since limbs and carry are below 2 ^ 32.
     fn times_plus(self, k: u64, other: Wide) -> Wide
         requires { Limbs width self.limbs × Limbs width other.limbs × (k < base)
             × (from_limbs self.limbs * k + from_limbs other.limbs < limit) }
         ensures { Writes result.limbs (from_limbs self.limbs * k + from_limbs other.limbs) }
     {
-        let x = self.limbs;
-        let y = other.limbs;
         let mut r = [0; LIMBS];
         let mut carry = 0;
-        let mut i = 0;
-        while i < LIMBS {
-            let t = x[i] * k + y[i] + carry;
+        for i in 0..LIMBS {
+            let t = self.limbs[i] * k + other.limbs[i] + carry;
             r[i] = t % BASE;
             carry = t / BASE;
-            i += 1;
         }
         Wide { limbs: r }
     }
@@ -49,13 +46,8 @@ impl Wide {
         requires { Limbs width self.limbs × (base * from_limbs self.limbs < limit) }
         ensures { Writes result.limbs (base * from_limbs self.limbs) }
     {
-        let x = self.limbs;
         let mut r = [0; LIMBS];
-        let mut i = 0;
-        while i + 1 < LIMBS {
-            r[i + 1] = x[i];
-            i += 1;
-        }
+        r[1..].copy_from_slice(&self.limbs[..LIMBS - 1]);
         Wide { limbs: r }
     }
 
@@ -73,13 +65,9 @@ impl Wide {
         requires { Limbs width self.limbs × Limbs width other.limbs }
         ensures { result ≡ ltb (from_limbs self.limbs) (from_limbs other.limbs) }
     {
-        let x = self.limbs;
-        let y = other.limbs;
-        let mut i = LIMBS;
-        while 0 < i {
-            i -= 1;
-            let p = x[i];
-            let q = y[i];
+        for i in (0..LIMBS).rev() {
+            let p = self.limbs[i];
+            let q = other.limbs[i];
             if p != q {
                 return p < q;
             }

@@ -1,12 +1,11 @@
 -- Columns read to their places, one after the other, are the network in the bytes. Assumes nothing.
-use mathlib.Core.Path.{◌≡◌, refl, ◌∙◌}
-use mathlib.Core.List.{List, ◌++◌, append-nil}
+use mathlib.Core.Path.{◌≡◌, refl, ap, ◌∙◌}
+use mathlib.Core.List.{List}
 use mathlib.Core.Logic.{◌⊎◌, inl, inr, ⊎_elim}
 use Prim.Native.Nat.{ℕ, ◌+◌, ◌-◌, ◌≤◌}
-use native.Mathlib.Nat.{le_of_eq}
 use native.Mathlib.Omega.{arith}
 use borrow.Rule.Slice.PartMut.{put_mid, same_len_mid}
-use lib.ListN.{length, drop, drop_of_length-le}
+use lib.ListN.{length}
 use Rattle.numbers.specs.Numbers.{column}
 use Rattle.packed.specs.Packed as packed
 use Rattle.packed.specs.Packed.{net_in, tails_from, heads_from, capacities_from, sources_from, sinks_from, marks_from, limits_from}
@@ -24,12 +23,12 @@ pub record Filled (bytes : List ℕ) (k j a n : ℕ) (xs new : List ℕ) : Type 
 -- So it is where those n places were lent and read into.
 pub fills :
     (bytes : List ℕ) (k j a n : ℕ) (xs ys : List ℕ) → length ys ≡ length (packed.part a n xs) →
-    ys ≡ column bytes k j n ++ drop n (packed.part a n xs) → a + n ≤ length xs → Filled bytes k j a n xs (put_mid a (a + n - a) xs ys)
+    ys ≡ column bytes k j (length (packed.part a n xs)) → a + n ≤ length xs → Filled bytes k j a n xs (put_mid a (a + n - a) xs ys)
 fills bytes k j a n xs ys same read h =
     let size = part_length a n xs h in
     record {
       size = same_len_mid a (a + n - a) xs ys same;
-      holds = part-put a n xs ys h (same ∙ size) ∙ (read ∙ rw (drop_of_length-le (packed.part a n xs) {i = n} (le_of_eq size), append-nil) refl);
+      holds = part-put a n xs ys h (same ∙ size) ∙ (read ∙ ap (column bytes k j) size);
       kept = λ b i.
           ⊎_elim
           (λ (past : b + i ≤ a). part-before a n xs b i ys (omega arith) past)

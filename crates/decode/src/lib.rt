@@ -24,12 +24,10 @@ fn count_given(limits: &[u8], c: usize) -> usize
     ensures { result ≡ given (column limits.now 1 0 c) c }
 {
     let mut r = 0;
-    let mut i = 0;
-    while i < c {
+    for i in 0..c {
         if numbers::read(limits, i) != 0 {
             r += 1;
         }
-        i += 1;
     }
     r
 }
@@ -41,7 +39,7 @@ pub fn shape(n: u64, floor: &Floor<'_>) -> Shape
     let m = numbers::items(floor.belts, 4);
     let k = numbers::items(floor.pairs, 2);
     let all = numbers::count(floor.limits);
-    let c = if n < all as u64 { n as usize } else { all };
+    let c = n.min(all as u64) as usize;
     let r = m + count_given(floor.limits, c);
     Shape {
         nodes: n,
@@ -58,8 +56,8 @@ fn read_pairs(s: Shape, pairs: &[u8], net: &mut [u64])
     ensures { PairsRead s pairs.now net.old net.new }
 {
     let k = s.commodities;
-    numbers::read_column(pairs, 2, 0, k, &mut net[SOURCES..SOURCES + k]);
-    numbers::read_column(pairs, 2, 1, k, &mut net[SINKS..SINKS + k]);
+    numbers::read_column(pairs, 2, 0, &mut net[SOURCES..SOURCES + k]);
+    numbers::read_column(pairs, 2, 1, &mut net[SINKS..SINKS + k]);
 }
 
 // The columns of the belts.
@@ -68,10 +66,10 @@ fn read_belts(s: Shape, belts: &[u8], net: &mut [u64])
     ensures { BeltsRead s belts.now net.old net.new }
 {
     let m = s.arcs;
-    numbers::read_column(belts, 4, 0, m, &mut net[TAILS..TAILS + m]);
-    numbers::read_column(belts, 4, 1, m, &mut net[HEADS..HEADS + m]);
-    numbers::read_column(belts, 4, 2, m, &mut net[CAPACITIES..CAPACITIES + m]);
-    numbers::read_column(belts, 4, 3, m, &mut net[MARKS..MARKS + m]);
+    numbers::read_column(belts, 4, 0, &mut net[TAILS..TAILS + m]);
+    numbers::read_column(belts, 4, 1, &mut net[HEADS..HEADS + m]);
+    numbers::read_column(belts, 4, 2, &mut net[CAPACITIES..CAPACITIES + m]);
+    numbers::read_column(belts, 4, 3, &mut net[MARKS..MARKS + m]);
 }
 
 // The limits.
@@ -80,7 +78,7 @@ fn read_limits(s: Shape, limits: &[u8], net: &mut [u64])
     ensures { LimitsRead s limits.now net.old net.new }
 {
     let c = s.limits;
-    numbers::read_column(limits, 1, 0, c, &mut net[LIMITS..LIMITS + c]);
+    numbers::read_column(limits, 1, 0, &mut net[LIMITS..LIMITS + c]);
 }
 
 // The network.

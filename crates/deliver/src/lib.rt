@@ -10,7 +10,7 @@ ghost use Rattle.solver.specs.Solved.{Solving};
 ghost use Rattle.call.specs.Deliver.{slices_of, SameTables, Room, Open, TablesWritten, Delivered};
 ghost use Rattle.call.specs.Host.{count_of, raised};
 
-use bounds::{ANSWER_NUMBERS, MOST_ARCS, MOST_COMMODITIES};
+use bounds::{MOST_ARCS, MOST_COMMODITIES};
 use call::Tables;
 use method::Answer;
 use packed::{KEPT, Shape, TABLE_NUMBERS};
@@ -23,7 +23,7 @@ fn put_answer(a: Answer, answer: &mut [u8])
     let seven = [
         a.total, a.capacity, a.load, a.bound, a.alpha, a.count, a.best,
     ];
-    numbers::write_all(answer, &seven, ANSWER_NUMBERS);
+    numbers::write_all(answer, &seven);
 }
 
 // The office's running count, lent by itself, raised by the iterations.
@@ -51,8 +51,8 @@ fn write_tables_in(
 {
     let r = s.resources;
     let a = solver::solve(s, q, net, flows, tables);
-    numbers::write_signed(flow, flows, flows.len());
-    numbers::write_all(lengths, &tables[KEPT..KEPT + r], r);
+    numbers::write_all(flow, flows);
+    numbers::write_all(lengths, &tables[KEPT..KEPT + r]);
     a
 }
 

@@ -2,7 +2,6 @@
 #![tactic(auto)]
 
 ghost use Rattle.std.specs.Prelude.{◌≡◌, ◌+◌, ◌^◌, ◌≤◌, ◌<◌, leb};
-ghost use Rattle.arith.specs.Ceiling.{ceil};
 ghost use Rattle.bounds.specs.Bounds.{most_arcs, most_capacity, least_precision, most_precision};
 ghost use Rattle.length.specs.Length.{scale, mark, start, growth, halving};
 ghost use Rattle.length.specs.Level.{level, threshold};
@@ -11,15 +10,8 @@ use bounds::{LEAST_PRECISION, MOST_ARCS};
 
 mod table;
 
-// The one place where lengths are rounded, and always up: rounded down, a length would no longer show its arc's load.
-fn quotient(a: u64, b: u64) -> u64
-    requires { (1 ≤ b) × (a + b < 2 ^ 64) }
-    ensures { result ≡ ceil a b }
-{
-    (a + (b - 1)) / b
-}
-
-// The length of an arc. Below the mark between iterations; growth and halving stay within the bounds of the proofs' `Size`.
+// The length of an arc. Every quotient is rounded up: rounded down, a length would no longer show its arc's load.
+// Below the mark between iterations; growth and halving stay within the bounds of the proofs' `Size`.
 #[derive(Clone, Copy)]
 pub struct Length {
     pub value: u64,
@@ -27,10 +19,10 @@ pub struct Length {
 
 impl Length {
     // Lengths start from the scale, 2^36.
-    pub const SCALE: u64 = 68719476736;
+    pub const SCALE: u64 = 1 << 36;
 
     // They are halved at the mark, 2^40.
-    pub const MARK: u64 = 1099511627776;
+    pub const MARK: u64 = 1 << 40;
 
     // The length that an arc starts with.
     pub fn start(capacity: u64) -> Length
@@ -39,7 +31,7 @@ impl Length {
         ensures scale { Length.SCALE ≡ scale }
     {
         Length {
-            value: quotient(Length::SCALE, capacity),
+            value: Length::SCALE.div_ceil(capacity),
         }
     }
 
@@ -50,7 +42,7 @@ impl Length {
     {
         let l = self.value;
         Length {
-            value: l + quotient(l * draw, q * capacity),
+            value: l + (l * draw).div_ceil(q * capacity),
         }
     }
 
@@ -60,7 +52,7 @@ impl Length {
         ensures { result.value ≡ halving self.value }
     {
         Length {
-            value: quotient(self.value, 2),
+            value: self.value.div_ceil(2),
         }
     }
 
@@ -73,20 +65,13 @@ impl Length {
     }
 }
 
-// A table entry as a number of the width that the rest computes with.
-fn wide(x: u8) -> u64
-    ensures { result ≡ x }
-{
-    x as u64
-}
-
 // Document 01's L for m arcs at precision q.
 pub fn level(m: u64, q: u64) -> u64
     requires { (1 ≤ m) × (m ≤ most_arcs) × (least_precision ≤ q) × (q ≤ most_precision) }
     ensures { result ≡ level m q }
 {
     let place = (q - LEAST_PRECISION) * MOST_ARCS as u64 + (m - 1);
-    wide(table::LEVELS[place as usize])
+    u64::from(table::LEVELS[place as usize])
 }
 
 // Document 01's load mark T: a run ends when some arc's load is this many times its capacity.

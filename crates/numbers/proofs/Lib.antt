@@ -2,7 +2,6 @@ pub mod Columns
 pub mod Digits
 pub mod Examples
 pub mod Over
-pub mod Parts
 pub mod Places
 pub mod Puts
 pub mod Signed

@@ -1,30 +1,19 @@
 -- Laws of a table whose first numbers are signed amounts in two's complement: it is written as any other, and the amounts are read back.
 -- Assumes nothing.
-use mathlib.Core.Path.{◌≡◌, refl, ◌∙◌}
-use Prim.Native.Nat.{ℕ, zero, suc, ◌+◌, ◌^◌, ◌<◌}
-use mathlib.Core.List.{List, [], ◌∷◌, map}
+use mathlib.Core.Path.{◌≡◌, ◌∙◌}
+use Prim.Native.Nat.{ℕ, ◌^◌, ◌<◌}
+use mathlib.Core.List.{List, map}
 use lib.IntN.{ℤ, pos}
-use lib.ListN.{length, take, get_or, length-map, get_or-map}
+use lib.ListN.{length, get_or, length-map, get_or-map}
 use Rattle.signed.specs.Signed.{size, twos}
 use Rattle.signed.specs.FromTwos.{from_twos}
 use Rattle.signed.proofs.Signed.{twos-below, twos-read}
-use Rattle.numbers.specs.Numbers.{number_at, written, put_at}
-use Rattle.numbers.proofs.Tables.{number_at-written, written-more}
-
-map-take : (n : ℕ) (xs : List ℤ) → map twos (take n xs) ≡ take n (map twos xs)
-map-take zero xs = refl
-map-take (suc n) [] = refl
-map-take (suc n) (x ∷ xs) = rw (map-take n xs)
+use Rattle.numbers.specs.Numbers.{number_at, written}
+use Rattle.numbers.proofs.Tables.{number_at-written}
 
 get_or-twos : (xs : List ℤ) (i : ℕ) → get_or (map twos xs) i 0 ≡ twos (get_or xs i (pos 0))
 unfolding twos
 get_or-twos xs i = get_or-map twos xs i (pos 0)
-
--- The next amount, written behind the ones before it.
-pub signed-more :
-    (s : List ℕ) (xs : List ℤ) (i : ℕ) → i < length xs →
-    put_at (written s (map twos (take i xs))) i (twos (get_or xs i (pos 0))) ≡ written s (map twos (take (i + 1) xs))
-signed-more s xs i h = rw (map-take i xs, map-take (i + 1) xs, ← get_or-twos) (written-more s (map twos xs) i (rw length-map h))
 
 module _ (s : List ℕ) (xs : List ℤ) (i : ℕ) (h : i < length xs) (k : size (get_or xs i (pos 0)) < 2 ^ 63) where
   pub number_at-signed : number_at (written s (map twos xs)) i ≡ twos (get_or xs i (pos 0))

@@ -2,11 +2,11 @@
 -- Assumes nothing.
 use mathlib.Core.Path.{◌≡◌, refl, sym, ap, ◌∙◌}
 use Prim.Native.Nat.{ℕ, zero, suc, ◌+◌, ◌*◌, ◌^◌, ◌≤◌, ◌<◌}
-use mathlib.Core.List.{List, [], ◌∷◌, ◌++◌, append_assoc}
-use native.Mathlib.Numerals.{add-one}
+use mathlib.Core.List.{List, [], ◌∷◌, ◌++◌, append_assoc, map}
 use native.Mathlib.Omega.{arith}
-use lib.ListN.{length, take, drop, get_or, length-append}
-use lib.Seq.{take-suc, length-take-le}
+use lib.ListN.{length, take, drop, get_or, length-append, length-map}
+use lib.Seq.{length-take-le}
+use Rattle.std.proofs.lemmas.List.{map-append, take_more}
 use Rattle.numbers.specs.Digits.{to_bytes}
 use Rattle.numbers.specs.Numbers.{count, number_at, encode, written, put_at}
 use Rattle.numbers.specs.Parts.{splice}
@@ -60,8 +60,11 @@ put_at-written s xs x =
     let put : splice (written s xs) (8 * length xs) (to_bytes 8 x) ≡ over (encode xs ++ to_bytes 8 x) s = rw (written-is-over, ← length-encode) (splice-after (encode xs) s (to_bytes 8 x)) in
     put ∙ ap (λ (u : List ℕ). over u s) (sym (encode-append xs (x ∷ []))) ∙ sym (written-is-over s (xs ++ (x ∷ [])))
 
--- The next number of a list, written behind the ones before it.
-pub written-more : (s xs : List ℕ) (i : ℕ) → i < length xs → put_at (written s (take i xs)) i (get_or xs i 0) ≡ written s (take (i + 1) xs)
-written-more s xs i h =
-    let first : length (take i xs) ≡ i = length-take-le i xs (omega arith) in
-    rw (add-one, take-suc xs i 0) (rw first at (put_at-written s (take i xs) (get_or xs i 0)))
+-- The next number that a list stands for, written behind the ones before it.
+pub written-more :
+    {A : Type 0} (bits : A → ℕ) (s : List ℕ) (xs : List A) (i : ℕ) (x : A) → i < length xs → x ≡ get_or xs i x →
+    put_at (written s (map bits (take i xs))) i (bits x) ≡ written s (map bits (take (i + 1) xs))
+written-more bits s xs i x h e =
+    let before = map bits (take i xs) in
+    let first : length before ≡ i = length-map (take i xs) bits ∙ length-take-le i xs (omega arith) in
+    rw (take_more xs i x h, ← e, map-append) (rw first at (put_at-written s before (bits x)))

@@ -8,6 +8,7 @@ use native.Mathlib.Omega.{arith}
 use lib.Arith.{mod-mul}
 use lib.Dec.{lit<}
 use lib.ListN.{length}
+use Rattle.std.specs.Int.{w64, from_le_bytes}
 use Rattle.numbers.specs.Digits.{from_bytes, to_bytes}
 use Rattle.numbers.specs.Parts.{Bytes}
 
@@ -48,3 +49,9 @@ digits_value (suc n) (b ∷ bs) e h =
     let low : (b + 256 * from_bytes bs) % 256 ≡ b = omega (arith, h 0) in
     let rest : (b + 256 * from_bytes bs) / 256 ≡ from_bytes bs = omega (arith, h 0) in
     rw (low, rest, digits_value n bs (omega arith) (λ i. h (suc i)))
+
+-- Eight bytes stand for what std reads in them.
+pub value-std : (bs : List ℕ) → length bs ≡ 8 → from_le_bytes w64 bs ≡ from_bytes bs
+unfolding from_bytes
+value-std (a ∷ b ∷ c ∷ d ∷ e ∷ f ∷ g ∷ h ∷ []) l = omega arith
+value-std _ l = absurd (omega arith)

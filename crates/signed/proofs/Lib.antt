@@ -1,3 +1,2 @@
-pub mod Bits
 pub mod Multiplied
 pub mod Signed

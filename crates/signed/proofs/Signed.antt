@@ -7,6 +7,10 @@ use native.Mathlib.Omega.{arith}
 use borrow.Author.Tests.{ltb-true, ltb-false, lt-ltb, le-ltb}
 use lib.Dec.{ltb}
 use lib.IntN.{ℤ, pos, negsuc, sub_ℕ, ◌+ℤ◌, ◌-ℤ◌}
+use mir.Syntax.{w64}
+use Rattle.std.specs.Int.{cast_signed, cast_unsigned, int_max, int_min}
+use Rattle.std.specs.Int.RustNames.{unsigned_abs}
+use Rattle.std.proofs.lemmas.Int.{ints, clamps}
 use Rattle.signed.specs.Signed.{ahead, back, size, moved, twos}
 use Rattle.signed.specs.FromTwos.{from_twos}
 
@@ -75,3 +79,28 @@ reads-back u h = rw (le-ltb u (2 ^ 63) h)
 pub moved-size : (b : Bool) (g : ℕ) (x : ℤ) → size (moved b g x) ≤ size x + g
 moved-size true g x = more-size x g
 moved-size false g x = less-size x g
+
+-- What std gives of an amount: its size, its two's complement, the amount of a number of 64 bits, and that above or below 0.
+pub size-std : (x : ℤ) → unsigned_abs x ≡ size x
+unfolding ahead back
+size-std (pos n) = omega arith
+size-std (negsuc n) = omega arith
+
+pub twos-std : (x : ℤ) → cast_unsigned w64 x ≡ twos x
+unfolding twos
+twos-std (pos n) = refl
+twos-std (negsuc n) = refl
+
+pub from_twos-std : (u : ℕ) → cast_signed w64 u ≡ from_twos u
+unfolding from_twos
+from_twos-std u = grind arith
+
+pub ahead-std : (x : ℤ) → unsigned_abs (int_max x (pos 0)) ≡ ahead x
+unfolding ahead
+ahead-std (pos n) = omega (arith, ints, clamps)
+ahead-std (negsuc n) = refl
+
+pub back-std : (x : ℤ) → unsigned_abs (int_min x (pos 0)) ≡ back x
+unfolding back
+back-std (pos n) = omega (arith, ints, clamps)
+back-std (negsuc n) = refl

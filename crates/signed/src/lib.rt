@@ -26,40 +26,26 @@ pub fn size(x: i64) -> u64
     requires { size x < 2 ^ 63 }
     ensures { result ≡ size x }
 {
-    if x < 0 {
-        let y = 0 - x;
-        y as u64
-    } else {
-        x as u64
-    }
+    x.unsigned_abs()
 }
 
-// x in two's complement. A negative number has no cast, so how far x lies below -1 is taken from the highest number, which stands for -1.
+// x in two's complement.
 pub fn twos(x: i64) -> u64
     ensures { result ≡ twos x }
 {
-    if x < 0 {
-        let y = -1 - x;
-        0xffff_ffff_ffff_ffff - y as u64
-    } else {
-        x as u64
-    }
+    x.cast_unsigned()
 }
 
 // What goes forward, of an amount in two's complement.
 pub fn ahead(u: u64) -> u64
     ensures { result ≡ ahead (from_twos u) }
 {
-    if u < 0x8000_0000_0000_0000 { u } else { 0 }
+    u.cast_signed().max(0).unsigned_abs()
 }
 
 // What goes back, of an amount in two's complement.
 pub fn back(u: u64) -> u64
     ensures { result ≡ back (from_twos u) }
 {
-    if u < 0x8000_0000_0000_0000 {
-        0
-    } else {
-        0xffff_ffff_ffff_ffff - u + 1
-    }
+    u.cast_signed().min(0).unsigned_abs()
 }

@@ -18,13 +18,11 @@ pub fn leaves(belts: &[u8], flow: &[u8], from: usize, v: u64) -> u64
 {
     let m = numbers::items(belts, 4);
     let mut total = 0;
-    let mut e = 0;
-    while e < m {
+    for e in 0..m {
         let amount = numbers::read(flow, from + e);
         let forward = at(numbers::read(belts, 4 * e), v, signed::ahead(amount));
         let backward = at(numbers::read(belts, 4 * e + 1), v, signed::back(amount));
         total += forward + backward;
-        e += 1;
     }
     total
 }

@@ -4,7 +4,7 @@ use mathlib.Core.Path.{sym, ap₂, ◌∙◌}
 use Prim.Native.Nat.{◌*◌, ◌≤◌}
 use native.Mathlib.Nat.{mul-le-mul}
 use lib.IntN.{pos}
-use lib.ListN.{replicate, length-replicate}
+use lib.ListN.{replicate}
 use lib.Seq.{length-take-le}
 use Rattle.packed.proofs.Columns.{arcs-is, commodities-is}
 use Rattle.deliver.proofs.write_tables.Goals as goal
@@ -14,21 +14,13 @@ use Rattle.deliver.proofs.write_tables.Goals.{Start}
 few : (s : Start) → s.args.s.commodities * s.args.s.arcs ≤ 8192
 few s = mul-le-mul s.requires.lent.packed.few-commodities s.requires.lent.packed.few-arcs
 
-pub slice_bounds-flows-end : goal.slice_bounds-flows-end
-slice_bounds-flows-end c = few (goal.at.slice_bounds-flows-end c).Start
-
-pub slice_bounds-write_tables_in-end : goal.slice_bounds-write_tables_in-end
-slice_bounds-write_tables_in-end c =
-    sym (length-take-le _ (replicate 8192 (pos 0)) (rw (length-replicate 8192 (pos 0)) (few (goal.at.slice_bounds-write_tables_in-end c).Start)))
-
-pub write_tables_in-requires : goal.write_tables_in-requires
-write_tables_in-requires c =
+pub write_tables_in-requires-clause-solving : goal.write_tables_in-requires-clause-solving
+write_tables_in-requires-clause-solving c =
     let p = c.requires.lent.packed in
     record {
-      solving = record {
-        lent = c.requires.lent;
-        flows = length-take-le _ (replicate 8192 (pos 0)) (few (goal.at.write_tables_in-requires c).Start) ∙ sym (ap₂ ◌*◌ (commodities-is p) (arcs-is p));
-        places = search rules;
-      };
-      room = c.requires.room;
+      lent = c.requires.lent;
+      flows =
+          length-take-le _ (replicate 8192 (pos 0)) (few (goal.at.write_tables_in-requires-clause-solving c).Start) ∙
+          sym (ap₂ ◌*◌ (commodities-is p) (arcs-is p));
+      places = search rules;
     }

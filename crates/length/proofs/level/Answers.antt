@@ -6,4 +6,4 @@ use Rattle.length.proofs.level.Goals as goal
 
 pub returns : goal.returns
 unfolding levels level
-returns c = c.wide.ensures
+returns c = c.from.ensures

@@ -1,13 +1,16 @@
--- `numbers::read` meets its contract: two halves, weighed, are the number in the eight bytes from 8 * i.
--- Assumes nothing.
-use Prim.Native.Nat.{◌*◌}
+-- `numbers::read` meets its contract: what std reads in the eight bytes from 8 * i is the number in them. Assumes nothing.
+use mathlib.Core.Path.{◌≡◌, ap, ◌∙◌}
+use Prim.Native.Nat.{◌+◌, ◌*◌, ◌-◌}
 use native.Mathlib.Omega.{arith}
+use lib.ListN.{take, drop}
 use Rattle.numbers.specs.Numbers.{number_at}
-use Rattle.numbers.proofs.Parts.{value-join}
+use Rattle.numbers.proofs.Values.{value-std}
 use Rattle.numbers.proofs.read.Goals as goal
 
 pub returns : goal.returns
 unfolding number_at
 returns c =
-    let start = c.before.before.before in
-    omega (arith, value-join start.args.s.now (8 * start.args.i) 4 4 (omega arith))
+    let eight : 8 * c.args.i + 8 - 8 * c.args.i ≡ 8 = omega arith in
+    let from = drop (8 * c.args.i) c.args.s.now in
+    let read = c.copy_from_slice.ensures.after ∙ ap (λ n. take n from) eight in
+    c.from_le_bytes.ensures ∙ value-std c.copy_from_slice.new.self c.copy_from_slice.ensures.len ∙ rw read

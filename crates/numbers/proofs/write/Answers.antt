@@ -1,15 +1,15 @@
--- `numbers::write` meets its contract: two halves, put one behind the other from 8 * i, are the eight digits of the number.
--- Assumes nothing.
-use Prim.Native.Nat.{◌*◌}
+-- `numbers::write` meets its contract: std's eight bytes of the number are its digits. Assumes nothing.
+use mathlib.Core.Path.{◌≡◌, ◌∙◌}
+use Prim.Native.Nat.{◌+◌, ◌*◌, ◌-◌}
 use native.Mathlib.Omega.{arith}
-use Rattle.numbers.specs.Digits.{to_bytes}
+use lib.Seq.{drop-drop}
 use Rattle.numbers.specs.Numbers.{put_at}
-use Rattle.numbers.proofs.Splices.{splice-digits}
+use Rattle.numbers.proofs.Digits.{digits-std}
 use Rattle.numbers.proofs.write.Goals as goal
 
 pub returns : goal.returns
-unfolding put_at to_bytes
+unfolding put_at
 returns c =
-    let start = c.before.before.before.before.before.before.before.before.before in
-    rw (c.before.before.put_four-2.ensures, c.before.before.before.before.before.before.put_four.ensures)
-    (splice-digits start.args.s.now (8 * start.args.i) 4 4 start.args.x (omega arith))
+    let digits = c.copy_from_slice.ensures.after ∙ c.to_le_bytes.ensures ∙ digits-std c.args.x in
+    let eight : 8 * c.args.i + 8 - 8 * c.args.i ≡ 8 = omega arith in
+    rw (digits, eight, drop-drop)

@@ -1,7 +1,5 @@
 -- `whole::put_totes` meets its contract. The loop's invariant: the numbers of the pairs before i are written. Assumes nothing.
 use mathlib.Core.Path.{◌≡◌}
-use Prim.Native.Nat.{◌-◌, ◌≤◌}
-use lib.ListN.{length}
 use Rattle.numbers.specs.Numbers.{written}
 use Rattle.whole.specs.Read.{sent_in}
 use Rattle.whole.specs.Whole.{parted}

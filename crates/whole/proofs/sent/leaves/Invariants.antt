@@ -1,13 +1,8 @@
--- `whole::sent::leaves` meets its contract. The loop's invariant: the total is the sum over the arcs before e. The measure is what is left of m.
--- Assumes nothing.
+-- `whole::sent::leaves` meets its contract. The loop's invariant: the total is the sum over the arcs before e. Assumes nothing.
 use mathlib.Core.Path.{◌≡◌}
-use Prim.Native.Nat.{◌-◌, ◌≤◌}
 use Rattle.arith.specs.Sum.{sum}
 use Rattle.whole.proofs.Leaves.{over}
 use Rattle.whole.proofs.sent.leaves.Given as goal
 
 abbrev pub invariant-loop-e : goal.invariant-loop-e
-invariant-loop-e l = (l.e ≤ l.m) × (l.total ≡ sum l.e (over l.belts l.flow l.from l.v))
-
-abbrev pub decreases-loop-e : goal.decreases-loop-e
-decreases-loop-e l = l.m - l.e
+invariant-loop-e l = l.total ≡ sum l.e (over l.belts l.flow l.from l.v)

@@ -7,23 +7,18 @@ use Rattle.arith.proofs.wide.Wide.times.Goals as goal
 
 pub times_plus-high-requires : goal.times_plus-high-requires
 times_plus-high-requires c =
-    let s = c.before in
-    (s.requires.0, c.from.ensures.limbs, omega arith, omega (arith, split-product (from_limbs s.args.self.limbs) s.args.k))
+    (c.requires.0, c.from.ensures.limbs, omega arith, omega (arith, split-product (from_limbs c.args.self.limbs) c.args.k))
 
 pub shifted-requires : goal.shifted-requires
 shifted-requires c =
-    let s = c.before.before in
-    (c.times_plus-high.ensures.limbs, omega (arith, split-product (from_limbs s.args.self.limbs) s.args.k))
+    (c.times_plus-high.ensures.limbs, omega (arith, split-product (from_limbs c.args.self.limbs) c.args.k))
 
 pub times_plus-requires : goal.times_plus-requires
 times_plus-requires c =
-    let s = c.before.before.before in
-    (s.requires.0, c.shifted.ensures.limbs, omega arith, omega (arith, split-product (from_limbs s.args.self.limbs) s.args.k))
+    (c.requires.0, c.shifted.ensures.limbs, omega arith, omega (arith, split-product (from_limbs c.args.self.limbs) c.args.k))
 
 pub returns : goal.returns
-returns c =
-    let s = c.before.before.before.before in
-    record {
-      limbs = c.times_plus.ensures.limbs;
-      number = omega (arith, split-product (from_limbs s.args.self.limbs) s.args.k);
-    }
+returns c = record {
+  limbs = c.times_plus.ensures.limbs;
+  number = omega (arith, split-product (from_limbs c.args.self.limbs) c.args.k);
+}
