@@ -15,7 +15,7 @@ use Rattle.packed.specs.Packed.{net_in}
 use Rattle.packed.specs.declared.Shape.{Shape}
 use Rattle.packed.proofs.Columns.{arcs-is, heads-length, marks-length}
 use Rattle.index.specs.Index.{Index}
-use Rattle.index.specs.Indexing.{Side, side, Indexable, Indexing, Joining, forth, back, Joins}
+use Rattle.index.specs.Indexing.{Side, side, Indexable, Columns, Joining, forth, back, Joins}
 use Rattle.index.proofs.Building.{index_same}
 
 -- An arc is reversible where its mark is not 0.
@@ -39,19 +39,14 @@ module _ {s : Shape} {xs : List ℕ} {size : ℕ} (I : Indexable s xs size) wher
   abbrev heads : Side
   heads = side net.heads net.tails net.marks
 
-  pub into-indexing : Indexing net.nodes heads size
-  into-indexing =
+  pub into-columns : Columns heads
+  into-columns =
       record {
-        nodes = I.nodes;
-        columns =
-            record {
-              few = omega (arith, heads-are, few-arcs);
-              others = sym heads-are;
-              marked = omega (arith, heads-are, marks-length I.packed);
-              ends = λ e b. (I.ends.heads e (omega (arith, heads-are))).0;
-              other-ends = λ e b. (I.ends.tails e (omega (arith, heads-are))).0;
-            };
-        numbers = I.numbers;
+        few = omega (arith, heads-are, few-arcs);
+        others = sym heads-are;
+        marked = omega (arith, heads-are, marks-length I.packed);
+        ends = λ e b. (I.ends.heads e (omega (arith, heads-are))).0;
+        other-ends = λ e b. (I.ends.tails e (omega (arith, heads-are))).0;
       }
 
   into-taken : {v e u : ℕ} → Joining heads v e u → Taken net u e v
@@ -72,19 +67,14 @@ module _ {s : Shape} {xs : List ℕ} {size : ℕ} (I : Indexable s xs size) wher
   abbrev tails : Side
   tails = side net.tails net.heads net.marks
 
-  pub out-indexing : Indexing net.nodes tails size
-  out-indexing =
+  pub out-columns : Columns tails
+  out-columns =
       record {
-        nodes = I.nodes;
-        columns =
-            record {
-              few = few-arcs;
-              others = heads-are;
-              marked = marks-length I.packed;
-              ends = λ e b. (I.ends.tails e b).0;
-              other-ends = λ e b. (I.ends.heads e b).0;
-            };
-        numbers = I.numbers;
+        few = few-arcs;
+        others = heads-are;
+        marked = marks-length I.packed;
+        ends = λ e b. (I.ends.tails e b).0;
+        other-ends = λ e b. (I.ends.heads e b).0;
       }
 
   out-taken : {v e w : ℕ} → Joining tails v e w → Taken net v e w
@@ -100,7 +90,3 @@ module _ {s : Shape} {xs : List ℕ} {size : ℕ} (I : Indexable s xs size) wher
       index_same
       (λ v e w b J. taken-leads net J.arc (out-taken J.way))
       (λ v e w b h. record { arc = leads-arc net v e w h; way = taken_out (leads-taken net v e w h) })
-
--- A slice of the same size has the same room.
-pub still-indexable : {s : Shape} {xs : List ℕ} {size same : ℕ} → Indexable s xs size → same ≡ size → Indexable s xs same
-still-indexable I e = rw e I

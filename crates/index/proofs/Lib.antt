@@ -7,4 +7,3 @@ pub mod Locating
 pub mod Opening
 pub mod Putting
 pub mod Gathering
-pub mod Seeing

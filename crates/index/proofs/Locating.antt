@@ -4,7 +4,7 @@ use mathlib.Core.Path.{◌≡◌, refl, sym, ◌∙◌}
 use mathlib.Core.List.{List}
 use Prim.Native.Nat.{ℕ, ◌+◌, ◌≤◌, ◌<◌}
 use native.Mathlib.Omega.{arith}
-use lib.ListN.{length, get_or, set, length-set}
+use lib.ListN.{length, get_or, set}
 use lib.Seq.{get_or-set_same, get_or-set_other}
 use borrow.Author.Count.{below_more}
 use Rattle.network.specs.Network.{Network, arcs, limit}
@@ -16,35 +16,29 @@ use Rattle.index.proofs.Limits.{place-first, place-on, place-more, resource-none
 -- The nodes below v are passed, and next is the next resource.
 pub record Locating (net : Network) (old new : List ℕ) (next v : ℕ) : Type 0 where
   pub next-is : next ≡ place net v
-  pub within : v ≤ net.nodes + 1
   pub passed : (u : ℕ) → u < v → place_at new u ≡ resource_of net u
   pub before : (i : ℕ) → i < places_from → get_or new i 0 ≡ get_or old i 0
-  pub size : length new ≡ length old
 
 module _ {net : Network} {old : List ℕ} where
   pub locating-none : {next : ℕ} → next ≡ arcs net → Locating net old old next 0
   locating-none q =
       record {
         next-is = q ∙ sym (place-first net);
-        within = omega arith;
         passed = λ u b. absurd (omega arith);
         before = λ i b. refl;
-        size = refl;
       }
 
-  module _ {new : List ℕ} {next v : ℕ} (L : Locating net old new next v) (room : places_from + v < length old) (node : v ≤ net.nodes) where
+  module _ {new : List ℕ} {next v : ℕ} (L : Locating net old new next v) (room : places_from + v < length new) where
     -- one more
     more : (r after : ℕ) → after ≡ place net (v + 1) → r ≡ resource_of net v → Locating net old (set new (places_from + v) r) after (v + 1)
     more r after q e =
         record {
           next-is = q;
-          within = omega arith;
           passed =
               below_more (λ u. place_at (set new (places_from + v) r) u ≡ resource_of net u) v
               (λ u b. get_or-set_other new (places_from + v) (places_from + u) r 0 (λ s. omega arith) ∙ L.passed u b)
-              (get_or-set_same new (places_from + v) r 0 (omega (arith, L.size)) ∙ e);
+              (get_or-set_same new (places_from + v) r 0 room ∙ e);
           before = λ i b. get_or-set_other new (places_from + v) i r 0 (λ s. omega arith) ∙ L.before i b;
-          size = length-set new (places_from + v) r ∙ L.size;
         }
 
     -- A node without a limit,

@@ -1,11 +1,12 @@
 -- How an index is made: for one node after the other, the arcs in turn, by the column of their ends at these nodes and that of their other ends.
 use Rattle.std.specs.Prelude.{◌≡◌, Bool, cond, List, ℕ, ◌+◌, ◌≤◌, ◌<◌, ltb, eqb, length, get_or, take, set}
+use Rattle.std.specs.Prelude.{Option, MatchOption}
 use Rattle.arith.specs.Sum.{sum}
 use Rattle.bounds.specs.Bounds.{most_nodes, most_arcs}
 use Rattle.network.specs.Ends.{Ends}
 use Rattle.network.specs.Network.{Network}
 use Rattle.network.specs.Resources.{resources}
-use Rattle.packed.specs.Packed.{net_in, Packed}
+use Rattle.packed.specs.Packed.{net_in, part, marks_from, Packed}
 use Rattle.packed.specs.declared.Shape.{Shape}
 use Rattle.index.specs.Index.{arcs_from, ends_from, places_from, most_places, index_numbers, begins, Index, Stations}
 
@@ -42,6 +43,10 @@ pub record Side : Type 0 where
 abbrev pub side : List ℕ → List ℕ → List ℕ → Side
 side here there marks = record { here = here; there = there; marks = marks }
 
+-- Those of a packed network, with the ends here and there in the columns that begin at these places.
+abbrev pub sides : ℕ → ℕ → Shape → List ℕ → Side
+sides here there s xs = side (part here s.arcs xs) (part there s.arcs xs) (part marks_from s.arcs xs)
+
 -- A column of each for at most 256 arcs, whose ends are nodes.
 pub record Columns (c : Side) : Type 0 where
   pub few : length c.here ≤ most_arcs
@@ -70,10 +75,9 @@ pub record Seeing (c : Side) (e : ℕ) : Type 0 where
   pub columns : Columns c
   pub arc : e < length c.here
 
--- w is the other end of arc e, seen from node v; 0 where it is not at v.
-pub record Seen (c : Side) (v e w : ℕ) : Type 0 where
-  pub at : (w ≡ 0 → ⊥) → Joining c v e w
-  pub not_at : w ≡ 0 → (x : ℕ) → Joining c v e x → ⊥
+-- r is the other end of arc e, seen from node v, or None where it is not at v.
+abbrev pub Seen : Side → ℕ → ℕ → Option ℕ → Type 0
+Seen c v e r = MatchOption r ((w : ℕ) → Joining c v e w → ⊥) (λ w. Joining c v e w)
 
 -- So it is, and where v is the last node it is one of the first arcs.
 pub record Upto (c : Side) (last arcs v e w : ℕ) : Type 0 where

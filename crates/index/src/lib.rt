@@ -1,13 +1,14 @@
-// The index of the arcs at each node, the arcs of one node side by side in ascending order: a search goes through those into a node, a walk through those
-// out of it. A reversible arc is at both of its ends: here alone the code asks for marks. And the resources: which of them each node is, and their
-// capacities. Here alone the code asks for limits.
+// The index of the arcs at each node, the arcs of one node side by side in ascending order: a search goes through those
+// into a node, a walk through those out of it. A reversible arc is at both of its ends: here alone the code asks for
+// marks. And the resources: which of them each node is, and their capacities. Here alone the code asks for limits.
 #![tactic(auto)]
 
-ghost use Rattle.std.specs.Prelude.{◌≡◌, ◌∷◌, ◌+◌, ◌≤◌, length, get_or, take};
+ghost use Rattle.std.specs.Prelude.{◌≡◌, ◌∷◌, ◌+◌, ◌≤◌, length, get_or};
 ghost use Rattle.network.specs.Resources.{resource_capacities};
 ghost use Rattle.packed.specs.Packed.{net_in};
-ghost use Rattle.index.specs.Index.{Index, Into, Out};
-ghost use Rattle.index.specs.Indexing.{side, Indexable, Located, Roomy, Limiting, Indexing, Joins, Seeing, Seen, Building, Putting, placed, AddingArc, Opening};
+ghost use Rattle.index.specs.Index.{Index, Stations, Into, Out};
+ghost use Rattle.index.specs.Indexing.{side, sides, Indexable, Located, Roomy, Limiting, Columns, Indexing, Joins};
+ghost use Rattle.index.specs.Indexing.{Seeing, Seen, Building, Putting, placed, AddingArc, Opening};
 
 use bounds::{MOST_ARCS, MOST_NODES};
 use packed::{CAPACITIES, HEADS, LIMITS, MARKS, Shape, TAILS};
@@ -35,21 +36,18 @@ fn put(v: usize, e: usize, w: u64, ix: &mut [u64])
     ix[v + 1] = p as u64 + 1;
 }
 
-// The other end of arc e where it is at node v, by its end here or, if it is reversible, by its end there; 0 where it is not.
-fn other(here: &[u64], there: &[u64], marks: &[u64], v: u64, e: usize) -> u64
+// The other end of arc e where it is at node v, by its end here or, if it is reversible, by its end there.
+fn other(here: &[u64], there: &[u64], marks: &[u64], v: u64, e: usize) -> Option<u64>
     requires { Seeing (side here.now there.now marks.now) e }
     ensures { Seen (side here.now there.now marks.now) v e result }
 {
     if here[e] == v {
-        return there[e];
+        return Some(there[e]);
     }
-    if marks[e] == 0 {
-        return 0;
+    if marks[e] != 0 && there[e] == v {
+        return Some(here[e]);
     }
-    if there[e] == v {
-        return here[e];
-    }
-    0
+    None
 }
 
 // Arc e is put there if it is at node v.
@@ -57,11 +55,9 @@ fn add(here: &[u64], there: &[u64], marks: &[u64], v: usize, e: usize, ix: &mut 
     requires { AddingArc (side here.now there.now marks.now) v e ix.old }
     ensures { Building (side here.now there.now marks.now) v (e + 1) ix.new }
 {
-    let w = other(here, there, marks, v as u64, e);
-    if w == 0 {
-        return;
+    if let Some(w) = other(here, there, marks, v as u64, e) {
+        put(v, e, w, ix);
     }
-    put(v, e, w, ix);
 }
 
 // The arcs of the node after the last.
@@ -71,10 +67,8 @@ fn row(here: &[u64], there: &[u64], marks: &[u64], last: usize, ix: &mut [u64])
 {
     let v = last + 1;
     ix[v + 1] = ix[v];
-    let mut e = 0;
-    while e < here.len() {
+    for e in 0..here.len() {
         add(here, there, marks, v, e, ix);
-        e += 1;
     }
 }
 
@@ -85,10 +79,8 @@ fn index_by(n: u64, here: &[u64], there: &[u64], marks: &[u64], ix: &mut [u64])
 {
     ix[0] = 0;
     ix[1] = 0;
-    let mut v = 0;
-    while v < n as usize {
+    for v in 0..n as usize {
         row(here, there, marks, v, ix);
-        v += 1;
     }
 }
 
@@ -97,12 +89,10 @@ fn limit(limits: &[u64], v: usize) -> u64
     ensures { result ≡ get_or (0 ∷ limits.now) v 0 }
 {
     if v == 0 {
-        return 0;
+        0
+    } else {
+        limits.get(v - 1).copied().unwrap_or(0)
     }
-    if v > limits.len() {
-        return 0;
-    }
-    limits[v - 1]
 }
 
 // Which resource each node is: those that are limited are counted on behind the arcs, the others get a number past all resources.
@@ -110,19 +100,38 @@ fn place_nodes(s: Shape, net: &[u64], ix: &mut [u64])
     requires { Indexable s net.now (length ix.old) }
     ensures { Located (net_in s net.now) ix.old ix.new }
 {
-    let given = s.limits;
-    let limits = &net[LIMITS..LIMITS + given];
+    let limits = &net[LIMITS..LIMITS + s.limits];
     let mut next = s.arcs;
-    let mut v = 0;
-    while v <= s.nodes as usize {
-        let mut r = s.resources;
+    for v in 0..=s.nodes as usize {
         if limit(limits, v) != 0 {
-            r = next;
+            ix[PLACES + v] = next as u64;
             next += 1;
+        } else {
+            ix[PLACES + v] = s.resources as u64;
         }
-        ix[PLACES + v] = r as u64;
-        v += 1;
     }
+}
+
+// The index of the arcs by their ends in the column from here on, with their other ends in that from there on; behind
+// it the resources of the nodes.
+fn index_columns(here: usize, there: usize, s: Shape, net: &[u64], ix: &mut [u64])
+    requires indexable { Indexable s net.now (length ix.old) }
+    requires here { here + s.arcs ≤ length net.now }
+    requires there { there + s.arcs ≤ length net.now }
+    requires columns { Columns (sides here there s net.now) }
+    ensures arcs { Index (Joins (sides here there s net.now)) s.nodes ix.new }
+    ensures places { Stations (net_in s net.now) ix.new }
+{
+    let m = s.arcs;
+    let marks = &net[MARKS..MARKS + m];
+    index_by(
+        s.nodes,
+        &net[here..here + m],
+        &net[there..there + m],
+        marks,
+        ix,
+    );
+    place_nodes(s, net, ix);
 }
 
 // The index of the arcs into each node.
@@ -130,12 +139,7 @@ pub fn index_into(s: Shape, net: &[u64], ix: &mut [u64])
     requires { Indexable s net.now (length ix.old) }
     ensures { Into (net_in s net.now) ix.new }
 {
-    let m = s.arcs;
-    let tails = &net[TAILS..TAILS + m];
-    let heads = &net[HEADS..HEADS + m];
-    let marks = &net[MARKS..MARKS + m];
-    index_by(s.nodes, heads, tails, marks, ix);
-    place_nodes(s, net, ix);
+    index_columns(HEADS, TAILS, s, net, ix);
 }
 
 // The index of the arcs out of each node.
@@ -143,42 +147,22 @@ pub fn index_out(s: Shape, net: &[u64], ix: &mut [u64])
     requires { Indexable s net.now (length ix.old) }
     ensures { Out (net_in s net.now) ix.new }
 {
-    let m = s.arcs;
-    let tails = &net[TAILS..TAILS + m];
-    let heads = &net[HEADS..HEADS + m];
-    let marks = &net[MARKS..MARKS + m];
-    index_by(s.nodes, tails, heads, marks, ix);
-    place_nodes(s, net, ix);
+    index_columns(TAILS, HEADS, s, net, ix);
 }
 
-// The capacities of the arcs come first,
-fn copy(capacities: &[u64], table: &mut [u64])
-    requires { length capacities.now ≤ length table.old }
-    ensures { take (length capacities.now) table.new ≡ capacities.now }
-{
-    let mut i = 0;
-    while i < capacities.len() {
-        table[i] = capacities[i];
-        i += 1;
-    }
-}
-
-// and behind them the limits that are set, from node to node.
+// The limits that are set, from node to node, behind the capacities of the arcs.
 fn append_limits(s: Shape, net: &[u64], table: &mut [u64])
     requires { Limiting s net.now table.old }
     ensures { table.new ≡ resource_capacities (net_in s net.now) }
 {
-    let given = s.limits;
-    let limits = &net[LIMITS..LIMITS + given];
+    let limits = &net[LIMITS..LIMITS + s.limits];
     let mut end = s.arcs;
-    let mut v = 0;
-    while v <= s.nodes as usize {
+    for v in 0..=s.nodes as usize {
         let x = limit(limits, v);
         if x != 0 {
             table[end] = x;
             end += 1;
         }
-        v += 1;
     }
 }
 
@@ -188,6 +172,6 @@ pub fn resource_capacities(s: Shape, net: &[u64], table: &mut [u64])
     ensures { table.new ≡ resource_capacities (net_in s net.now) }
 {
     let m = s.arcs;
-    copy(&net[CAPACITIES..CAPACITIES + m], table);
+    table[..m].copy_from_slice(&net[CAPACITIES..CAPACITIES + m]);
     append_limits(s, net, table);
 }

@@ -1,12 +1,8 @@
 -- `index::append_limits` meets its contract: the limits of the nodes passed are written, and end is where the next comes.
 -- Assumes nothing.
-use Prim.Native.Nat.{◌+◌, ◌-◌}
 use Rattle.packed.specs.Packed.{net_in}
 use Rattle.index.proofs.Gathering.{Gathering}
 use Rattle.index.proofs.append_limits.Given as goal
 
 abbrev pub invariant-loop-v : goal.invariant-loop-v
-invariant-loop-v l = Gathering (net_in l.s l.net) l.table l.end l.v
-
-abbrev pub decreases-loop-v : goal.decreases-loop-v
-decreases-loop-v l = l.s.nodes + 1 - l.v
+invariant-loop-v l = Gathering (net_in l.fn.s l.net) l.table l.end l.v
