@@ -7,20 +7,6 @@ ghost use Rattle.std.specs.Io.KnownBytes.{Consumes};
 
 use std::io::Read;
 
-// Room for the file.
-fn input() -> [u8; 65537]
-    ensures { 65537 ≡ length result }
-{
-    [0; 65537]
-}
-
-// Room for the listing.
-fn output() -> [u8; 24576]
-    ensures { 24576 ≡ length result }
-{
-    [0; 24576]
-}
-
 // Reads until the room is full, the input ends or a read fails; returns how many bytes stand in front.
 fn read_full<R: Read>(from: &mut R, room: &mut [u8]) -> usize
     ensures within { result ≤ length room.new }
@@ -28,27 +14,20 @@ fn read_full<R: Read>(from: &mut R, room: &mut [u8]) -> usize
 {
     let mut done = 0;
     while done < room.len() {
-        let Ok(n) = from.read(&mut room[done..]) else {
-            break;
-        };
-        if n == 0 {
-            break;
+        match from.read(&mut room[done..]) {
+            Ok(0) | Err(_) => break,
+            Ok(n) => done += n,
         }
-        done += n;
     }
     done
 }
 
 fn main(rt: HostRuntime) {
-    let mut text = input();
+    let mut text = [0; 65537];
     let n = read_full(&mut rt.stdin(), &mut text);
-    let mut out = output();
+    let mut out = [0; 24576];
     let k = report::listing(&text[..n], &mut out);
-    let whole = rt.write_all(&out[..k]);
-    if whole.is_err() {
-        let told = eprintln!(rt;
-            "listing: the listing is not whole: standard output is full or closed"
-        );
-        told.unwrap_or(());
+    if rt.write_all(&out[..k]).is_err() {
+        eprintln!(rt; "listing: the listing is not whole: standard output is full or closed").ok();
     }
 }

@@ -5,11 +5,9 @@
 ghost use Rattle.std.specs.Prelude.{◌≤◌, take};
 ghost use Rattle.records.specs.Records.{Recorded};
 
-use checks::numbers::refusal_code;
-use method::Answer;
-use network::Refusal;
+use network::Code;
 use records::{Arc, Reply};
-use signed::twos;
+use std::fmt::Display;
 use std::io;
 
 // The first m arcs, lent.
@@ -29,57 +27,25 @@ fn lent(
     records::solve(n, q, &arcs[..m], pairs, limits, flow, lengths)
 }
 
-fn print(rt: &impl Print, x: u64) -> io::Result<()> {
-    print!(rt; " {x}")
-}
-
-fn print_all(rt: &impl Print, s: &[u64]) -> io::Result<()> {
+// A column of numbers, after a bar.
+fn print_all<T: Display>(rt: &impl Print, s: &[T]) -> io::Result<()> {
     rt.write_all(b" |")?;
     for x in s {
-        print(rt, *x)?;
+        print!(rt; " {x}")?;
     }
     Ok(())
-}
-
-// A negative number by its size, which is what its two's complement lacks of 2^64.
-fn print_amount(rt: &impl Print, x: i64) -> io::Result<()> {
-    if x < 0 {
-        let size = 0u64.wrapping_sub(twos(x));
-        print!(rt; " -{size}")
-    } else {
-        print(rt, twos(x))
-    }
-}
-
-fn print_flow(rt: &impl Print, s: &[i64]) -> io::Result<()> {
-    rt.write_all(b" |")?;
-    for x in s {
-        print_amount(rt, *x)?;
-    }
-    Ok(())
-}
-
-fn print_refusal(rt: &impl Print, why: Refusal) -> io::Result<()> {
-    rt.write_all(b" refused")?;
-    let c = refusal_code(why);
-    print(rt, c.number)?;
-    print(rt, c.place)
-}
-
-fn print_answer(rt: &impl Print, a: Answer) -> io::Result<()> {
-    print(rt, a.total)?;
-    print(rt, a.capacity)?;
-    print(rt, a.load)?;
-    print(rt, a.bound)?;
-    print(rt, a.alpha)?;
-    print(rt, a.count)?;
-    print(rt, a.best)
 }
 
 fn print_reply(rt: &impl Print, r: Reply) -> io::Result<()> {
     match r {
-        Reply::TurnedDown(why) => print_refusal(rt, why),
-        Reply::Answered(a) => print_answer(rt, a),
+        Err(why) => {
+            let Code { number, place } = Code::from(why);
+            print!(rt; " refused {number} {place}")
+        }
+        Ok(a) => print!(rt;
+            " {} {} {} {} {} {} {}",
+            a.total, a.capacity, a.load, a.bound, a.alpha, a.count, a.best
+        ),
     }
 }
 
@@ -100,7 +66,7 @@ fn run_within(
     let reply = lent(n, q, arcs, m, pairs, limits, &mut flow, &mut lengths);
     rt.write_all(name)?;
     print_reply(rt, reply)?;
-    print_flow(rt, &flow)?;
+    print_all(rt, &flow)?;
     print_all(rt, &lengths)?;
     rt.write_all(b"\n")
 }
