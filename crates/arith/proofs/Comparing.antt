@@ -4,30 +4,22 @@ use mathlib.Core.Path.{◌≡◌, refl, sym, ap}
 use mathlib.Core.Bool.{Bool, true, false}
 use mathlib.Core.List.{List}
 use Prim.Native.Nat.{ℕ, suc, ◌+◌, ◌*◌, ◌^◌}
-use native.Mathlib.Nat.{le_refl}
 use native.Mathlib.Omega.{arith}
 use borrow.Author.Tests.{ltb-true, ltb-false, lt-ltb, le-ltb}
 use lib.Arith.{lt_of_le-ne}
 use lib.Dec.{ltb}
 use lib.ListN.{get_or, take}
 use Rattle.arith.specs.Limbs.{base, from_limbs, Limbs}
-use Rattle.arith.proofs.Values.{value-take, value-all, top-limb-decides}
+use Rattle.arith.proofs.Values.{value-take, top-limb-decides}
 
 -- From place i up the two write the same.
 pub record Level (xs ys : List ℕ) (i : ℕ) : Type 0 where
   pub same : from_limbs xs + from_limbs (take i ys) ≡ from_limbs ys + from_limbs (take i xs)
 
 module _ {xs ys : List ℕ} where
-  pub level-start : {n : ℕ} → Limbs n xs → Limbs n ys → Level xs ys n
-  level-start {n} lx ly = record { same = omega (arith, value-all xs lx (le_refl n), value-all ys ly (le_refl n)) }
-
   pub level-step : {i : ℕ} → Level xs ys (suc i) → get_or xs i 0 ≡ get_or ys i 0 → Level xs ys i
   level-step {i} l e =
       record { same = omega (arith, l.same, value-take xs i, value-take ys i, ap (λ t. base ^ i * t) e) }
-
-  pub level-end : Level xs ys 0 → ltb (from_limbs xs) (from_limbs ys) ≡ false
-  unfolding from_limbs
-  level-end l = le-ltb (from_limbs xs) (from_limbs ys) (omega (arith, l.same))
 
   module _ {n i : ℕ} (lx : Limbs n xs) (ly : Limbs n ys) (l : Level xs ys (suc i)) (d : get_or xs i 0 ≡ get_or ys i 0 → ⊥) where
     decided : (b : Bool) → ltb (get_or xs i 0) (get_or ys i 0) ≡ b → b ≡ ltb (from_limbs xs) (from_limbs ys)

@@ -66,15 +66,6 @@ unfolding ahead back twos from_twos
 twos-read (pos n) h = rw (lt-ltb n (2 ^ 63) (omega arith))
 twos-read (negsuc n) h = rw (le-ltb (2 ^ 64 - suc n) (2 ^ 63) (omega arith)) (ap negsuc (omega arith))
 
--- By its highest bit.
-pub reads-ahead : (u : ℕ) → u < 2 ^ 63 → from_twos u ≡ pos u
-unfolding from_twos
-reads-ahead u h = rw (lt-ltb u (2 ^ 63) h)
-
-pub reads-back : (u : ℕ) → 2 ^ 63 ≤ u → from_twos u ≡ negsuc (2 ^ 64 - 1 - u)
-unfolding from_twos
-reads-back u h = rw (le-ltb u (2 ^ 63) h)
-
 -- Moved by a draw, an amount grows in size by no more than the draw.
 pub moved-size : (b : Bool) (g : ℕ) (x : ℤ) → size (moved b g x) ≤ size x + g
 moved-size true g x = more-size x g

@@ -1,13 +1,10 @@
 -- `arith::wide::Wide::less` meets its contract. Assumes nothing.
-use mathlib.Core.Path.{◌≡◌, sym}
+use mathlib.Core.Path.{◌≡◌}
 use Prim.Native.Nat.{suc, ◌-◌}
 use native.Mathlib.Omega.{arith}
-use Rattle.arith.proofs.Comparing.{Level, level-start, level-step, level-end, level-decides}
+use Rattle.arith.proofs.Comparing.{Level, level-step, level-decides}
 use Rattle.arith.proofs.wide.Wide.less.Goals as goal
 use Rattle.arith.proofs.wide.Wide.less.Goals.{In-loop-i}
-
-pub loop-i-init : goal.loop-i-init
-loop-i-init c = level-start c.requires.0 c.requires.1
 
 -- The place that a turn looks at is one below i.
 above : (c : In-loop-i) → Level c.args.self.limbs c.args.other.limbs (suc (c.loop-i.i - 1))
@@ -18,6 +15,3 @@ returns-then-p-q c = level-decides c.requires.0 c.requires.1 (above (goal.at.ret
 
 pub loop-i-preserved : goal.loop-i-preserved
 loop-i-preserved c = level-step (above (goal.at.loop-i-preserved c).In-loop-i) c.if-p-q.false
-
-pub returns : goal.returns
-returns c = let e : c.loop-i.i ≡ 0 = omega arith in sym (level-end (rw e at c.loop-i.invariant))

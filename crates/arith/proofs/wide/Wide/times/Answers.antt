@@ -5,10 +5,6 @@ use Rattle.arith.specs.Limbs.{from_limbs}
 use Rattle.arith.proofs.Products.{split-product}
 use Rattle.arith.proofs.wide.Wide.times.Goals as goal
 
-pub times_plus-high-requires : goal.times_plus-high-requires
-times_plus-high-requires c =
-    (c.requires.0, c.from.ensures.limbs, omega arith, omega (arith, split-product (from_limbs c.args.self.limbs) c.args.k))
-
 pub shifted-requires : goal.shifted-requires
 shifted-requires c =
     (c.times_plus-high.ensures.limbs, omega (arith, split-product (from_limbs c.args.self.limbs) c.args.k))
