@@ -3,12 +3,12 @@ ghost use Rattle.std.specs.Prelude.{◌≡◌, length, get_or};
 ghost use Rattle.arith.specs.Lists.{up_to, flat};
 ghost use Rattle.network.specs.Parts.{of_arcs, of_limits, of_commodities};
 ghost use Rattle.network.specs.Verdict.{verdict, loose, arc_conditions, limit_conditions, commodity_conditions, item_conditions};
-ghost use Rattle.packed.specs.Packed.{net_in, Packed};
+ghost use Rattle.packed.specs.Packed.{Packed, network_of};
 
 use crate::sizes::outside;
 use bounds::MOST_CAPACITY;
 use network::{Refusal, Verdict};
-use packed::{CAPACITIES, HEADS, LIMITS, SINKS, SOURCES, Shape, TAILS};
+use packed::{CAPACITIES, HEADS, LIMITS, SINKS, SOURCES, TAILS, Net};
 
 // The number at i, 0 past the end.
 fn at(s: &[u64], i: usize) -> u64
@@ -67,19 +67,19 @@ pub fn check_commodities(n: u64, sources: &[u64], sinks: &[u64]) -> Verdict
 }
 
 // 6, 7, 14 and 8 of a network whose sizes have passed.
-pub fn check_items(s: Shape, net: &[u64]) -> Verdict
-    requires { Packed s net.now }
-    ensures { result ≡ verdict (item_conditions (net_in s net.now)) }
+pub fn check_items(net: &Net) -> Verdict
+    requires { Packed net.now.shape net.now.numbers }
+    ensures { result ≡ verdict (item_conditions (network_of net.now)) }
 {
-    let m = s.arcs;
-    let k = s.commodities;
-    let given = s.limits;
+    let m = net.shape.arcs;
+    let k = net.shape.commodities;
+    let given = net.shape.limits;
     check_arcs(
-        s.nodes,
-        &net[TAILS..TAILS + m],
-        &net[HEADS..HEADS + m],
-        &net[CAPACITIES..CAPACITIES + m],
+        net.shape.nodes,
+        &net.numbers[TAILS..TAILS + m],
+        &net.numbers[HEADS..HEADS + m],
+        &net.numbers[CAPACITIES..CAPACITIES + m],
     )?;
-    check_limits(&net[LIMITS..LIMITS + given])?;
-    check_commodities(s.nodes, &net[SOURCES..SOURCES + k], &net[SINKS..SINKS + k])
+    check_limits(&net.numbers[LIMITS..LIMITS + given])?;
+    check_commodities(net.shape.nodes, &net.numbers[SOURCES..SOURCES + k], &net.numbers[SINKS..SINKS + k])
 }

@@ -4,7 +4,7 @@
 // The number of arcs, which a distance has beside the length, does not count between commodities.
 ghost use Rattle.std.specs.Prelude.{length};
 ghost use Rattle.network.specs.Network.{sink};
-ghost use Rattle.packed.specs.Packed.{net_in};
+ghost use Rattle.packed.specs.Packed.{network_of};
 ghost use Rattle.memory.specs.Memory.{bounds_in, distances_in};
 ghost use Rattle.choice.specs.Calls.{Looking, Following, Choosing};
 ghost use Rattle.choice.specs.Closest.{Nearest};
@@ -14,74 +14,63 @@ use crate::{INTO, OUT};
 use index::INDEX_NUMBERS;
 use memory::raise::{raise, told};
 use memory::{BOUNDS, LEAST, PAGES};
-use packed::{SINKS, SOURCES, Shape};
+use packed::{Net, SINKS, SOURCES};
 use page::{DISTANCE_NUMBERS, PAGE_NUMBERS};
 use search::distances;
 use walk::walk;
 
 // The distances to t, the sink of commodity i, are searched for, and all bounds raised by them; the lowest-numbered commodity of least bound now. i is taken
 // for the contract.
-fn look(
-    s: Shape,
-    net: &[u64],
-    into: &[u64],
-    lengths: &[u64],
-    t: u64,
-    i: usize,
-    memory: &mut [u64],
-) -> usize
-    requires { Looking s net.now into.now lengths.now t i memory.old }
-    ensures { Looked s (net_in s net.now) lengths.now t memory.old memory.new result }
+fn look(net: &Net, into: &[u64], lengths: &[u64], t: u64, i: usize, memory: &mut [u64]) -> usize
+    requires { Looking net.now.shape net.now.numbers into.now lengths.now t i memory.old }
+    ensures { Looked net.now.shape (network_of net.now) lengths.now t memory.old memory.new result }
 {
     let at = PAGES + PAGE_NUMBERS * t as usize;
-    distances(s, net, into, lengths, t, &mut memory[at..at + PAGE_NUMBERS]);
-    raise(s, net, into, lengths, t, memory)
+    distances(net, into, lengths, t, &mut memory[at..at + PAGE_NUMBERS]);
+    raise(net, into, lengths, t, memory)
 }
 
 // The walk of commodity i by the page of its sink; how many arcs it has, None where it is stuck or its length is not the
 // bound.
 fn follow(
-    s: Shape,
-    net: &[u64],
+    net: &Net,
     indexes: &[u64],
     lengths: &[u64],
     i: usize,
     memory: &[u64],
     path: &mut [u64],
 ) -> Option<usize>
-    requires { Following s net.now indexes.now lengths.now i memory.now (length path.old) }
-    ensures { Followed (net_in s net.now) lengths.now (bounds_in s memory.now) (distances_in (sink (net_in s net.now) i) memory.now) i path.new result }
+    requires { Following net.now.shape net.now.numbers indexes.now lengths.now i memory.now (length path.old) }
+    ensures { Followed (network_of net.now) lengths.now (bounds_in net.now.shape memory.now) (distances_in (sink (network_of net.now) i) memory.now) i path.new result }
 {
     let out = &indexes[OUT..OUT + INDEX_NUMBERS];
-    let source = net[SOURCES + i];
-    let sink = net[SINKS + i];
+    let source = net.numbers[SOURCES + i];
+    let sink = net.numbers[SINKS + i];
     let at = PAGES + PAGE_NUMBERS * sink as usize;
     let dist = &memory[at..at + DISTANCE_NUMBERS];
     if told(out, lengths, dist, source, sink) != memory[BOUNDS + i] {
         return None;
     }
-    walk(s, net, out, lengths, dist, source, sink, path)
+    walk(net, out, lengths, dist, source, sink, path)
 }
 
 // The lowest-numbered commodity whose sink is nearest to its source is noted in memory, and its walk written into path;
 // how many arcs that has, None where no commodity is joined. The commodity noted last has just been drawn, so that its
 // sink is searched first.
 pub fn nearest(
-    s: Shape,
-    net: &[u64],
+    net: &Net,
     indexes: &[u64],
     lengths: &[u64],
     memory: &mut [u64],
     path: &mut [u64],
 ) -> Option<usize>
-    requires { Choosing s net.now indexes.now lengths.now memory.old (length path.old) }
-    ensures { Nearest s (net_in s net.now) lengths.now memory.new path.new result }
+    requires { Choosing net.now.shape net.now.numbers indexes.now lengths.now memory.old (length path.old) }
+    ensures { Nearest net.now.shape (network_of net.now) lengths.now memory.new path.new result }
 {
     let mut i = memory[LEAST] as usize;
     let arcs = loop {
-        let t = net[SINKS + i];
+        let t = net.numbers[SINKS + i];
         i = look(
-            s,
             net,
             &indexes[INTO..INTO + INDEX_NUMBERS],
             lengths,
@@ -89,8 +78,8 @@ pub fn nearest(
             i,
             memory,
         );
-        let arcs = follow(s, net, indexes, lengths, i, memory, path);
-        if arcs.is_some() || net[SINKS + i] == t {
+        let arcs = follow(net, indexes, lengths, i, memory, path);
+        if arcs.is_some() || net.numbers[SINKS + i] == t {
             break arcs;
         }
     };

@@ -4,7 +4,7 @@
 mod lazy;
 
 ghost use Rattle.std.specs.Prelude.{length};
-ghost use Rattle.packed.specs.Packed.{net_in};
+ghost use Rattle.packed.specs.Packed.{network_of};
 ghost use Rattle.choice.specs.Calls.{Choosing};
 ghost use Rattle.choice.specs.Chose.{Left};
 
@@ -13,7 +13,7 @@ use bounds::{MOST_ARCS, MOST_NODES};
 use index::INDEX_NUMBERS;
 use memory::{BOUNDS, LEAST};
 use method::Selected;
-use packed::{SOURCES, Shape};
+use packed::{Net, SOURCES};
 use walk::visit;
 
 // A place for each arc of a path, which has fewer arcs than there are nodes, and for each of its nodes.
@@ -31,23 +31,21 @@ pub const INDEXES_NUMBERS: usize = RESOURCE_CAPACITIES + MOST_ARCS;
 // The choice of an iteration, None where no commodity is joined. What its path uses are the first entries of path: the
 // arcs, and behind them the limited nodes. The memory may be used again while lengths only grow.
 pub fn choose(
-    s: Shape,
-    net: &[u64],
+    net: &Net,
     indexes: &[u64],
     lengths: &[u64],
     memory: &mut [u64],
     path: &mut [u64],
 ) -> Option<Selected>
-    requires { Choosing s net.now indexes.now lengths.now memory.old (length path.old) }
-    ensures { Left s (net_in s net.now) lengths.now result path.new memory.new }
+    requires { Choosing net.now.shape net.now.numbers indexes.now lengths.now memory.old (length path.old) }
+    ensures { Left net.now.shape (network_of net.now) lengths.now result path.new memory.new }
 {
-    let arcs = nearest(s, net, indexes, lengths, memory, path)?;
+    let arcs = nearest(net, indexes, lengths, memory, path)?;
     let i = memory[LEAST] as usize;
     let used = visit(
-        s,
         net,
         &indexes[OUT..OUT + INDEX_NUMBERS],
-        net[SOURCES + i],
+        net.numbers[SOURCES + i],
         arcs,
         path,
     );

@@ -5,7 +5,7 @@ ghost use Rattle.std.specs.Prelude.{◌≡◌, ◌+◌, ◌*◌, ◌≤◌, ◌<
 ghost use Rattle.bounds.specs.Bounds.{answer_numbers};
 ghost use Rattle.numbers.specs.Numbers.{count, written};
 ghost use Rattle.method.specs.Answer.{numbers_of};
-ghost use Rattle.packed.specs.Packed.{net_in, Lent};
+ghost use Rattle.packed.specs.Packed.{Lent, network_of};
 ghost use Rattle.solver.specs.Solved.{Solving};
 ghost use Rattle.call.specs.Deliver.{slices_of, SameTables, Room, Open, TablesWritten, Delivered};
 ghost use Rattle.call.specs.Host.{count_of, raised};
@@ -13,7 +13,7 @@ ghost use Rattle.call.specs.Host.{count_of, raised};
 use bounds::{MOST_ARCS, MOST_COMMODITIES};
 use call::Tables;
 use method::Answer;
-use packed::{KEPT, Shape, TABLE_NUMBERS};
+use packed::{KEPT, TABLE_NUMBERS, Net};
 
 // The seven numbers of the answer.
 fn put_answer(a: Answer, answer: &mut [u8])
@@ -37,51 +37,49 @@ fn raise_count(iterations: u64, running: &mut [u8])
 
 // The outcome solved in lent work space of its size, and its two tables written.
 fn write_tables_in(
-    s: Shape,
     q: u64,
-    net: &[u64],
+    net: &Net,
     flows: &mut [i64],
     tables: &mut [u64],
     flow: &mut [u8],
     lengths: &mut [u8],
 ) -> Answer
-    requires solving { Solving s q net.now flows.old tables.old }
-    requires room { Room s.commodities s.arcs s.resources flow.old lengths.old }
-    ensures { TablesWritten (net_in s net.now) q result flow.old lengths.old flow.new lengths.new }
+    requires solving { Solving net.now.shape q net.now.numbers flows.old tables.old }
+    requires room { Room net.now.shape.commodities net.now.shape.arcs net.now.shape.resources flow.old lengths.old }
+    ensures { TablesWritten (network_of net.now) q result flow.old lengths.old flow.new lengths.new }
 {
-    let r = s.resources;
-    let a = solver::solve(s, q, net, flows, tables);
+    let r = net.shape.resources;
+    let a = solver::solve(q, net, flows, tables);
     numbers::write_all(flow, flows);
     numbers::write_all(lengths, &tables[KEPT..KEPT + r]);
     a
 }
 
 // The outcome solved, and its two tables written.
-fn write_tables(s: Shape, q: u64, net: &[u64], flow: &mut [u8], lengths: &mut [u8]) -> Answer
-    requires lent { Lent s q net.now }
-    requires room { Room s.commodities s.arcs s.resources flow.old lengths.old }
-    ensures { TablesWritten (net_in s net.now) q result flow.old lengths.old flow.new lengths.new }
+fn write_tables(q: u64, net: &Net, flow: &mut [u8], lengths: &mut [u8]) -> Answer
+    requires lent { Lent net.now.shape q net.now.numbers }
+    requires room { Room net.now.shape.commodities net.now.shape.arcs net.now.shape.resources flow.old lengths.old }
+    ensures { TablesWritten (network_of net.now) q result flow.old lengths.old flow.new lengths.new }
 {
-    let size = s.commodities * s.arcs;
+    let size = net.shape.commodities * net.shape.arcs;
     let mut flows = [0i64; MOST_COMMODITIES * MOST_ARCS];
     let mut tables = [0u64; TABLE_NUMBERS];
-    write_tables_in(s, q, net, &mut flows[..size], &mut tables, flow, lengths)
+    write_tables_in(q, net, &mut flows[..size], &mut tables, flow, lengths)
 }
 
 // The outcome solved and written.
 pub fn deliver(
-    s: Shape,
     q: u64,
-    net: &[u64],
+    net: &Net,
     tables: &mut Tables<'_>,
     running: &mut [u8],
 )
-    requires lent { Lent s q net.now }
-    requires room { Open s.commodities s.arcs s.resources (slices_of tables.old running.old) }
-    ensures delivered { Delivered (net_in s net.now) q (slices_of tables.old running.old) (slices_of tables.new running.new) }
+    requires lent { Lent net.now.shape q net.now.numbers }
+    requires room { Open net.now.shape.commodities net.now.shape.arcs net.now.shape.resources (slices_of tables.old running.old) }
+    ensures delivered { Delivered (network_of net.now) q (slices_of tables.old running.old) (slices_of tables.new running.new) }
     ensures same { SameTables tables.old tables.new }
 {
-    let a = write_tables(s, q, net, tables.flow, tables.lengths);
+    let a = write_tables(q, net, tables.flow, tables.lengths);
     put_answer(a, tables.answer);
     raise_count(a.count, running);
 }

@@ -10,25 +10,26 @@ use checks::items::check_items;
 use decode::{Floor, decode};
 use deliver::deliver;
 use network::Verdict;
-use packed::{NET_NUMBERS, Shape};
+use packed::{NET_NUMBERS, Net, Shape};
 
 // The call served, with a lent slice for the network.
 fn serve_in(
     s: Shape,
     q: u64,
     floor: &Floor<'_>,
-    net: &mut [u64],
+    net: &mut Net,
     tables: &mut Tables<'_>,
     running: &mut [u8],
 ) -> Verdict
     requires sizes { Sizable s q floor.now.belts.now floor.now.pairs.now floor.now.limits.now (slices_of tables.old running.old) }
-    requires places { Packed s net.old }
+    requires shape { net.old.shape ≡ s }
+    requires places { Packed s net.old.numbers }
     ensures same { SameTables tables.old tables.new }
     ensures judged { Judged (network_in s.nodes floor.now.belts.now floor.now.pairs.now floor.now.limits.now) q (slices_of tables.old running.old) (slices_of tables.new running.new) (host_number result) }
 {
-    decode(s, floor, net);
-    check_items(s, net)?;
-    deliver(s, q, net, tables, running);
+    decode(s, floor, &mut net.numbers);
+    check_items(net)?;
+    deliver(q, net, tables, running);
     Ok(())
 }
 
@@ -44,6 +45,9 @@ pub fn serve(
     ensures same { SameTables tables.old tables.new }
     ensures judged { Judged (network_in s.nodes floor.now.belts.now floor.now.pairs.now floor.now.limits.now) q (slices_of tables.old running.old) (slices_of tables.new running.new) (host_number result) }
 {
-    let mut net = [0u64; NET_NUMBERS];
+    let mut net = Net {
+        shape: s,
+        numbers: [0; NET_NUMBERS],
+    };
     serve_in(s, q, floor, &mut net, tables, running)
 }

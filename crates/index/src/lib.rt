@@ -5,13 +5,13 @@
 
 ghost use Rattle.std.specs.Prelude.{◌≡◌, ◌∷◌, ◌+◌, ◌≤◌, length, get_or};
 ghost use Rattle.network.specs.Resources.{resource_capacities};
-ghost use Rattle.packed.specs.Packed.{net_in};
+ghost use Rattle.packed.specs.Packed.{network_of};
 ghost use Rattle.index.specs.Index.{Index, Stations, Into, Out};
 ghost use Rattle.index.specs.Indexing.{side, sides, Indexable, Located, Roomy, Limiting, Columns, Indexing, Joins};
 ghost use Rattle.index.specs.Indexing.{Seeing, Seen, Building, Putting, placed, AddingArc, Opening};
 
 use bounds::{MOST_ARCS, MOST_NODES};
-use packed::{CAPACITIES, HEADS, LIMITS, MARKS, Shape, TAILS};
+use packed::{CAPACITIES, HEADS, LIMITS, MARKS, Net, TAILS};
 
 // First stands for each node, and one past the last, the place where its arcs begin; the arcs of the places stand from here on,
 pub const ARCS: usize = MOST_NODES as usize + 2;
@@ -96,68 +96,68 @@ fn limit(limits: &[u64], v: usize) -> u64
 }
 
 // Which resource each node is: those that are limited are counted on behind the arcs, the others get a number past all resources.
-fn place_nodes(s: Shape, net: &[u64], ix: &mut [u64])
-    requires { Indexable s net.now (length ix.old) }
-    ensures { Located (net_in s net.now) ix.old ix.new }
+fn place_nodes(net: &Net, ix: &mut [u64])
+    requires { Indexable net.now.shape net.now.numbers (length ix.old) }
+    ensures { Located (network_of net.now) ix.old ix.new }
 {
-    let limits = &net[LIMITS..LIMITS + s.limits];
-    let mut next = s.arcs;
-    for v in 0..=s.nodes as usize {
+    let limits = &net.numbers[LIMITS..LIMITS + net.shape.limits];
+    let mut next = net.shape.arcs;
+    for v in 0..=net.shape.nodes as usize {
         if limit(limits, v) != 0 {
             ix[PLACES + v] = next as u64;
             next += 1;
         } else {
-            ix[PLACES + v] = s.resources as u64;
+            ix[PLACES + v] = net.shape.resources as u64;
         }
     }
 }
 
 // The index of the arcs by their ends in the column from here on, with their other ends in that from there on; behind
 // it the resources of the nodes.
-fn index_columns(here: usize, there: usize, s: Shape, net: &[u64], ix: &mut [u64])
-    requires indexable { Indexable s net.now (length ix.old) }
-    requires here { here + s.arcs ≤ length net.now }
-    requires there { there + s.arcs ≤ length net.now }
-    requires columns { Columns (sides here there s net.now) }
-    ensures arcs { Index (Joins (sides here there s net.now)) s.nodes ix.new }
-    ensures places { Stations (net_in s net.now) ix.new }
+fn index_columns(here: usize, there: usize, net: &Net, ix: &mut [u64])
+    requires indexable { Indexable net.now.shape net.now.numbers (length ix.old) }
+    requires here { here + net.now.shape.arcs ≤ length net.now.numbers }
+    requires there { there + net.now.shape.arcs ≤ length net.now.numbers }
+    requires columns { Columns (sides here there net.now.shape net.now.numbers) }
+    ensures arcs { Index (Joins (sides here there net.now.shape net.now.numbers)) net.now.shape.nodes ix.new }
+    ensures places { Stations (network_of net.now) ix.new }
 {
-    let m = s.arcs;
-    let marks = &net[MARKS..MARKS + m];
+    let m = net.shape.arcs;
+    let marks = &net.numbers[MARKS..MARKS + m];
     index_by(
-        s.nodes,
-        &net[here..here + m],
-        &net[there..there + m],
+        net.shape.nodes,
+        &net.numbers[here..here + m],
+        &net.numbers[there..there + m],
         marks,
         ix,
     );
-    place_nodes(s, net, ix);
+    place_nodes(net, ix);
 }
 
 // The index of the arcs into each node.
-pub fn index_into(s: Shape, net: &[u64], ix: &mut [u64])
-    requires { Indexable s net.now (length ix.old) }
-    ensures { Into (net_in s net.now) ix.new }
+pub fn index_into(net: &Net, ix: &mut [u64])
+    requires { Indexable net.now.shape net.now.numbers (length ix.old) }
+    ensures { Into (network_of net.now) ix.new }
 {
-    index_columns(HEADS, TAILS, s, net, ix);
+    index_columns(HEADS, TAILS, net, ix);
 }
 
 // The index of the arcs out of each node.
-pub fn index_out(s: Shape, net: &[u64], ix: &mut [u64])
-    requires { Indexable s net.now (length ix.old) }
-    ensures { Out (net_in s net.now) ix.new }
+pub fn index_out(net: &Net, ix: &mut [u64])
+    requires { Indexable net.now.shape net.now.numbers (length ix.old) }
+    ensures { Out (network_of net.now) ix.new }
 {
-    index_columns(TAILS, HEADS, s, net, ix);
+    index_columns(TAILS, HEADS, net, ix);
 }
 
 // The limits that are set, from node to node, behind the capacities of the arcs.
-fn append_limits(s: Shape, net: &[u64], table: &mut [u64])
-    requires { Limiting s net.now table.old }
-    ensures { table.new ≡ resource_capacities (net_in s net.now) }
+fn append_limits(net: &Net, table: &mut [u64])
+    requires { Limiting net.now.shape net.now.numbers table.old }
+    ensures { table.new ≡ resource_capacities (network_of net.now) }
 {
-    let limits = &net[LIMITS..LIMITS + s.limits];
-    let mut end = s.arcs;
-    for v in 0..=s.nodes as usize {
+    let limits = &net.numbers[LIMITS..LIMITS + net.shape.limits];
+    let mut end = net.shape.arcs;
+    for v in 0..=net.shape.nodes as usize {
         let x = limit(limits, v);
         if x != 0 {
             table[end] = x;
@@ -167,11 +167,11 @@ fn append_limits(s: Shape, net: &[u64], table: &mut [u64])
 }
 
 // The capacities of the resources.
-pub fn resource_capacities(s: Shape, net: &[u64], table: &mut [u64])
-    requires { Roomy s net.now (length table.old) }
-    ensures { table.new ≡ resource_capacities (net_in s net.now) }
+pub fn resource_capacities(net: &Net, table: &mut [u64])
+    requires { Roomy net.now.shape net.now.numbers (length table.old) }
+    ensures { table.new ≡ resource_capacities (network_of net.now) }
 {
-    let m = s.arcs;
-    table[..m].copy_from_slice(&net[CAPACITIES..CAPACITIES + m]);
-    append_limits(s, net, table);
+    let m = net.shape.arcs;
+    table[..m].copy_from_slice(&net.numbers[CAPACITIES..CAPACITIES + m]);
+    append_limits(net, table);
 }

@@ -6,7 +6,7 @@ ghost use Rattle.memory.specs.Raised.{told_by, Telling, Raising, RaisedAt, AllRa
 
 use crate::{BOUNDS, PAGES};
 use bounds::MOST_NODES;
-use packed::{SINKS, SOURCES, Shape};
+use packed::{Net, SINKS, SOURCES};
 use page::{DISTANCE_NUMBERS, PAGE_NUMBERS};
 use paths::through;
 
@@ -22,26 +22,18 @@ pub fn told(ix: &[u64], lengths: &[u64], dist: &[u64], v: u64, w: u64) -> u64
 }
 
 // The bound of commodity i is raised to what the table of t tells, where that is more; the bound.
-fn raise_at(
-    s: Shape,
-    net: &[u64],
-    ix: &[u64],
-    lengths: &[u64],
-    t: u64,
-    i: usize,
-    memory: &mut [u64],
-) -> u64
-    requires raising { Raising s net.now ix.now lengths.now t memory.old }
-    requires among { i < s.commodities }
-    ensures { RaisedAt s net.now ix.now lengths.now t i memory.old memory.new result }
+fn raise_at(net: &Net, ix: &[u64], lengths: &[u64], t: u64, i: usize, memory: &mut [u64]) -> u64
+    requires raising { Raising net.now.shape net.now.numbers ix.now lengths.now t memory.old }
+    requires among { i < net.now.shape.commodities }
+    ensures { RaisedAt net.now.shape net.now.numbers ix.now lengths.now t i memory.old memory.new result }
 {
     let at = PAGES + PAGE_NUMBERS * t as usize;
     let x = told(
         ix,
         lengths,
         &memory[at..at + DISTANCE_NUMBERS],
-        net[SOURCES + i],
-        net[SINKS + i],
+        net.numbers[SOURCES + i],
+        net.numbers[SINKS + i],
     );
     let bound = memory[BOUNDS + i].max(x);
     memory[BOUNDS + i] = bound;
@@ -49,21 +41,14 @@ fn raise_at(
 }
 
 // The bounds of all commodities are raised so; the lowest-numbered commodity of least bound.
-pub fn raise(
-    s: Shape,
-    net: &[u64],
-    ix: &[u64],
-    lengths: &[u64],
-    t: u64,
-    memory: &mut [u64],
-) -> usize
-    requires raising { Raising s net.now ix.now lengths.now t memory.old }
-    requires some { 1 ≤ s.commodities }
-    ensures { AllRaised s net.now ix.now lengths.now t memory.old memory.new result }
+pub fn raise(net: &Net, ix: &[u64], lengths: &[u64], t: u64, memory: &mut [u64]) -> usize
+    requires raising { Raising net.now.shape net.now.numbers ix.now lengths.now t memory.old }
+    requires some { 1 ≤ net.now.shape.commodities }
+    ensures { AllRaised net.now.shape net.now.numbers ix.now lengths.now t memory.old memory.new result }
 {
     let mut b = 0;
-    for i in 0..s.commodities {
-        let bound = raise_at(s, net, ix, lengths, t, i, memory);
+    for i in 0..net.shape.commodities {
+        let bound = raise_at(net, ix, lengths, t, i, memory);
         if bound < memory[BOUNDS + b] {
             b = i;
         }

@@ -5,6 +5,7 @@ use Rattle.bounds.specs.Bounds.{most_nodes, most_arcs, most_commodities}
 use Rattle.network.specs.Network.{Network}
 use Rattle.network.specs.Resources.{resources}
 use Rattle.network.specs.Sound.{Sound}
+use Rattle.packed.specs.declared.Net.{Net}
 use Rattle.packed.specs.declared.Shape.{Shape}
 pub use Rattle.packed.specs.Part.{part, put}
 
@@ -46,6 +47,10 @@ net_in s xs =
       sources = part sources_from s.commodities xs;
       sinks = part sinks_from s.commodities xs;
     }
+
+-- The network of a shape with its columns.
+abbrev pub network_of : Net → Network
+network_of net = net_in net.shape net.numbers
 
 -- The columns do not overlap, and the slice has them all.
 pub record Packed (s : Shape) (xs : List ℕ) : Type 0 where

@@ -1,5 +1,5 @@
 // The network as one slice of numbers: its columns stand at fixed places, each with room for the most arcs, commodities or nodes. It travels from the
-// calls down to the loops as this slice and its shape; only a loop over a column cuts that column out.
+// calls down to the loops with its shape; only a loop over a column cuts that column out.
 #![tactic(auto)]
 
 use bounds::{MOST_ARCS, MOST_COMMODITIES, MOST_NODES};
@@ -41,3 +41,9 @@ pub const KEPT: usize = 2 * MOST_ARCS;
 
 // and how many numbers they take in all.
 pub const TABLE_NUMBERS: usize = 3 * MOST_ARCS;
+
+// A network: its shape, and its columns in one array.
+pub struct Net {
+    pub shape: Shape,
+    pub numbers: [u64; NET_NUMBERS],
+}

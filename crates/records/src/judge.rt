@@ -2,7 +2,7 @@
 ghost use Rattle.std.specs.Prelude.{◌≡◌, Ok, take};
 ghost use Rattle.network.specs.Verdict.{verdict, item_conditions};
 ghost use Rattle.network.specs.Refusal.{Accepted};
-ghost use Rattle.packed.specs.Packed.{part, net_in, limits_from};
+ghost use Rattle.packed.specs.Packed.{part, net_in, limits_from, network_of};
 ghost use Rattle.records.specs.Parts.{network_copied, half_of, Halving, Pairing, Limiting, Limited, Completing, Checking, Delivering, Passed};
 ghost use Rattle.records.specs.Records.{Replied};
 
@@ -10,7 +10,7 @@ use crate::sizes::shape;
 use checks::items::check_items;
 use method::Answer;
 use network::Verdict;
-use packed::{KEPT, LIMITS, NET_NUMBERS, SINKS, SOURCES, Shape, TABLE_NUMBERS};
+use packed::{KEPT, LIMITS, NET_NUMBERS, SINKS, SOURCES, Shape, TABLE_NUMBERS, Net};
 
 // One number of each pair: the first of the two, or the second.
 fn halve(pairs: &[u64], which: usize, to: &mut [u64])
@@ -62,20 +62,23 @@ pub fn check_copy(
     ensures { result ≡ verdict (item_conditions (network_copied n m arcs pairs.now (take n limits.now))) }
 {
     let s = shape(n, m, pairs.len(), limits);
-    let mut net = arcs;
-    complete(s, pairs, limits, &mut net);
-    check_items(s, &net)
+    let mut net = Net {
+        shape: s,
+        numbers: arcs,
+    };
+    complete(s, pairs, limits, &mut net.numbers);
+    check_items(&net)
 }
 
 // An accepted network: the outcome takes the first places of both tables.
-fn deliver_in(s: Shape, q: u64, net: &[u64], flow: &mut [i64], lengths: &mut [u64]) -> Answer
-    requires { Delivering s q net.now flow.old lengths.old }
-    ensures { Replied (net_in s net.now) q Accepted flow.old lengths.old flow.new lengths.new (Ok result) }
+fn deliver_in(q: u64, net: &Net, flow: &mut [i64], lengths: &mut [u64]) -> Answer
+    requires { Delivering net.now.shape q net.now.numbers flow.old lengths.old }
+    ensures { Replied (network_of net.now) q Accepted flow.old lengths.old flow.new lengths.new (Ok result) }
 {
-    let r = s.resources;
-    let size = s.commodities * s.arcs;
+    let r = net.shape.resources;
+    let size = net.shape.commodities * net.shape.arcs;
     let mut tables = [0u64; TABLE_NUMBERS];
-    let answer = solver::solve(s, q, net, &mut flow[..size], &mut tables);
+    let answer = solver::solve(q, net, &mut flow[..size], &mut tables);
     lengths[..r].copy_from_slice(&tables[KEPT..KEPT + r]);
     answer
 }
@@ -95,7 +98,10 @@ pub fn deliver(
     ensures { Replied (network_copied n m arcs pairs.now (take n limits.now)) q Accepted flow.old lengths.old flow.new lengths.new (Ok result) }
 {
     let s = shape(n, m, pairs.len(), limits);
-    let mut net = arcs;
-    complete(s, pairs, limits, &mut net);
-    deliver_in(s, q, &net, flow, lengths)
+    let mut net = Net {
+        shape: s,
+        numbers: arcs,
+    };
+    complete(s, pairs, limits, &mut net.numbers);
+    deliver_in(q, &net, flow, lengths)
 }

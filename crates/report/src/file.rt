@@ -8,7 +8,7 @@ use crate::solved::show;
 use checks::items::check_items;
 use dimacs::Parsed;
 use network::Refusal;
-use packed::{CAPACITIES, HEADS, MARKS, NET_NUMBERS, SINKS, SOURCES, Shape, TAILS};
+use packed::{CAPACITIES, HEADS, MARKS, NET_NUMBERS, Net, SINKS, SOURCES, Shape, TAILS};
 use rows::put::put;
 use rows::put_refusal;
 
@@ -33,17 +33,20 @@ fn file_rows(text: &[u8], out: &mut [u8], at: usize) -> Result<usize, Refusal>
     ensures { Filed text.now out.old at out.new result }
 {
     let file = dimacs::read(text)?;
-    let s = Shape {
+    let shape = Shape {
         nodes: file.nodes,
         arcs: file.arcs,
         commodities: 1,
         limits: 0,
         resources: file.arcs,
     };
-    let mut net = [0u64; NET_NUMBERS];
-    pack(&file, &mut net);
-    check_items(s, &net)?;
-    Ok(show(s, &net, out, at))
+    let mut net = Net {
+        shape,
+        numbers: [0; NET_NUMBERS],
+    };
+    pack(&file, &mut net.numbers);
+    check_items(&net)?;
+    Ok(show(&net, out, at))
 }
 
 // The listing of a file of these bytes, from the first place on; returns how many bytes it has. The table holds every listing: 27 bytes for the

@@ -1,7 +1,7 @@
 // One iteration on the lent slices.
 ghost use Rattle.std.specs.Prelude.{◌≤◌, length};
 ghost use Rattle.bounds.specs.Bounds.{most_nodes};
-ghost use Rattle.packed.specs.Packed.{net_in};
+ghost use Rattle.packed.specs.Packed.{network_of};
 ghost use Rattle.memory.specs.Memory.{memory_numbers};
 ghost use Rattle.step.specs.Progress.{state_in};
 ghost use Rattle.run.specs.Noted.{Iterating, Kept, Onward};
@@ -9,7 +9,7 @@ ghost use Rattle.run.specs.Runs.{Space};
 
 use choice::RESOURCE_CAPACITIES;
 use memory::pages::forget;
-use packed::{LENGTHS, Shape};
+use packed::{LENGTHS, Net};
 use step::Progress;
 
 // What is remembered is forgotten where the lengths were halved: only then can a path be shorter than it was.
@@ -24,10 +24,9 @@ fn keep(halved: bool, n: u64, memory: &mut [u64])
 
 // One iteration: the choice by the lengths, which some commodity joined makes certain, and the step along its path.
 pub fn iterate(
-    s: Shape,
     q: u64,
     threshold: u64,
-    net: &[u64],
+    net: &Net,
     indexes: &[u64],
     flow: &mut [i64],
     tables: &mut [u64],
@@ -35,14 +34,13 @@ pub fn iterate(
     path: &mut [u64],
     p: Progress,
 ) -> Progress
-    requires room { Space s q net.now indexes.now (length tables.old) (length path.old) }
-    requires iterating { Iterating s (net_in s net.now) q threshold memory.old (state_in s flow.old tables.old p) p }
-    ensures { Onward s (net_in s net.now) q (state_in s flow.old tables.old p) (state_in s flow.new tables.new result) memory.new result }
+    requires room { Space net.now.shape q net.now.numbers indexes.now (length tables.old) (length path.old) }
+    requires iterating { Iterating net.now.shape (network_of net.now) q threshold memory.old (state_in net.now.shape flow.old tables.old p) p }
+    ensures { Onward net.now.shape (network_of net.now) q (state_in net.now.shape flow.old tables.old p) (state_in net.now.shape flow.new tables.new result) memory.new result }
 {
-    let m = s.resources;
-    let c = choice::choose(s, net, indexes, &tables[LENGTHS..LENGTHS + m], memory, path).unwrap();
+    let m = net.shape.resources;
+    let c = choice::choose(net, indexes, &tables[LENGTHS..LENGTHS + m], memory, path).unwrap();
     let r = step::step(
-        s,
         q,
         threshold,
         net,
@@ -53,6 +51,6 @@ pub fn iterate(
         tables,
         p,
     );
-    keep(r.halved, s.nodes, memory);
+    keep(r.halved, net.shape.nodes, memory);
     r
 }

@@ -1,12 +1,12 @@
 // The run: iterations until some load is at the threshold, on the lent slices.
 ghost use Rattle.std.specs.Prelude.{◌≡◌, length};
-ghost use Rattle.packed.specs.Packed.{net_in};
+ghost use Rattle.packed.specs.Packed.{network_of};
 ghost use Rattle.method.specs.Run.{run};
 ghost use Rattle.step.specs.Progress.{state_in, begun, begun_with};
 ghost use Rattle.run.specs.Runs.{Space, Starting};
 
 use crate::iterations::iterate;
-use packed::Shape;
+use packed::Net;
 use step::Progress;
 
 // Nothing drawn yet, the least fraction 1 over 0, and D of the first lengths.
@@ -28,9 +28,8 @@ fn begin(weight: u64) -> Progress
 // Iterations until some load is at the threshold, from first lengths of this weight. There are at most m * T of them: the count falls short
 // of that by one less each time.
 pub fn run(
-    s: Shape,
     q: u64,
-    net: &[u64],
+    net: &Net,
     indexes: &[u64],
     flow: &mut [i64],
     tables: &mut [u64],
@@ -38,15 +37,15 @@ pub fn run(
     path: &mut [u64],
     weight: u64,
 ) -> Progress
-    requires room { Space s q net.now indexes.now (length tables.old) (length path.old) }
-    requires starting { Starting s (net_in s net.now) memory.old (state_in s flow.old tables.old begun) weight }
-    ensures { state_in s flow.new tables.new result ≡ run (net_in s net.now) q }
+    requires room { Space net.now.shape q net.now.numbers indexes.now (length tables.old) (length path.old) }
+    requires starting { Starting net.now.shape (network_of net.now) memory.old (state_in net.now.shape flow.old tables.old begun) weight }
+    ensures { state_in net.now.shape flow.new tables.new result ≡ run (network_of net.now) q }
 {
-    let m = s.resources;
+    let m = net.shape.resources;
     let threshold = length::threshold(m as u64, q);
     let mut p = begin(weight);
     loop {
-        p = iterate(s, q, threshold, net, indexes, flow, tables, memory, path, p);
+        p = iterate(q, threshold, net, indexes, flow, tables, memory, path, p);
         if p.ended {
             return p;
         }

@@ -5,7 +5,7 @@
 mod relax;
 
 ghost use Rattle.std.specs.Prelude.{◌≡◌, ◌++◌, ◌+◌, ◌≤◌, ◌<◌, length, set, drop, replicate};
-ghost use Rattle.packed.specs.Packed.{net_in};
+ghost use Rattle.packed.specs.Packed.{network_of};
 ghost use Rattle.paths.specs.Calls.{Seeking};
 ghost use Rattle.paths.specs.Far.{far};
 ghost use Rattle.paths.specs.Worklist.{Worklist};
@@ -13,7 +13,7 @@ ghost use Rattle.paths.specs.Order.{Searched};
 
 use crate::relax::relax_into;
 use bounds::MOST_NODES;
-use packed::Shape;
+use packed::Net;
 use page::list::{enlist, take_out};
 use page::scan::scan;
 use page::sort::sort;
@@ -38,19 +38,18 @@ fn reset(n: u64, sink: u64, dist: &mut [u64])
 
 // The distances, with an empty list lent. Whether the order is sorted is a matter of speed alone.
 fn distances_in(
-    s: Shape,
-    net: &[u64],
+    net: &Net,
     into: &[u64],
     lengths: &[u64],
     sink: u64,
     page: &mut [u64],
     listed: &mut [u64],
 )
-    requires seeking { Seeking (net_in s net.now) into.now lengths.now sink page.old }
-    requires empty { Worklist (net_in s net.now).nodes listed.old 0 }
-    ensures { Searched (net_in s net.now) lengths.now page.new sink }
+    requires seeking { Seeking (network_of net.now) into.now lengths.now sink page.old }
+    requires empty { Worklist (network_of net.now).nodes listed.old 0 }
+    ensures { Searched (network_of net.now) lengths.now page.new sink }
 {
-    let n = s.nodes;
+    let n = net.shape.nodes;
     reset(n, sink, page);
     let mut size = enlist(true, n, sink, listed, 0);
     let mut from = 0;
@@ -65,7 +64,7 @@ fn distances_in(
         };
         from = at + 1;
         let v = take_out(n, page, at, listed, size);
-        size = relax_into(s, net, into, lengths, sink, v, page, listed, size - 1);
+        size = relax_into(net, into, lengths, sink, v, page, listed, size - 1);
     }
     if rounds >= MOST_ROUNDS {
         sort(n, page);
@@ -74,10 +73,10 @@ fn distances_in(
 
 // The distance of every node to the sink, FAR where it is not reached. The network is taken for the contract, which speaks of it; the arcs are read from
 // into, the index of those into each node.
-pub fn distances(s: Shape, net: &[u64], into: &[u64], lengths: &[u64], sink: u64, page: &mut [u64])
-    requires { Seeking (net_in s net.now) into.now lengths.now sink page.old }
-    ensures { Searched (net_in s net.now) lengths.now page.new sink }
+pub fn distances(net: &Net, into: &[u64], lengths: &[u64], sink: u64, page: &mut [u64])
+    requires { Seeking (network_of net.now) into.now lengths.now sink page.old }
+    ensures { Searched (network_of net.now) lengths.now page.new sink }
 {
     let mut listed = [0u64; MOST_NODES as usize + 1];
-    distances_in(s, net, into, lengths, sink, page, &mut listed);
+    distances_in(net, into, lengths, sink, page, &mut listed);
 }

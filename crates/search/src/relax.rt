@@ -1,14 +1,14 @@
 // Relaxation: of one arc, and of all arcs into a node.
 // The network and the sink are taken for the contracts, which speak of them and of the search; the arcs are read from the index of those into each node.
 ghost use Rattle.std.specs.Prelude.{◌≡◌, true, ◌+◌, ◌≤◌, ◌<◌, length, get_or};
-ghost use Rattle.packed.specs.Packed.{net_in};
+ghost use Rattle.packed.specs.Packed.{network_of};
 ghost use Rattle.paths.specs.Calls.{Reaching, Entering};
 ghost use Rattle.paths.specs.Relax.{Taken};
 ghost use Rattle.paths.specs.Searching.{Any, Passed, Spread, Reached};
 
 use bounds::MOST_NODES;
 use index::{ARCS, ENDS};
-use packed::Shape;
+use packed::Net;
 use page::list::enlist;
 use paths::through;
 
@@ -39,8 +39,7 @@ fn passed_by(crowd: bool, way: u64, u: usize, dist: &[u64]) -> bool
 // The arc at place p, one of those into v, is relaxed, and the node that it comes from goes onto the list if that brings it nearer. How many are on the list now.
 // onward is what the way has beside the arc's own length: it is the same for all arcs into v, as is whether they are a crowd.
 fn reach(
-    s: Shape,
-    net: &[u64],
+    net: &Net,
     into: &[u64],
     lengths: &[u64],
     sink: u64,
@@ -52,8 +51,8 @@ fn reach(
     size: usize,
     crowd: bool,
 ) -> usize
-    requires { Reaching (net_in s net.now) into.now lengths.now sink v onward p dist.old listed.old size }
-    ensures { Reached (net_in s net.now) lengths.now sink v (Passed into.now v (p + 1)) dist.old size dist.new listed.new result }
+    requires { Reaching (network_of net.now) into.now lengths.now sink v onward p dist.old listed.old size }
+    ensures { Reached (network_of net.now) lengths.now sink v (Passed into.now v (p + 1)) dist.old size dist.new listed.new result }
 {
     let e = into[ARCS + p] as usize;
     let u = into[ENDS + p];
@@ -62,13 +61,12 @@ fn reach(
         return size;
     }
     let nearer = relax(way, u as usize, dist);
-    enlist(nearer, s.nodes, u, listed, size)
+    enlist(nearer, net.shape.nodes, u, listed, size)
 }
 
 // Every arc into v is relaxed, one after the other. How many are on the search's list now.
 pub fn relax_into(
-    s: Shape,
-    net: &[u64],
+    net: &Net,
     into: &[u64],
     lengths: &[u64],
     sink: u64,
@@ -77,8 +75,8 @@ pub fn relax_into(
     listed: &mut [u64],
     size: usize,
 ) -> usize
-    requires { Entering (net_in s net.now) into.now lengths.now sink v dist.old listed.old size }
-    ensures { Spread (net_in s net.now) lengths.now sink Any dist.old size dist.new listed.new result }
+    requires { Entering (network_of net.now) into.now lengths.now sink v dist.old listed.old size }
+    ensures { Spread (network_of net.now) lengths.now sink Any dist.old size dist.new listed.new result }
 {
     let x = through(into, lengths, v as usize);
     let onward = MOST_NODES * x + 1 + dist[v as usize];
@@ -88,7 +86,7 @@ pub fn relax_into(
     let crowd = crowded(begin, end);
     for p in begin..end {
         count = reach(
-            s, net, into, lengths, sink, v, onward, p, dist, listed, count, crowd,
+            net, into, lengths, sink, v, onward, p, dist, listed, count, crowd,
         );
     }
     count

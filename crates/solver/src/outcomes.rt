@@ -1,13 +1,13 @@
 // The outcome from the tables of the start: no answer where no commodity is joined, else that of the run.
 ghost use Rattle.std.specs.Prelude.{◌≡◌, length};
-ghost use Rattle.packed.specs.Packed.{net_in, loads_in, kept_in};
+ghost use Rattle.packed.specs.Packed.{loads_in, kept_in, network_of};
 ghost use Rattle.run.specs.Runs.{Space};
 ghost use Rattle.solver.specs.Prepared.{Cleared};
 ghost use Rattle.solver.specs.Solved.{Answering, Solved, answer_of, no_answer};
 
 use choice::RESOURCE_CAPACITIES;
 use method::Answer;
-use packed::{LENGTHS, LOADS, Shape};
+use packed::{LENGTHS, LOADS, Shape, Net};
 use run::runs;
 use step::Progress;
 use tables::loads;
@@ -48,9 +48,8 @@ fn unjoined() -> Answer
 
 // The first choice, and the run where there is one. D of the first lengths is at hand.
 pub fn outcome(
-    s: Shape,
     q: u64,
-    net: &[u64],
+    net: &Net,
     indexes: &[u64],
     flow: &mut [i64],
     tables: &mut [u64],
@@ -58,18 +57,18 @@ pub fn outcome(
     path: &mut [u64],
     weight: u64,
 ) -> Answer
-    requires room { Space s q net.now indexes.now (length tables.old) (length path.old) }
-    requires cleared { Cleared s (net_in s net.now) flow.old tables.old memory.old weight }
-    ensures { Solved (net_in s net.now) q result flow.new (kept_in s tables.new) }
+    requires room { Space net.now.shape q net.now.numbers indexes.now (length tables.old) (length path.old) }
+    requires cleared { Cleared net.now.shape (network_of net.now) flow.old tables.old memory.old weight }
+    ensures { Solved (network_of net.now) q result flow.new (kept_in net.now.shape tables.new) }
 {
-    let m = s.resources;
-    let first = choice::choose(s, net, indexes, &tables[LENGTHS..LENGTHS + m], memory, path);
+    let m = net.shape.resources;
+    let first = choice::choose(net, indexes, &tables[LENGTHS..LENGTHS + m], memory, path);
     if first.is_none() {
         return unjoined();
     }
-    let p = runs::run(s, q, net, indexes, flow, tables, memory, path, weight);
+    let p = runs::run(q, net, indexes, flow, tables, memory, path, weight);
     answer(
-        s,
+        net.shape,
         &indexes[RESOURCE_CAPACITIES..RESOURCE_CAPACITIES + m],
         tables,
         p,

@@ -2,13 +2,13 @@
 #![tactic(auto)]
 
 ghost use Rattle.std.specs.Prelude.{◌≡◌, ◌+◌, ◌<◌, ◌^◌};
-ghost use Rattle.packed.specs.Packed.{net_in};
+ghost use Rattle.packed.specs.Packed.{network_of};
 ghost use Rattle.step.specs.Progress.{state_in, counted};
 ghost use Rattle.step.specs.Steps.{chosen_in, Steppable, Stepped};
 
 use lengths::Grown;
 use method::Selected;
-use packed::{KEPT, LENGTHS, LOADS, Shape};
+use packed::{KEPT, LENGTHS, LOADS, Net};
 use tables::{draws, loads};
 
 // The drawn total, the count of iterations, and D, alpha and number of the iteration of the least D / alpha so far. Beside these numbers of the
@@ -57,10 +57,9 @@ impl Progress {
 // first, and capacities has those of the resources. Only what the path uses is looked at, unless the
 // lengths are kept or halved.
 pub fn step(
-    s: Shape,
     q: u64,
     threshold: u64,
-    net: &[u64],
+    net: &Net,
     capacities: &[u64],
     c: Selected,
     path: &[u64],
@@ -68,16 +67,16 @@ pub fn step(
     tables: &mut [u64],
     p: Progress,
 ) -> Progress
-    requires { Steppable s q threshold c net.now capacities.now path.now flow.old tables.old p }
-    ensures { Stepped (net_in s net.now) q threshold (chosen_in c path.now) (state_in s flow.old tables.old p) (state_in s flow.new tables.new result) result }
+    requires { Steppable net.now.shape q threshold c net.now.numbers capacities.now path.now flow.old tables.old p }
+    ensures { Stepped (network_of net.now) q threshold (chosen_in c path.now) (state_in net.now.shape flow.old tables.old p) (state_in net.now.shape flow.new tables.new result) result }
 {
-    let m = s.resources;
+    let m = net.shape.resources;
     let g = draws::draw(capacities, path);
     let better = arith::less_product(p.weight, p.alpha, p.bound, c.alpha);
     if better {
         tables.copy_within(LENGTHS..LENGTHS + m, KEPT);
     }
-    draws::push(flow, s, net, c.commodity, &path[..c.arcs], g);
+    draws::push(flow, net, c.commodity, &path[..c.arcs], g);
     let ended = loads::load(
         &mut tables[LOADS..LOADS + m],
         capacities,

@@ -5,14 +5,14 @@
 
 ghost use Rattle.std.specs.Prelude.{◌≡◌, length};
 ghost use Rattle.network.specs.Path.{beyond};
-ghost use Rattle.packed.specs.Packed.{net_in};
+ghost use Rattle.packed.specs.Packed.{network_of};
 ghost use Rattle.paths.specs.Calls.{Leaving};
 ghost use Rattle.paths.specs.Tight.{over_at, Offered, Sought};
 ghost use Rattle.paths.specs.Visits.{Entering, Entered, Crossed, Visiting, Visits};
 ghost use Rattle.paths.specs.Walked.{Walkable, Walked};
 
 use index::{ARCS, ENDS, PLACES};
-use packed::{HEADS, Shape, TAILS};
+use packed::{HEADS, Net, TAILS};
 use paths::{over, through};
 
 // How far the way over the arc at place p is.
@@ -26,9 +26,9 @@ fn over_at(out: &[u64], lengths: &[u64], dist: &[u64], p: usize) -> u64
 }
 
 // The place of the lowest-numbered tight arc from v.
-fn tight(s: Shape, net: &[u64], out: &[u64], lengths: &[u64], dist: &[u64], v: u64) -> Option<usize>
-    requires { Leaving (net_in s net.now) out.now lengths.now dist.now v }
-    ensures { Sought (net_in s net.now) out.now lengths.now dist.now v result }
+fn tight(net: &Net, out: &[u64], lengths: &[u64], dist: &[u64], v: u64) -> Option<usize>
+    requires { Leaving (network_of net.now) out.now lengths.now dist.now v }
+    ensures { Sought (network_of net.now) out.now lengths.now dist.now v result }
 {
     let d = dist[v as usize];
     let end = out[v as usize + 1] as usize;
@@ -43,8 +43,7 @@ fn tight(s: Shape, net: &[u64], out: &[u64], lengths: &[u64], dist: &[u64], v: u
 // The walk from the source to the sink is written into path. How many arcs it has, and no path that is as short has
 // fewer; None where it is stuck.
 pub fn walk(
-    s: Shape,
-    net: &[u64],
+    net: &Net,
     out: &[u64],
     lengths: &[u64],
     dist: &[u64],
@@ -52,13 +51,13 @@ pub fn walk(
     sink: u64,
     path: &mut [u64],
 ) -> Option<usize>
-    requires { Walkable (net_in s net.now) out.now lengths.now dist.now source sink (length path.old) }
-    ensures { Walked (net_in s net.now) lengths.now dist.now source sink path.new result }
+    requires { Walkable (network_of net.now) out.now lengths.now dist.now source sink (length path.old) }
+    ensures { Walked (network_of net.now) lengths.now dist.now source sink path.new result }
 {
     let mut v = source;
     let mut arcs = 0;
     while v != sink {
-        let p = tight(s, net, out, lengths, dist, v)?;
+        let p = tight(net, out, lengths, dist, v)?;
         path[arcs] = out[ARCS + p];
         arcs += 1;
         v = out[ENDS + p];
@@ -67,12 +66,12 @@ pub fn walk(
 }
 
 // The resource of node v comes behind the first numbers of path, if v is limited. How many numbers there are now.
-fn enter(s: Shape, net: &[u64], out: &[u64], v: u64, used: usize, path: &mut [u64]) -> usize
-    requires { Entering s net.now out.now v used (length path.old) }
-    ensures { Entered (net_in s net.now) v used path.old path.new result }
+fn enter(net: &Net, out: &[u64], v: u64, used: usize, path: &mut [u64]) -> usize
+    requires { Entering net.now.shape net.now.numbers out.now v used (length path.old) }
+    ensures { Entered (network_of net.now) v used path.old path.new result }
 {
     let r = out[PLACES + v as usize];
-    if r < s.resources as u64 {
+    if r < net.shape.resources as u64 {
         path[used] = r;
         return used + 1;
     }
@@ -80,39 +79,32 @@ fn enter(s: Shape, net: &[u64], out: &[u64], v: u64, used: usize, path: &mut [u6
 }
 
 // The other end of arc e, seen from node v.
-fn beyond(s: Shape, net: &[u64], v: u64, e: usize) -> u64
-    requires { Crossed s net.now e }
-    ensures { result ≡ beyond (net_in s net.now) v e }
+fn beyond(net: &Net, v: u64, e: usize) -> u64
+    requires { Crossed net.now.shape net.now.numbers e }
+    ensures { result ≡ beyond (network_of net.now) v e }
 {
-    let tail = net[TAILS + e];
+    let tail = net.numbers[TAILS + e];
     if tail == v {
-        return net[HEADS + e];
+        return net.numbers[HEADS + e];
     }
     tail
 }
 
 // The limited nodes that the path of so many arcs visits, the source and the sink among them, are written behind its arcs. How many resources it uses.
 // Where no node is limited there is nothing to look for.
-pub fn visit(
-    s: Shape,
-    net: &[u64],
-    out: &[u64],
-    source: u64,
-    arcs: usize,
-    path: &mut [u64],
-) -> usize
-    requires { Visiting s net.now out.now source arcs path.old }
-    ensures { Visits (net_in s net.now) source arcs path.old path.new result }
+pub fn visit(net: &Net, out: &[u64], source: u64, arcs: usize, path: &mut [u64]) -> usize
+    requires { Visiting net.now.shape net.now.numbers out.now source arcs path.old }
+    ensures { Visits (network_of net.now) source arcs path.old path.new result }
 {
-    if s.resources == s.arcs {
+    if net.shape.resources == net.shape.arcs {
         return arcs;
     }
-    let mut used = enter(s, net, out, source, arcs, path);
+    let mut used = enter(net, out, source, arcs, path);
     let mut at = source;
     // Kept: enter writes path meanwhile, so its arcs cannot be lent to the loop.
     for i in 0..arcs {
-        let to = beyond(s, net, at, path[i] as usize);
-        used = enter(s, net, out, to, used, path);
+        let to = beyond(net, at, path[i] as usize);
+        used = enter(net, out, to, used, path);
         at = to;
     }
     used

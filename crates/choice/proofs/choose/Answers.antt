@@ -13,7 +13,7 @@ use Rattle.choice.proofs.choose.Goals as goal
 use Rattle.choice.proofs.choose.Goals.{After-nearest, Start}
 
 abbrev net : Start → Network
-net s = net_in s.args.s s.args.net.now
+net s = net_in s.args.net.now.shape s.args.net.now.numbers
 
 -- the memory and the path behind the search
 abbrev memory-at : After-nearest → List ℕ
@@ -23,16 +23,16 @@ abbrev path-at : After-nearest → List ℕ
 path-at c = c.nearest.new.path
 
 -- the nearest is one of the commodities, and has a bound in the memory
-among : (c : After-nearest) → least_in (memory-at c) < c.args.s.commodities
+among : (c : After-nearest) → least_in (memory-at c) < c.args.net.now.shape.commodities
 among c = omega (arith, c.nearest.ensures.memory-of.least.among, commodities-is c.requires.packed)
 
-own : (c : After-nearest) → let i = least_in (memory-at c) in get_or (memory-at c) (0 + i) 0 ≡ get_or (bounds_in c.args.s (memory-at c)) i 0
-own c = sym (part_at 0 c.args.s.commodities (memory-at c) (least_in (memory-at c)) (among c))
+own : (c : After-nearest) → let i = least_in (memory-at c) in get_or (memory-at c) (0 + i) 0 ≡ get_or (bounds_in c.args.net.now.shape (memory-at c)) i 0
+own c = sym (part_at 0 c.args.net.now.shape.commodities (memory-at c) (least_in (memory-at c)) (among c))
 
 -- its source, as it is read
-from : (c : After-nearest) → let i = least_in (memory-at c) in get_or c.args.net.now (sources_from + i) 0 ≡ source (net (goal.at.After-nearest c).Start) i
+from : (c : After-nearest) → let i = least_in (memory-at c) in get_or c.args.net.now.numbers (sources_from + i) 0 ≡ source (net (goal.at.After-nearest c).Start) i
 unfolding net_in
-from c = sym (part_at sources_from c.args.s.commodities c.args.net.now (least_in (memory-at c)) (among c))
+from c = sym (part_at sources_from c.args.net.now.shape.commodities c.args.net.now.numbers (least_in (memory-at c)) (among c))
 
 pub returns-in_err-arcs : goal.returns-in_err-arcs
 returns-in_err-arcs c =

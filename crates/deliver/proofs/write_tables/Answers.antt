@@ -11,7 +11,7 @@ use Rattle.deliver.proofs.write_tables.Goals as goal
 use Rattle.deliver.proofs.write_tables.Goals.{Start}
 
 -- 32 commodities on 256 arcs
-few : (s : Start) → s.args.s.commodities * s.args.s.arcs ≤ 8192
+few : (s : Start) → s.args.net.now.shape.commodities * s.args.net.now.shape.arcs ≤ 8192
 few s = mul-le-mul s.requires.lent.packed.few-commodities s.requires.lent.packed.few-arcs
 
 pub write_tables_in-requires-clause-solving : goal.write_tables_in-requires-clause-solving

@@ -13,7 +13,7 @@ use Rattle.deliver.proofs.write_tables_in.Goals as goal
 use Rattle.deliver.proofs.write_tables_in.Goals.{After-solve-a}
 
 -- the outcome's table of flow is of the shape's size
-flow-size : (c : After-solve-a) → length c.solve-a.new.flow ≡ c.args.s.commodities * c.args.s.arcs
+flow-size : (c : After-solve-a) → length c.solve-a.new.flow ≡ c.args.net.now.shape.commodities * c.args.net.now.shape.arcs
 flow-size c =
     let p = c.requires.solving in
     c.solve-a.auto.flow ∙ (p.flows ∙ ap₂ ◌*◌ (commodities-is p.lent.packed) (arcs-is p.lent.packed))

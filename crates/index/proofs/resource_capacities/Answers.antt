@@ -12,10 +12,10 @@ use Rattle.index.proofs.resource_capacities.Goals as goal
 use Rattle.index.proofs.resource_capacities.Goals.{Start}
 
 -- the arcs are among the resources
-room : (s : Start) → s.args.s.arcs ≤ length s.args.table.now
+room : (s : Start) → s.args.net.now.shape.arcs ≤ length s.args.table.now
 room s =
     let p = s.requires in
-    omega (arith, arcs-is p.packed, arcs-le (net_in s.args.s s.args.net.now), p.whole, p.counted)
+    omega (arith, arcs-is p.packed, arcs-le (net_in s.args.net.now.shape s.args.net.now.numbers), p.whole, p.counted)
 
 pub slice_bounds-copy_from_slice-end : goal.slice_bounds-copy_from_slice-end
 slice_bounds-copy_from_slice-end c = room (goal.at.slice_bounds-copy_from_slice-end c).Start
@@ -36,7 +36,7 @@ append_limits-requires c =
     let p = c.requires in
     let copy = c.copy_from_slice in
     let fits = room (goal.at.append_limits-requires c).Start in
-    let arcs : length copy.new.self ≡ c.args.s.arcs = copy.ensures.len ∙ length-take-le _ _ fits in
+    let arcs : length copy.new.self ≡ c.args.net.now.shape.arcs = copy.ensures.len ∙ length-take-le _ _ fits in
     record {
       roomy =
           record {
@@ -44,5 +44,5 @@ append_limits-requires c =
             counted = p.counted;
             whole = simp (length-append, length-drop) (omega (arith, fits, p.whole));
           };
-      capacities = take_at copy.new.self _ c.args.s.arcs arcs ∙ copy.ensures.after;
+      capacities = take_at copy.new.self _ c.args.net.now.shape.arcs arcs ∙ copy.ensures.after;
     }

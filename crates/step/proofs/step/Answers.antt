@@ -18,25 +18,25 @@ use Rattle.step.proofs.step.Goals.{After-draw-g, Joined-better, After-load-ended
 -- The slices of the capacities and of the path hold what the definitions say, so that the draw is the method's.
 drawn : (c : After-draw-g) →
     let a = c.args in
-    let net = net_in a.s a.net.now in
+    let net = net_in a.net.now.shape a.net.now.numbers in
     c.draw-g.result ≡ draw (resource_capacities net) (used_by net (chosen_in a.c a.path.now))
 drawn c = c.draw-g.ensures ∙ ap₂ draw c.requires.caps-are c.requires.path-is
 
 -- the tables of the resources at entry
 abbrev L : Start → List ℕ
-L c = lengths_in c.args.s c.args.tables.now
+L c = lengths_in c.args.net.now.shape c.args.tables.now
 
 abbrev Y : Start → List ℕ
-Y c = loads_in c.args.s c.args.tables.now
+Y c = loads_in c.args.net.now.shape c.args.tables.now
 
 -- The tables after each step that changes them.
 kept : (c : Joined-better) →
     let a = c.args in
     let s = (goal.at.Joined-better c).Start in
-    let K = kept_in a.s a.tables.now in
-    Tabled a.s.resources c.if-better.tables (L s) (Y s) (cond c.less_product-better.result (L s) K)
+    let K = kept_in a.net.now.shape a.tables.now in
+    Tabled a.net.now.shape.resources c.if-better.tables (L s) (Y s) (cond c.less_product-better.result (L s) K)
 kept c =
-    let T = tabled c.args.s.resources c.args.tables.now c.requires.few c.requires.places in
+    let T = tabled c.args.net.now.shape.resources c.args.tables.now c.requires.few c.requires.places in
     let better = c.less_product-better.result in
     elim c.if-better.branch [
       | then-better w ↦
@@ -49,8 +49,8 @@ loaded : (c : After-load-ended) →
     let a = c.args in
     let s = (goal.at.After-load-ended c).Start in
     let loads = c.load-ended.new.loads in
-    Tabled a.s.resources (put loads_from a.s.resources c.if-better.tables loads) (L s) loads
-    (cond c.less_product-better.result (L s) (kept_in a.s a.tables.now))
+    Tabled a.net.now.shape.resources (put loads_from a.net.now.shape.resources c.if-better.tables loads) (L s) loads
+    (cond c.less_product-better.result (L s) (kept_in a.net.now.shape a.tables.now))
 loaded c = with-loads (kept (goal.at.After-load-ended c).Joined-better) c.load-ended.new.loads c.load-ended.auto.loads
 
 pub load-ended-requires : goal.load-ended-requires
@@ -72,7 +72,7 @@ returns c =
     let T = loaded (goal.at.returns c).After-load-ended in
     in-slice (with-lengths T c.lengthen-grown.new.lengths c.lengthen-grown.auto.lengths)
     (λ L' Y' K'.
-    Stepped (net_in a.s a.net.now) a.q a.threshold (chosen_in a.c a.path.now) (state_in a.s a.flow.now a.tables.now a.p)
+    Stepped (net_in a.net.now.shape a.net.now.numbers) a.q a.threshold (chosen_in a.c a.path.now) (state_in a.net.now.shape a.flow.now a.tables.now a.p)
     (state_of L' c.push.new.flow Y' K' c.counted.result) c.counted.result)
     (put-together _ _ _ _ _ _ _ _ a.p r.stepping.growing.same r.caps-are r.path-is r.kept.weight r.stepping.alpha
     (drawn (goal.at.returns c).After-draw-g) c.less_product-better.ensures refl c.push.ensures

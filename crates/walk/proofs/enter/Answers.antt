@@ -4,12 +4,12 @@ use native.Mathlib.Omega.{arith}
 use Rattle.paths.proofs.Collecting.{entered-limited, entered-none}
 use Rattle.walk.proofs.enter.Goals as goal
 
-pub returns-then-r-s : goal.returns-then-r-s
-returns-then-r-s c =
+pub returns-then-r-net : goal.returns-then-r-s
+returns-then-r-net c =
     let p = c.requires in
-    entered-limited _ _ (p.index.places _ p.node) p.place (omega (arith, p.counted, c.if-r-s.true))
+    entered-limited _ _ (p.index.places _ p.node) p.place (omega (arith, p.counted, c.if-r-net.true))
 
 pub returns : goal.returns
 returns c =
     let p = c.requires in
-    entered-none _ _ (p.index.places _ p.node) p.node (omega (arith, p.counted, c.if-r-s.false))
+    entered-none _ _ (p.index.places _ p.node) p.node (omega (arith, p.counted, c.if-r-net.false))

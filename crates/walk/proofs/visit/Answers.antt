@@ -19,10 +19,10 @@ room c = omega (arith, c.requires.room, c.loop-i.auto.path)
 fits : (c : At-loop-i) → c.args.arcs ≤ length c.loop-i.path
 fits c = omega (arith, room c, c.requires.few)
 
-pub returns-then-s : goal.returns-then-s
-returns-then-s c =
+pub returns-then-net : goal.returns-then-s
+returns-then-net c =
     let p = c.requires in
-    visits-none (omega (arith, arcs-is p.packed, p.counted, c.if-s.true)) p.ends p.node p.leads-to p.few
+    visits-none (omega (arith, arcs-is p.packed, p.counted, c.if-net.true)) p.ends p.node p.leads-to p.few
 
 pub loop-i-init : goal.loop-i-init
 loop-i-init c =

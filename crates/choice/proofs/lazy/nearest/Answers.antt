@@ -16,7 +16,7 @@ use Rattle.choice.proofs.lazy.nearest.Goals as goal
 use Rattle.choice.proofs.lazy.nearest.Goals.{Joined-then-is_some, then-is_some-via-then-is_some, then-is_some-via-else-is_some+then-net-i, After-follow-arcs, After-look-i, At-loop-s, Start}
 
 abbrev net : Start → Network
-net s = net_in s.args.s s.args.net.now
+net s = net_in s.args.net.now.shape s.args.net.now.numbers
 
 -- the memory behind the search, and the path behind the walk
 abbrev memory-at : After-look-i → List ℕ
@@ -27,19 +27,19 @@ path-at c = c.follow-arcs.new.path
 
 -- a commodity is one of few, and its sink is read
 module _ (s : Start) {i : ℕ} (b : i < commodities (net s)) where
-  to : get_or s.args.net.now (sinks_from + i) 0 ≡ sink (net s) i
+  to : get_or s.args.net.now.numbers (sinks_from + i) 0 ≡ sink (net s) i
   unfolding net_in
-  to = sym (part_at sinks_from s.args.s.commodities s.args.net.now i (omega (arith, commodities-is s.requires.packed)))
+  to = sym (part_at sinks_from s.args.net.now.shape.commodities s.args.net.now.numbers i (omega (arith, commodities-is s.requires.packed)))
 
 among : (c : At-loop-s) → c.loop-s.i < commodities (net (goal.at.At-loop-s c).Start)
 among c = c.loop-s.invariant.least.among
 
 -- what the search and the walk have found
-looks : (c : After-look-i) → Looked c.args.s (net (goal.at.After-look-i c).Start) c.args.lengths.now (sink (net (goal.at.After-look-i c).Start) c.loop-s.i) c.loop-s.memory (memory-at c) c.look-i.result
+looks : (c : After-look-i) → Looked c.args.net.now.shape (net (goal.at.After-look-i c).Start) c.args.lengths.now (sink (net (goal.at.After-look-i c).Start) c.loop-s.i) c.loop-s.memory (memory-at c) c.look-i.result
 looks c = rw (← to (goal.at.After-look-i c).Start (among (goal.at.After-look-i c).At-loop-s)) c.look-i.ensures
 
 follows : (c : After-follow-arcs) → let j = c.look-i.result in
-    Followed (net (goal.at.After-follow-arcs c).Start) c.args.lengths.now (bounds_in c.args.s (memory-at (goal.at.After-follow-arcs c).After-look-i)) (distances_in (sink (net (goal.at.After-follow-arcs c).Start) j) (memory-at (goal.at.After-follow-arcs c).After-look-i)) j (path-at c) c.follow-arcs.result
+    Followed (net (goal.at.After-follow-arcs c).Start) c.args.lengths.now (bounds_in c.args.net.now.shape (memory-at (goal.at.After-follow-arcs c).After-look-i)) (distances_in (sink (net (goal.at.After-follow-arcs c).Start) j) (memory-at (goal.at.After-follow-arcs c).After-look-i)) j (path-at c) c.follow-arcs.result
 follows c = c.follow-arcs.ensures
 
 chosen : (c : After-look-i) → c.look-i.result < commodities (net (goal.at.After-look-i c).Start)

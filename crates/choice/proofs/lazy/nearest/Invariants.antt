@@ -6,7 +6,7 @@ use Rattle.choice.proofs.Slack.{slack}
 use Rattle.choice.proofs.lazy.nearest.Given as goal
 
 abbrev pub invariant-loop-s : goal.invariant-loop-s
-invariant-loop-s l = Known l.s (net_in l.s l.net) l.lengths l.memory l.i
+invariant-loop-s l = Known l.net.shape (net_in l.net.shape l.net.numbers) l.lengths l.memory l.i
 
 abbrev pub decreases-loop-s : goal.decreases-loop-s
-decreases-loop-s l = slack (commodities (net_in l.s l.net)) (bounds_in l.s l.memory)
+decreases-loop-s l = slack (commodities (net_in l.net.shape l.net.numbers)) (bounds_in l.net.shape l.memory)

@@ -53,7 +53,7 @@ module _ {s : Shape} {net ix l : List ℕ} {t : ℕ} {old : List ℕ} (few : s.c
                 P.leading);
           }
 
-few-of : (s : Start) → s.args.s.commodities ≤ most_commodities
+few-of : (s : Start) → s.args.net.now.shape.commodities ≤ most_commodities
 few-of s = s.requires.raising.packed.few-commodities
 
 -- the leader's bound is read in the memory behind the raising
@@ -61,9 +61,9 @@ abbrev memory-at : After-raise_at-bound → List ℕ
 memory-at c = c.raise_at-bound.new.memory
 
 read : (c : After-raise_at-bound) → let b = c.loop-i.b in
-    get_or (memory-at c) (0 + b) 0 ≡ get_or (bounds_in c.args.s (memory-at c)) b 0
+    get_or (memory-at c) (0 + b) 0 ≡ get_or (bounds_in c.args.net.now.shape (memory-at c)) b 0
 read c =
-    sym (part_at 0 c.args.s.commodities (memory-at c) c.loop-i.b
+    sym (part_at 0 c.args.net.now.shape.commodities (memory-at c) c.loop-i.b
     (leader (few-of (goal.at.After-raise_at-bound c).Start) c.requires.raising.places c.loop-i.invariant c.loop-i-test.true))
 
 pub loop-i-preserved : goal.loop-i-preserved

@@ -13,10 +13,10 @@ use Rattle.records.proofs.judge.deliver_in.Goals.{After-solve-answer, Start}
 -- what is lent of each table
 module _ (s : Start) where
   abbrev r : ℕ
-  r = s.args.s.resources
+  r = s.args.net.now.shape.resources
 
   abbrev size : ℕ
-  size = s.args.s.commodities * s.args.s.arcs
+  size = s.args.net.now.shape.commodities * s.args.net.now.shape.arcs
 
   few : r ≤ 256
   few = let p = s.requires.lent in omega (arith, p.counted, p.sound.counts.of-resources)

@@ -11,7 +11,7 @@ use Rattle.report.proofs.solved.show.Goals as goal
 use Rattle.report.proofs.solved.show.Goals.{Start}
 
 -- 256 amounts are enough for the arcs
-room : (s : Start) → s.args.s.arcs ≤ length (replicate most_arcs (pos 0))
+room : (s : Start) → s.args.net.now.shape.arcs ≤ length (replicate most_arcs (pos 0))
 room s = omega (arith, s.requires.lent.packed.few-arcs, length-replicate most_arcs (pos 0))
 
 pub slice_bounds-show_in-end : goal.slice_bounds-show_in-end

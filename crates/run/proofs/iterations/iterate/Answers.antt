@@ -31,10 +31,10 @@ use Rattle.run.proofs.iterations.iterate.Goals.{After-unwrap-c, After-keep, Star
 
 -- the network and the state at entry
 abbrev net : Start → Network
-net s = net_in s.args.s s.args.net.now
+net s = net_in s.args.net.now.shape s.args.net.now.numbers
 
 abbrev state : Start → State
-state s = state_in s.args.s s.args.flow.now s.args.tables.now s.args.p
+state s = state_in s.args.net.now.shape s.args.flow.now s.args.tables.now s.args.p
 
 reached : (s : Start) → Reached (net s) s.args.q (state s)
 reached s =

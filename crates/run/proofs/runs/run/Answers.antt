@@ -17,7 +17,7 @@ use Rattle.run.proofs.runs.run.Goals.{After-iterate-p, Start}
 
 -- the network at entry
 abbrev net : Start → Network
-net s = net_in s.args.s s.args.net.now
+net s = net_in s.args.net.now.shape s.args.net.now.numbers
 
 -- The table of L has a row for this many resources. It has one for this many arcs too, so that a
 -- mark by the arcs fails not here but where it has to be the method's mark.
@@ -55,12 +55,12 @@ iterate-p-requires c =
     }
 
 abbrev old : After-iterate-p → State
-old c = let l = c.loop-p in state_in c.args.s l.flow l.tables l.p
+old c = let l = c.loop-p in state_in c.args.net.now.shape l.flow l.tables l.p
 
 abbrev new : After-iterate-p → State
 new c =
     let l = c.iterate-p.new in
-    state_in c.args.s l.flow l.tables c.iterate-p.result
+    state_in c.args.net.now.shape l.flow l.tables c.iterate-p.result
 
 iterated : (c : After-iterate-p) → Iterated (net (goal.at.After-iterate-p c).Start) c.args.q (old c) (new c) c.iterate-p.result
 iterated c = c.iterate-p.ensures.iterated

@@ -27,9 +27,9 @@ use Rattle.solver.proofs.outcomes.outcome.Goals.{After-choose-first, After-run-p
 
 -- the network at entry; the lengths are those of the definition's start
 abbrev net : Start → Network
-net s = net_in s.args.s s.args.net.now
+net s = net_in s.args.net.now.shape s.args.net.now.numbers
 
-first : (s : Start) → lengths_in s.args.s s.args.tables.now ≡ (initial (net s)).lengths
+first : (s : Start) → lengths_in s.args.net.now.shape s.args.tables.now ≡ (initial (net s)).lengths
 first s = ap (λ t. t.lengths) s.requires.cleared.state
 
 pub choose-first-requires : goal.choose-first-requires
@@ -44,7 +44,7 @@ returns-then-is_none c =
     let k = chose (goal.at.returns-then-is_none c).After-choose-first in
     let start = c.requires.cleared.state in
     rw c.unjoined.ensures
-    (solved-none (net (goal.at.returns-then-is_none c).Start) c.args.q c.requires.room.lent.sound c.args.flow.now (kept_in c.args.s c.args.tables.now)
+    (solved-none (net (goal.at.returns-then-is_none c).Start) c.args.q c.requires.room.lent.sound c.args.flow.now (kept_in c.args.net.now.shape c.args.tables.now)
     (chose-none _ _ _ c.choose-first.result k (rw c.if-is_none.true at c.is_none.ensures))
     (ap (λ t. t.flow) start)
     (ap (λ t. t.best_lengths) start))
@@ -72,15 +72,15 @@ tables c = c.run-p.new.tables
 room : (c : After-run-p) → table_numbers ≤ length (tables c)
 room c = omega (arith, c.run-p.auto.tables, c.requires.room.tables)
 
-few : (c : After-run-p) → c.args.s.resources ≤ most_arcs
+few : (c : After-run-p) → c.args.net.now.shape.resources ≤ most_arcs
 few c = let a = c.requires.room.lent in omega (arith, a.counted, a.sound.counts.of-resources)
 
-loaded : (c : After-run-p) → length (loads_in c.args.s (tables c)) ≡ resources (net (goal.at.After-run-p c).Start)
+loaded : (c : After-run-p) → length (loads_in c.args.net.now.shape (tables c)) ≡ resources (net (goal.at.After-run-p c).Start)
 loaded c =
-    part_length loads_from c.args.s.resources (tables c) (omega (arith, few c, room c)) ∙ c.requires.room.lent.counted
+    part_length loads_from c.args.net.now.shape.resources (tables c) (omega (arith, few c, room c)) ∙ c.requires.room.lent.counted
 
 -- The part of the slice of indexes that is lent has the capacities of the resources.
-caps-are : (c : After-run-p) → part resource_capacities_from c.args.s.resources c.args.indexes.now ≡ resource_capacities (net (goal.at.After-run-p c).Start)
+caps-are : (c : After-run-p) → part resource_capacities_from c.args.net.now.shape.resources c.args.indexes.now ≡ resource_capacities (net (goal.at.After-run-p c).Start)
 caps-are c = ap (λ n. part resource_capacities_from n c.args.indexes.now) c.requires.room.lent.counted ∙ c.requires.room.indexed.capacities
 
 pub answer-requires : goal.answer-requires
@@ -89,12 +89,12 @@ answer-requires c =
       few = few (goal.at.answer-requires c).After-run-p;
       places = room (goal.at.answer-requires c).After-run-p;
       ranking =
-          subst (Ranking (loads_in c.args.s (tables (goal.at.answer-requires c).After-run-p))) (sym (caps-are (goal.at.answer-requires c).After-run-p))
-          (ranking (net (goal.at.answer-requires c).Start) c.args.q c.requires.room.lent.sound (chooses (goal.at.answer-requires c).Else-is_none) (loads_in c.args.s (tables (goal.at.answer-requires c).After-run-p)) (ap (λ t. t.loads) c.run-p.ensures) (loaded (goal.at.answer-requires c).After-run-p));
+          subst (Ranking (loads_in c.args.net.now.shape (tables (goal.at.answer-requires c).After-run-p))) (sym (caps-are (goal.at.answer-requires c).After-run-p))
+          (ranking (net (goal.at.answer-requires c).Start) c.args.q c.requires.room.lent.sound (chooses (goal.at.answer-requires c).Else-is_none) (loads_in c.args.net.now.shape (tables (goal.at.answer-requires c).After-run-p)) (ap (λ t. t.loads) c.run-p.ensures) (loaded (goal.at.answer-requires c).After-run-p));
     }
 
 pub returns : goal.returns
 returns c =
-    rw (c.answer.ensures ∙ ap (λ caps. answer_of caps (loads_in c.args.s (tables (goal.at.returns c).After-run-p)) c.run-p.result) (caps-are (goal.at.returns c).After-run-p))
-    (solved-some (net (goal.at.returns c).Start) c.args.q c.requires.room.lent.sound _ (picked (goal.at.returns c).Else-is_none).1 c.run-p.new.flow (kept_in c.args.s (tables (goal.at.returns c).After-run-p))
-    (loads_in c.args.s (tables (goal.at.returns c).After-run-p)) (lengths_in c.args.s (tables (goal.at.returns c).After-run-p)) c.run-p.result c.run-p.ensures (loaded (goal.at.returns c).After-run-p))
+    rw (c.answer.ensures ∙ ap (λ caps. answer_of caps (loads_in c.args.net.now.shape (tables (goal.at.returns c).After-run-p)) c.run-p.result) (caps-are (goal.at.returns c).After-run-p))
+    (solved-some (net (goal.at.returns c).Start) c.args.q c.requires.room.lent.sound _ (picked (goal.at.returns c).Else-is_none).1 c.run-p.new.flow (kept_in c.args.net.now.shape (tables (goal.at.returns c).After-run-p))
+    (loads_in c.args.net.now.shape (tables (goal.at.returns c).After-run-p)) (lengths_in c.args.net.now.shape (tables (goal.at.returns c).After-run-p)) c.run-p.result c.run-p.ensures (loaded (goal.at.returns c).After-run-p))

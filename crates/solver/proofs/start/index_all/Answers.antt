@@ -13,14 +13,14 @@ resource_capacities-requires c =
       packed = a.packed;
       counted = a.counted;
       whole =
-          part_length resource_capacities_from c.args.s.resources
+          part_length resource_capacities_from c.args.net.now.shape.resources
           (put index_numbers index_numbers (put 0 index_numbers c.args.indexes.now c.index_into.new.ix) c.index_out.new.ix)
-          (space c.args.indexes.now c.index_into.new.ix c.index_out.new.ix c.args.s.resources c.requires.few c.requires.room
+          (space c.args.indexes.now c.index_into.new.ix c.index_out.new.ix c.args.net.now.shape.resources c.requires.few c.requires.room
           c.index_into.auto.ix c.index_out.auto.ix);
     }
 
 pub returns : goal.returns
 returns c =
-    indexed c.args.indexes.now c.index_into.new.ix c.index_out.new.ix c.args.s.resources c.requires.few c.requires.room
-    c.index_into.auto.ix c.index_out.auto.ix (net_in c.args.s c.args.net.now) c.requires.indexable.counted
+    indexed c.args.indexes.now c.index_into.new.ix c.index_out.new.ix c.args.net.now.shape.resources c.requires.few c.requires.room
+    c.index_into.auto.ix c.index_out.auto.ix (net_in c.args.net.now.shape c.args.net.now.numbers) c.requires.indexable.counted
     c.resource_capacities.new.table c.resource_capacities.auto.table c.index_into.ensures c.index_out.ensures c.resource_capacities.ensures

@@ -17,7 +17,7 @@ use Rattle.solver.proofs.start.prepare.Goals as goal
 use Rattle.solver.proofs.start.prepare.Goals.{After-fill, After-fill-2, After-start-weight, Start}
 
 abbrev m : Start → ℕ
-m s = s.args.s.resources
+m s = s.args.net.now.shape.resources
 
 few : (s : Start) → m s ≤ most_arcs
 few s = let a = s.requires.lent in omega (arith, a.counted, a.sound.counts.of-resources)
@@ -25,7 +25,7 @@ few s = let a = s.requires.lent in omega (arith, a.counted, a.sound.counts.of-re
 pub start-weight-requires : goal.start-weight-requires
 start-weight-requires c =
     let a = c.requires.lent in
-    let net = net_in c.args.s c.args.net.now in
+    let net = net_in c.args.net.now.shape c.args.net.now.numbers in
     let T = c.args.tables.now in
     subst (λ caps. Startable caps (part lengths_from (m (goal.at.start-weight-requires c).Start) T)) (sym c.requires.caps-are)
     (record {

@@ -22,7 +22,7 @@ cross-v-requires c =
     let arcs = arcs-is c.requires.packed in
     let arc : ℕ = get_or c.args.path.now c.loop-e.e-index 0 in
     let here = p.places c.loop-e.e-index c.loop-e-test.true in
-    let place : c.args.commodity * c.args.s.arcs + arc < length c.args.flow.now =
+    let place : c.args.commodity * c.args.net.now.shape.arcs + arc < length c.args.flow.now =
     omega (arith, here, p.row, ap (λ m. c.args.commodity * m) arcs, arcs) in
     let few : c.loop-e.e-index ≤ most_nodes = omega (arith, p.few) in
     record {
@@ -41,10 +41,10 @@ unfolding net_in
 returns c =
     let a = c.args in
     push-all c.loop-e.invariant c.loop-e-test.false (ap (λ m. a.commodity * m) (sym (arcs-is c.requires.packed)))
-    (sym (part_at sources_from a.s.commodities a.net.now a.commodity (omega (arith, c.requires.pushing.listed, commodities-is c.requires.packed))))
+    (sym (part_at sources_from a.net.now.shape.commodities a.net.now.numbers a.commodity (omega (arith, c.requires.pushing.listed, commodities-is c.requires.packed))))
 
 -- the commodity's place in its column
-listed : (s : Start) → (s.args.commodity < most_commodities) × (net_numbers ≤ length s.args.net.now)
+listed : (s : Start) → (s.args.commodity < most_commodities) × (net_numbers ≤ length s.args.net.now.numbers)
 listed s = (omega (arith, s.requires.pushing.listed, commodities-is s.requires.packed, s.requires.packed.few-commodities), s.requires.packed.places)
 
 pub overflow_add-v : goal.overflow_add-v
