@@ -20,9 +20,9 @@ use Rattle.report.specs.Shown.{Shown, Filed}
 
 module _ (text : List ℕ) where
   -- A refused file.
-  pub filed-refused : {out : List ℕ} {at : ℕ} {w : Refusal} → parsed text ≡ refused w → Filed text out at out (Err w)
+  pub filed-refused : {out : List ℕ} {at : ℕ} {w : Refusal} → parsed text ≡ refused w → Filed text out at out at (Err w)
   unfolding file_rows
-  filed-refused {w = w} e = record { rows = (refl, rw e); guarantee = λ net k v. absurd (apart (sym e ∙ k)) }
+  filed-refused {w = w} e = record { rows = (refl, refl, rw e); guarantee = λ net k v. absurd (apart (sym e ∙ k)) }
     where
       apart : {net : Network} → refused w ≡ holds net → ⊥
       apart k = let z : ◌≡◌ {A = ℕ} 0 1 = cc in omega arith
@@ -32,13 +32,13 @@ module _ (text : List ℕ) where
     same k = cc
 
     -- A file that holds a refused network,
-    pub filed-faulty : {out : List ℕ} {at : ℕ} {w : Refusal} → verdict_held net ≡ Refused w → Filed text out at out (Err w)
+    pub filed-faulty : {out : List ℕ} {at : ℕ} {w : Refusal} → verdict_held net ≡ Refused w → Filed text out at out at (Err w)
     unfolding file_rows verdict_rows
     filed-faulty v =
-        record { rows = (refl, rw (e, v)); guarantee = λ net' k a. absurd (no-refusal (sym a ∙ (ap verdict_held (sym (same k)) ∙ v))) }
+        record { rows = (refl, refl, rw (e, v)); guarantee = λ net' k a. absurd (no-refusal (sym a ∙ (ap verdict_held (sym (same k)) ∙ v))) }
 
     -- and one that holds an accepted one.
-    pub filed-held : {out out' : List ℕ} {at end : ℕ} → verdict_held net ≡ Accepted → Shown net Accepted out at out' end → Filed text out at out' (Ok end)
+    pub filed-held : {out out' : List ℕ} {at end : ℕ} → verdict_held net ≡ Accepted → Shown net Accepted out at out' end → Filed text out at out' end (Ok tt)
     unfolding file_rows
     filed-held v s = record { rows = rw (e, v) s.rows; guarantee = λ net' k a. rw (← (same k)) (s.guarantee refl) }
 

@@ -80,6 +80,6 @@ pub record Shown (net : Network) (v : Verdict) (out : List ℕ) (at : ℕ) (out'
 
 -- The rows that follow from a file of the bytes text: they stand from place `at` on, or they are a refusal's and none is written. Where the file
 -- holds an accepted network, all that holds of its outcome.
-pub record Filed (text out : List ℕ) (at : ℕ) (out' : List ℕ) (r : Result ℕ Refusal) : Type 0 where
-  pub rows : MatchResult r (λ end. Put (file_rows (parsed text)) out at out' end) (λ why. (out' ≡ out) × (file_rows (parsed text) ≡ refusal_row why))
+pub record Filed (text out : List ℕ) (at : ℕ) (out' : List ℕ) (end : ℕ) (r : Result Unit Refusal) : Type 0 where
+  pub rows : MatchResult r (λ _. Put (file_rows (parsed text)) out at out' end) (λ why. (out' ≡ out) × (end ≡ at) × (file_rows (parsed text) ≡ refusal_row why))
   pub guarantee : (net : Network) → parsed text ≡ holds net → verdict_held net ≡ Accepted → Guarantee net 4 (outcome net 4)

@@ -9,8 +9,7 @@ use checks::items::check_items;
 use dimacs::Parsed;
 use network::Refusal;
 use packed::{CAPACITIES, HEADS, MARKS, NET_NUMBERS, Net, SINKS, SOURCES, Shape, TAILS};
-use rows::put::put;
-use rows::put_refusal;
+use rows::Rows;
 
 // The network of a file that has been read, into one slice. A file marks no arc and limits no node.
 fn pack(file: &Parsed, net: &mut [u64])
@@ -26,11 +25,12 @@ fn pack(file: &Parsed, net: &mut [u64])
     net[MARKS..MARKS + m].fill(0);
 }
 
-// The rows of an accepted network in a file of these bytes, or why the file or its network is turned down. The counts of a file's network are
-// within their bounds, so only arcs and the commodity are left to check.
-fn file_rows(text: &[u8], out: &mut [u8], at: usize) -> Result<usize, Refusal>
-    requires { at + 23199 ≤ length out.old }
-    ensures { Filed text.now out.old at out.new result }
+// The rows of an accepted network in a file of these bytes, or why the file or its network is turned down. The counts of
+// a file's network are within their bounds, so only arcs and the commodity are left to check.
+fn file_rows(text: &[u8], rows: &mut Rows) -> Result<(), Refusal>
+    requires { rows.old.at + 23199 ≤ length rows.old.out.now }
+    ensures same_table { rows.new.out.ghost_name ≡ rows.old.out.ghost_name }
+    ensures filed { Filed text.now rows.old.out.now rows.old.at rows.new.out.now rows.new.at result }
 {
     let file = dimacs::read(text)?;
     let shape = Shape {
@@ -46,17 +46,19 @@ fn file_rows(text: &[u8], out: &mut [u8], at: usize) -> Result<usize, Refusal>
     };
     pack(&file, &mut net.numbers);
     check_items(&net)?;
-    Ok(show(&net, out, at))
+    show(&net, rows);
+    Ok(())
 }
 
-// The listing of a file of these bytes, from the first place on; returns how many bytes it has. The table holds every listing: 27 bytes for the
-// header, 159 for total, bound and steps, 90 for each of 256 belts.
+// The listing of a file of these bytes, from the first place on; returns how many bytes it has. The table holds every
+// listing: 27 bytes for the header, 159 for total, bound and steps, 90 for each of 256 belts.
 pub fn listing(text: &[u8], out: &mut [u8; 24576]) -> usize
     ensures { Listed text.now out.old result out.new }
 {
-    let at = put(out, 0, b"row,tail,head,upper,lower\r\n");
-    match file_rows(text, out, at) {
-        Ok(end) => end,
-        Err(why) => put_refusal(out, at, why),
+    let mut rows = Rows { out, at: 0 };
+    rows.put(b"row,tail,head,upper,lower\r\n");
+    if let Err(why) = file_rows(text, &mut rows) {
+        rows.put_refusal(why);
     }
+    rows.at
 }

@@ -1,16 +1,13 @@
-// Bytes and numbers put at a place of a lent table; each function returns the place after them.
+// Bytes and numbers put behind one another into a lent table.
 ghost use Rattle.std.specs.Prelude.{◌≡◌, ◌+◌, ◌≤◌, ◌<◌, length};
 ghost use Rattle.rows.specs.Decimal.{decimal};
 ghost use Rattle.rows.specs.Put.{Put};
 
-// The bytes xs, from place at on.
-pub fn put(out: &mut [u8], at: usize, xs: &[u8]) -> usize
-    requires { at + length xs.now ≤ length out.old }
-    ensures { Put xs.now out.old at out.new result }
-{
-    let end = at + xs.len();
-    out[at..end].copy_from_slice(xs);
-    end
+// The rows put so far: the next byte stands at place `at` of the table.
+#[derive(Drop)]
+pub struct Rows<'a> {
+    pub out: &'a mut [u8],
+    pub at: usize,
 }
 
 // The byte of a digit.
@@ -21,16 +18,27 @@ fn digit(d: u64) -> u8
     b'0' + d as u8
 }
 
-// The digits of x: those of x / 10 where there are any, then the last.
-pub fn put_number(out: &mut [u8], at: usize, x: u64) -> usize
-    requires { at + length (decimal x) ≤ length out.old }
-    ensures { Put (decimal x) out.old at out.new result }
-{
-    if x < 10 {
-        out[at] = digit(x);
-        return at + 1;
+impl<'a> Rows<'a> {
+    // The bytes xs.
+    pub fn put(&mut self, xs: &[u8])
+        requires { self.old.at + length xs.now ≤ length self.old.out.now }
+        ensures same_table { self.new.out.ghost_name ≡ self.old.out.ghost_name }
+        ensures rows { Put xs.now self.old.out.now self.old.at self.new.out.now self.new.at }
+    {
+        let end = self.at + xs.len();
+        self.out[self.at..end].copy_from_slice(xs);
+        self.at = end;
     }
-    let last = put_number(out, at, x / 10);
-    out[last] = digit(x % 10);
-    last + 1
+
+    // The digits of x: those of x / 10 where there are any, then the last.
+    pub fn put_number(&mut self, x: u64)
+        requires { self.old.at + length (decimal x) ≤ length self.old.out.now }
+        ensures same_table { self.new.out.ghost_name ≡ self.old.out.ghost_name }
+        ensures rows { Put (decimal x) self.old.out.now self.old.at self.new.out.now self.new.at }
+    {
+        if 10 <= x {
+            self.put_number(x / 10);
+        }
+        self.put(&[digit(x % 10)]);
+    }
 }

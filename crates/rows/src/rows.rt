@@ -1,64 +1,71 @@
 // The rows of the listing. A number has at most 20 digits: 43 bytes for the last two fields, 53 for a row without tail and head, 90 for a belt.
-ghost use Rattle.std.specs.Prelude.{[], ◌∷◌, ◌+◌, ◌*◌, ◌^◌, ◌≤◌, ◌<◌, length};
+ghost use Rattle.std.specs.Prelude.{◌≡◌, [], ◌∷◌, ◌+◌, ◌*◌, ◌^◌, ◌≤◌, ◌<◌, length};
 ghost use Rattle.rows.specs.Decimal.{decimal};
 ghost use Rattle.rows.specs.Rows.{answer_rows, refusal_row};
 ghost use Rattle.rows.specs.Put.{Put};
 ghost use Rattle.rows.specs.Row.{delimited, row};
 ghost use Rattle.lines.specs.Text.{bytes};
 
-use crate::put::{put, put_number};
+use crate::put::Rows;
 use method::Answer;
 use network::{Code, Refusal};
 
-// The last two fields and the end of a row.
-fn put_fraction(out: &mut [u8], at: usize, upper: u64, lower: u64) -> usize
-    requires { at + 43 ≤ length out.old }
-    ensures { Put (delimited (decimal upper) (decimal lower ∷ [])) out.old at out.new result }
-{
-    let mut next = put_number(out, at, upper);
-    next = put(out, next, b",");
-    next = put_number(out, next, lower);
-    put(out, next, b"\r\n")
-}
+impl<'a> Rows<'a> {
+    // The last two fields and the end of a row.
+    fn put_fraction(&mut self, upper: u64, lower: u64)
+        requires { self.old.at + 43 ≤ length self.old.out.now }
+        ensures same_table { self.new.out.ghost_name ≡ self.old.out.ghost_name }
+        ensures rows { Put (delimited (decimal upper) (decimal lower ∷ [])) self.old.out.now self.old.at self.new.out.now self.new.at }
+    {
+        self.put_number(upper);
+        self.put(b",");
+        self.put_number(lower);
+        self.put(b"\r\n");
+    }
 
-// A row whose tail and head are empty.
-fn put_row(out: &mut [u8], at: usize, kind: &[u8], upper: u64, lower: u64) -> usize
-    requires { (length kind.now ≤ 7) × (at + 53 ≤ length out.old) }
-    ensures { Put (row kind.now [] [] upper lower) out.old at out.new result }
-{
-    let mut next = put(out, at, kind);
-    next = put(out, next, b",,,");
-    put_fraction(out, next, upper, lower)
-}
+    // A row whose tail and head are empty.
+    fn put_row(&mut self, kind: &[u8], upper: u64, lower: u64)
+        requires { (length kind.now ≤ 7) × (self.old.at + 53 ≤ length self.old.out.now) }
+        ensures same_table { self.new.out.ghost_name ≡ self.old.out.ghost_name }
+        ensures rows { Put (row kind.now [] [] upper lower) self.old.out.now self.old.at self.new.out.now self.new.at }
+    {
+        self.put(kind);
+        self.put(b",,,");
+        self.put_fraction(upper, lower);
+    }
 
-// The row of a belt.
-pub fn put_belt(out: &mut [u8], at: usize, tail: u64, head: u64, upper: u64, lower: u64) -> usize
-    requires { at + 90 ≤ length out.old }
-    ensures { Put (row (bytes "belt") (decimal tail) (decimal head) upper lower) out.old at out.new result }
-{
-    let mut next = put(out, at, b"belt,");
-    next = put_number(out, next, tail);
-    next = put(out, next, b",");
-    next = put_number(out, next, head);
-    next = put(out, next, b",");
-    put_fraction(out, next, upper, lower)
-}
+    // The row of a belt.
+    pub fn put_belt(&mut self, tail: u64, head: u64, upper: u64, lower: u64)
+        requires { self.old.at + 90 ≤ length self.old.out.now }
+        ensures same_table { self.new.out.ghost_name ≡ self.old.out.ghost_name }
+        ensures rows { Put (row (bytes "belt") (decimal tail) (decimal head) upper lower) self.old.out.now self.old.at self.new.out.now self.new.at }
+    {
+        self.put(b"belt,");
+        self.put_number(tail);
+        self.put(b",");
+        self.put_number(head);
+        self.put(b",");
+        self.put_fraction(upper, lower);
+    }
 
-// Total, bound and steps.
-pub fn put_answer(out: &mut [u8], at: usize, a: Answer) -> usize
-    requires { (a.total * a.capacity < 2 ^ 64) × (at + 159 ≤ length out.old) }
-    ensures { Put (answer_rows a) out.old at out.new result }
-{
-    let mut next = put_row(out, at, b"total", a.total * a.capacity, a.load);
-    next = put_row(out, next, b"bound", a.bound, a.alpha);
-    put_row(out, next, b"steps", a.count, a.best)
-}
+    // Total, bound and steps.
+    pub fn put_answer(&mut self, a: Answer)
+        requires { (a.total * a.capacity < 2 ^ 64) × (self.old.at + 159 ≤ length self.old.out.now) }
+        ensures same_table { self.new.out.ghost_name ≡ self.old.out.ghost_name }
+        ensures rows { Put (answer_rows a) self.old.out.now self.old.at self.new.out.now self.new.at }
+    {
+        self.put_row(b"total", a.total * a.capacity, a.load);
+        self.put_row(b"bound", a.bound, a.alpha);
+        self.put_row(b"steps", a.count, a.best);
+    }
 
-// A refusal.
-pub fn put_refusal(out: &mut [u8], at: usize, why: Refusal) -> usize
-    requires { at + 53 ≤ length out.old }
-    ensures { Put (refusal_row why) out.old at out.new result }
-{
-    let c = Code::from(why);
-    put_row(out, at, b"refused", c.number, c.place)
+    // A refusal.
+    pub fn put_refusal(&mut self, why: Refusal)
+        requires { self.old.at + 53 ≤ length self.old.out.now }
+        ensures same_table { self.new.out.ghost_name ≡ self.old.out.ghost_name }
+        ensures rows { Put (refusal_row why) self.old.out.now self.old.at self.new.out.now self.new.at }
+    {
+        let c = Code::from(why);
+        self.put_row(b"refused", c.number, c.place);
+    }
 }

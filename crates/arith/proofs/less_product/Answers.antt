@@ -12,3 +12,6 @@ times-requires c =
 pub times-requires-2 : goal.times-requires-2
 times-requires-2 c =
     (c.from-2.ensures.limbs, product-fits (from_limbs c.from-2.result.limbs) _ (omega arith) (omega arith))
+
+pub returns : goal.returns
+returns c = cc

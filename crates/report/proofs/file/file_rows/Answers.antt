@@ -29,8 +29,8 @@ in_place c =
     let w = whole _ c.in_ok-file.ensures.result in
     record { few-nodes = (one c).of-nodes.most; few-limits = omega arith; few-arcs = w.few; few-commodities = omega arith; places = omega (arith, c.pack.auto.net, length-replicate {A = ℕ} net_numbers 0) }
 
-pub returns-in_err-file : goal.returns-in_err-file
-returns-in_err-file c =
+pub returns-in_err-file-clause-filed : goal.returns-in_err-file-clause-filed
+returns-in_err-file-clause-filed c =
     let p = err_from_is_err_and c.from_residual.result c.from_residual.ensures.1 in
     rw (p.1, p.2) (filed-refused _ (refused_why _ c.in_err-file.ensures.result))
 
@@ -42,9 +42,9 @@ pack-requires c =
 pub check_items-requires : goal.check_items-requires
 check_items-requires c = in_place (goal.at.check_items-requires c).After-pack
 
-pub returns-in_err-check_items : goal.returns-in_err-check_items
-returns-in_err-check_items c =
-    let a = (goal.at.returns-in_err-check_items c).After-pack in
+pub returns-in_err-check_items-clause-filed : goal.returns-in_err-check_items-clause-filed
+returns-in_err-check_items-clause-filed c =
+    let a = (goal.at.returns-in_err-check_items-clause-filed c).After-pack in
     let p = err_from_is_err_and c.from_residual-in_err-check_items.result c.from_residual-in_err-check_items.ensures.1 in
     rw (p.1, p.2) (filed-faulty _ (held a) (judged _ (one a) ∙ sym c.in_err-check_items.ensures))
 
@@ -57,7 +57,7 @@ show-requires c =
       enough = c.requires;
     }
 
-pub returns : goal.returns
-returns c =
-    let a = (goal.at.returns c).After-pack in
-    filed-held _ (held a) (judged _ (one a) ∙ sym c.in_ok-check_items.ensures) c.show.ensures
+pub returns-clause-filed : goal.returns-clause-filed
+returns-clause-filed c =
+    let a = (goal.at.returns-clause-filed c).After-pack in
+    filed-held _ (held a) (judged _ (one a) ∙ sym c.in_ok-check_items.ensures) c.show.ensures.shown

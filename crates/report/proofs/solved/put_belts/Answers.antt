@@ -1,6 +1,6 @@
 -- `report::solved::put_belts` meets its contract. The loop's invariant: the rows of the first e arcs are put.
 -- Assumes nothing.
-use mathlib.Core.Path.{◌≡◌, ap, ◌∙◌}
+use mathlib.Core.Path.{◌≡◌, refl, ap, ◌∙◌}
 use Prim.Native.Nat.{◌*◌}
 use native.Mathlib.Omega.{arith}
 use lib.IntN.{ℤ, pos}
@@ -25,7 +25,7 @@ load : (c : After-size-load) → c.size-load.result ≡ size (amount (goal.at.Af
 load c = c.size-load.ensures ∙ ap (λ x. size x) (reads (goal.at.After-size-load c).After-size-arg-1)
 
 pub loop-e-init : goal.loop-e-init
-loop-e-init c = none-rowed _ _ _ (omega arith)
+loop-e-init c = record { rowed = none-rowed _ _ _ (omega arith); same_table = refl }
 
 pub size-load-requires : goal.size-load-requires
 size-load-requires c = omega (arith, ap (λ x. size x) (reads c), c.requires.sizes c.loop-e.e)
@@ -34,19 +34,19 @@ pub overflow_mul-load : goal.overflow_mul-load
 overflow_mul-load c =
     omega (arith, ap (λ x. x * c.args.a) (load (goal.at.overflow_mul-load c).After-size-load), c.requires.fits c.loop-e.e c.loop-e-test.true)
 
-pub put_belt-next-requires : goal.put_belt-next-requires
-put_belt-next-requires c =
-    let i = c.loop-e.invariant in
+pub put_belt-requires : goal.put_belt-requires
+put_belt-requires c =
+    let i = c.loop-e.invariant.rowed in
     omega (arith, put-length i.now, i.now.next, i.short)
 
 pub loop-e-preserved : goal.loop-e-preserved
 loop-e-preserved c =
     let a = c.args in
     let short = belt-length a.tails.now a.heads.now a.flow.now a.a a.y c.loop-e.e in
-    one-rowed c.loop-e.invariant (rw (load (goal.at.loop-e-preserved c).After-size-load) at c.put_belt-next.ensures) short
+    record {
+      rowed = one-rowed c.loop-e.invariant.rowed (rw (load (goal.at.loop-e-preserved c).After-size-load) at c.put_belt.ensures.rows) short;
+      same_table = c.put_belt.ensures.same_table ∙ c.loop-e.invariant.same_table;
+    }
 
-pub shape_of-out : goal.shape_of-out
-shape_of-out c = put-length c.loop-e.invariant.now
-
-pub returns : goal.returns
-returns c = all-rowed _ c.loop-e.invariant (omega arith) (omega arith)
+pub returns-clause-rows : goal.returns-clause-rows
+returns-clause-rows c = all-rowed _ c.loop-e.invariant.rowed (omega arith) (omega arith)
