@@ -21,13 +21,5 @@ pub fn solve(q: u64, net: &Net, flow: &mut [i64], tables: &mut [u64]) -> Answer
     let mut indexes = [0u64; INDEXES_NUMBERS];
     let mut memory = [0u64; MEMORY_NUMBERS];
     let mut path = [0u64; PATH_NUMBERS];
-    solve_in(
-        q,
-        net,
-        &mut indexes,
-        flow,
-        tables,
-        &mut memory,
-        &mut path,
-    )
+    solve_in(q, net, &mut indexes, flow, tables, &mut memory, &mut path)
 }

@@ -7,7 +7,7 @@ ghost use Rattle.solver.specs.Solved.{Answering, Solved, answer_of, no_answer};
 
 use choice::RESOURCE_CAPACITIES;
 use method::Answer;
-use packed::{LENGTHS, LOADS, Shape, Net};
+use packed::{LENGTHS, LOADS, Net, Shape};
 use run::runs;
 use step::Progress;
 use tables::loads;

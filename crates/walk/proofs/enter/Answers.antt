@@ -4,7 +4,7 @@ use native.Mathlib.Omega.{arith}
 use Rattle.paths.proofs.Collecting.{entered-limited, entered-none}
 use Rattle.walk.proofs.enter.Goals as goal
 
-pub returns-then-r-net : goal.returns-then-r-s
+pub returns-then-r-net : goal.returns-then-r-net
 returns-then-r-net c =
     let p = c.requires in
     entered-limited _ _ (p.index.places _ p.node) p.place (omega (arith, p.counted, c.if-r-net.true))

@@ -19,7 +19,7 @@ room c = omega (arith, c.requires.room, c.loop-i.auto.path)
 fits : (c : At-loop-i) → c.args.arcs ≤ length c.loop-i.path
 fits c = omega (arith, room c, c.requires.few)
 
-pub returns-then-net : goal.returns-then-s
+pub returns-then-net : goal.returns-then-net
 returns-then-net c =
     let p = c.requires in
     visits-none (omega (arith, arcs-is p.packed, p.counted, c.if-net.true)) p.ends p.node p.leads-to p.few

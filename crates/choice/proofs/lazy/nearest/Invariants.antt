@@ -5,8 +5,8 @@ use Rattle.memory.specs.Memory.{bounds_in, Known}
 use Rattle.choice.proofs.Slack.{slack}
 use Rattle.choice.proofs.lazy.nearest.Given as goal
 
-abbrev pub invariant-loop-s : goal.invariant-loop-s
-invariant-loop-s l = Known l.net.shape (net_in l.net.shape l.net.numbers) l.lengths l.memory l.i
+abbrev pub invariant-loop-arcs : goal.invariant-loop-arcs
+invariant-loop-arcs l = Known l.net.shape (net_in l.net.shape l.net.numbers) l.lengths l.memory l.i
 
-abbrev pub decreases-loop-s : goal.decreases-loop-s
-decreases-loop-s l = slack (commodities (net_in l.net.shape l.net.numbers)) (bounds_in l.net.shape l.memory)
+abbrev pub decreases-loop-arcs : goal.decreases-loop-arcs
+decreases-loop-arcs l = slack (commodities (net_in l.net.shape l.net.numbers)) (bounds_in l.net.shape l.memory)

@@ -56,7 +56,7 @@ cleared c = with-kept (unloaded (goal.at.After-fill-2 c).After-fill) c.fill-2.ne
 pub returns : goal.returns
 unfolding net_in
 returns c =
-    let z = c.args in let p = c.requires in let net = net_in z.s z.net.now in
+    let z = c.args in let p = c.requires in let net = net_in z.net.now.shape z.net.now.numbers in
     record {
       state =
           in-slice (cleared (goal.at.returns c).After-fill-2) (λ L Y K. state_of L c.fill-3.new.self Y K begun ≡ initial net)
