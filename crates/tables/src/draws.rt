@@ -17,7 +17,8 @@ pub fn draw(capacities: &[u64], path: &[u64]) -> u64
     path.iter().map(|e| capacities[*e as usize]).min().unwrap()
 }
 
-// The draw g over arc e taken at node v, in the row of a flow that begins at base: forward from its tail, back from its head. Its other end.
+// The draw g over arc e taken at node v, in the row of a flow that begins at base: forward from its tail, back from its
+// head. Its other end.
 fn cross(flow: &mut [i64], s: Shape, net: &[u64], base: usize, g: u64, v: u64, e: usize) -> u64
     requires { Crossing s net.now base g e flow.old }
     ensures { (flow.new ≡ crossed (net_in s net.now) base g v e flow.old) × (result ≡ beyond (net_in s net.now) v e) }

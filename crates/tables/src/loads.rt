@@ -5,8 +5,8 @@ ghost use Rattle.packed.specs.Packed.{part, put};
 ghost use Rattle.tables.specs.Calls.{Loading, Ranking};
 ghost use Rattle.tables.specs.Results.{Loaded};
 
-// The draw g added to the loads of what the path uses: whether some load is now at least the threshold times the resource's capacity. None was
-// before, so that only these are looked at.
+// The draw g added to the loads of what the path uses: whether some load is now at least the threshold times the
+// resource's capacity. None was before, so that only these are looked at.
 pub fn load(loads: &mut [u64], capacities: &[u64], threshold: u64, path: &[u64], g: u64) -> bool
     requires { Loading loads.old capacities.now threshold path.now g }
     ensures { Loaded loads.old capacities.now threshold path.now g loads.new result }
