@@ -13,7 +13,8 @@ ghost use Rattle.index.specs.Indexing.{Seeing, Seen, Building, Putting, placed, 
 use bounds::{MOST_ARCS, MOST_NODES};
 use packed::{CAPACITIES, HEADS, LIMITS, MARKS, Net, TAILS};
 
-// First stands for each node, and one past the last, the place where its arcs begin; the arcs of the places stand from here on,
+// First stands for each node, and one past the last, the place where its arcs begin; the arcs of the places stand from
+// here on,
 pub const ARCS: usize = MOST_NODES as usize + 2;
 
 // and their other ends from here on. There are places for twice the most arcs.
@@ -95,7 +96,8 @@ fn limit(limits: &[u64], v: usize) -> u64
     }
 }
 
-// Which resource each node is: those that are limited are counted on behind the arcs, the others get a number past all resources.
+// Which resource each node is: those that are limited are counted on behind the arcs, the others get a number past all
+// resources.
 fn place_nodes(net: &Net, ix: &mut [u64])
     requires { Indexable net.now.shape net.now.numbers (length ix.old) }
     ensures { Located (network_of net.now) ix.old ix.new }

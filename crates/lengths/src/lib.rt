@@ -32,8 +32,8 @@ pub struct Grown {
     pub marked: bool,
 }
 
-// The lengths of what the path uses grown by the draw g. Only they change: their growth carries D over from the weight before, and only they can
-// have reached the mark.
+// The lengths of what the path uses grown by the draw g. Only they change: their growth carries D over from the weight
+// before, and only they can have reached the mark.
 fn grow(lengths: &mut [u64], capacities: &[u64], q: u64, g: u64, path: &[u64], weight: u64) -> Grown
     requires growing { Growing lengths.old capacities.now q g path.now }
     requires weight { weight ≡ weight_of capacities.now lengths.old }
@@ -82,8 +82,8 @@ fn settle(lengths: &mut [u64], capacities: &[u64], grown: Grown) -> u64
     }
 }
 
-// The lengths of what the path uses grown by the draw g, and all halved if one has grown to the mark: D of what they are then, and whether they
-// were halved.
+// The lengths of what the path uses grown by the draw g, and all halved if one has grown to the mark: D of what they are
+// then, and whether they were halved.
 pub fn lengthen(
     lengths: &mut [u64],
     capacities: &[u64],

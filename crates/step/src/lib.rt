@@ -11,9 +11,9 @@ use method::Selected;
 use packed::{KEPT, LENGTHS, LOADS, Net};
 use tables::{draws, loads};
 
-// The drawn total, the count of iterations, and D, alpha and number of the iteration of the least D / alpha so far. Beside these numbers of the
-// method's state, what would else be read off whole tables: D of the present lengths, whether the last iteration halved them, and whether some
-// load is at the threshold.
+// The drawn total, the count of iterations, and D, alpha and number of the iteration of the least D / alpha so far.
+// Beside these numbers of the method's state, what would else be read off whole tables: D of the present lengths, whether
+// the last iteration halved them, and whether some load is at the threshold.
 #[derive(Clone, Copy)]
 pub struct Progress {
     pub total: u64,

@@ -17,7 +17,8 @@ pub fn draw(capacities: &[u64], path: &[u64]) -> u64
     path.iter().map(|e| capacities[*e as usize]).min().unwrap()
 }
 
-// The draw g over arc e taken at node v, in the row of a flow that begins at base: forward from its tail, back from its head. Its other end.
+// The draw g over arc e taken at node v, in the row of a flow that begins at base: forward from its tail, back from its
+// head. Its other end.
 fn cross(flow: &mut [i64], net: &Net, base: usize, g: u64, v: u64, e: usize) -> u64
     requires { Crossing net.now.shape net.now.numbers base g e flow.old }
     ensures { (flow.new ≡ crossed (network_of net.now) base g v e flow.old) × (result ≡ beyond (network_of net.now) v e) }

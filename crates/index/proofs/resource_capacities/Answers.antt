@@ -17,19 +17,6 @@ room s =
     let p = s.requires in
     omega (arith, arcs-is p.packed, arcs-le (net_in s.args.net.now.shape s.args.net.now.numbers), p.whole, p.counted)
 
-pub slice_bounds-copy_from_slice-end : goal.slice_bounds-copy_from_slice-end
-slice_bounds-copy_from_slice-end c = room (goal.at.slice_bounds-copy_from_slice-end c).Start
-
-pub slice_bounds-copy_from_slice-end-2 : goal.slice_bounds-copy_from_slice-end-2
-slice_bounds-copy_from_slice-end-2 c =
-    sym (length-take-le _ _ (room (goal.at.slice_bounds-copy_from_slice-end-2 c).Start))
-
-pub copy_from_slice-requires : goal.copy_from_slice-requires
-unfolding net_in
-copy_from_slice-requires c =
-    let p = c.requires.packed in
-    length-take-le _ _ (room (goal.at.copy_from_slice-requires c).Start) ∙ sym (capacities-length p ∙ arcs-is p)
-
 pub append_limits-requires : goal.append_limits-requires
 unfolding net_in
 append_limits-requires c =
@@ -46,3 +33,16 @@ append_limits-requires c =
           };
       capacities = take_at copy.new.self _ c.args.net.now.shape.arcs arcs ∙ copy.ensures.after;
     }
+
+pub slice_bounds-copy_from_slice-end : goal.slice_bounds-copy_from_slice-end
+slice_bounds-copy_from_slice-end c = room (goal.at.slice_bounds-copy_from_slice-end c).Start
+
+pub slice_bounds-copy_from_slice-end-2 : goal.slice_bounds-copy_from_slice-end-2
+slice_bounds-copy_from_slice-end-2 c =
+    sym (length-take-le _ _ (room (goal.at.slice_bounds-copy_from_slice-end-2 c).Start))
+
+pub copy_from_slice-requires : goal.copy_from_slice-requires
+unfolding net_in
+copy_from_slice-requires c =
+    let p = c.requires.packed in
+    length-take-le _ _ (room (goal.at.copy_from_slice-requires c).Start) ∙ sym (capacities-length p ∙ arcs-is p)
