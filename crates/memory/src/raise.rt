@@ -18,7 +18,10 @@ pub fn told(ix: &[u64], lengths: &[u64], dist: &[u64], v: u64, w: u64) -> u64
     let own = through(ix, lengths, v as usize);
     let from = dist[v as usize];
     let to = dist[w as usize];
-    from.saturating_sub(to) / MOST_NODES + own
+    if from < to {
+        return own;
+    }
+    (from - to) / MOST_NODES + own
 }
 
 // The bound of commodity i is raised to what the table of t tells, where that is more; the bound.
@@ -43,7 +46,8 @@ fn raise_at(
         net[SOURCES + i],
         net[SINKS + i],
     );
-    let bound = memory[BOUNDS + i].max(x);
+    let old = memory[BOUNDS + i];
+    let bound = if old < x { x } else { old };
     memory[BOUNDS + i] = bound;
     bound
 }
