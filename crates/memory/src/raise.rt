@@ -18,6 +18,7 @@ pub fn told(ix: &[u64], lengths: &[u64], dist: &[u64], v: u64, w: u64) -> u64
     let own = through(ix, lengths, v as usize);
     let from = dist[v as usize];
     let to = dist[w as usize];
+    // Kept: saturating_sub was tried, and is slower.
     if from < to {
         return own;
     }
@@ -47,6 +48,7 @@ fn raise_at(
         net[SINKS + i],
     );
     let old = memory[BOUNDS + i];
+    // Kept: max was tried, and is slower.
     let bound = if old < x { x } else { old };
     memory[BOUNDS + i] = bound;
     bound

@@ -20,6 +20,7 @@ fn relax(way: u64, u: usize, dist: &mut [u64]) -> bool
 {
     let old = dist[u];
     let nearer = way < old;
+    // Kept: min was tried, and is slower.
     dist[u] = if nearer { way } else { old };
     nearer
 }

@@ -1,6 +1,5 @@
 -- `search::reset` meets its contract: the entries passed are far, the others as they were.
 -- Assumes nothing.
-use mathlib.Core.Path.{◌≡◌}
 use native.Mathlib.Omega.{arith}
 use borrow.Author.Fill.{fill_none, fill_more}
 use Rattle.paths.specs.Far.{far}
