@@ -18,7 +18,11 @@ pub fn told(ix: &[u64], lengths: &[u64], dist: &[u64], v: u64, w: u64) -> u64
     let own = through(ix, lengths, v as usize);
     let from = dist[v as usize];
     let to = dist[w as usize];
-    from.saturating_sub(to) / MOST_NODES + own
+    // Kept: saturating_sub was tried, and is slower.
+    if from < to {
+        return own;
+    }
+    (from - to) / MOST_NODES + own
 }
 
 // The bound of commodity i is raised to what the table of t tells, where that is more; the bound.
@@ -35,7 +39,9 @@ fn raise_at(net: &Net, ix: &[u64], lengths: &[u64], t: u64, i: usize, memory: &m
         net.numbers[SOURCES + i],
         net.numbers[SINKS + i],
     );
-    let bound = memory[BOUNDS + i].max(x);
+    let old = memory[BOUNDS + i];
+    // Kept: max was tried, and is slower.
+    let bound = if old < x { x } else { old };
     memory[BOUNDS + i] = bound;
     bound
 }

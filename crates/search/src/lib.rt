@@ -32,7 +32,10 @@ fn reset(n: u64, sink: u64, dist: &mut [u64])
     requires { (n < length dist.old) × (sink ≤ n) }
     ensures { dist.new ≡ set (replicate (n + 1) far ++ drop (n + 1) dist.old) sink 0 }
 {
-    dist[..=n as usize].fill(FAR);
+    // Kept: std's fill was tried, and is slower.
+    for v in 0..n as usize + 1 {
+        dist[v] = FAR;
+    }
     dist[sink as usize] = 0;
 }
 

@@ -19,8 +19,10 @@ fn relax(way: u64, u: usize, dist: &mut [u64]) -> bool
     ensures { Taken way u dist.old result dist.new }
 {
     let old = dist[u];
-    dist[u] = way.min(old);
-    way < old
+    let nearer = way < old;
+    // Kept: min was tried, and is slower.
+    dist[u] = if nearer { way } else { old };
+    nearer
 }
 
 // More arcs than there may be nodes: many stand side by side, so that few are nearer, and stores to the one entry would wait for each other.

@@ -1,10 +1,9 @@
 -- `memory::raise::raise_at` meets its contract: the bound that is stored is the greater one. Assumes nothing.
-use mathlib.Core.Path.{◌≡◌, refl, sym}
-use mathlib.Core.Logic.{inl, inr, ⊎_elim}
-use Prim.Native.Nat.{ℕ, max, ◌+◌, ◌≤◌, ◌<◌}
+use mathlib.Core.Path.{◌≡◌, refl, sym, ◌∙◌}
+use mathlib.Core.Logic.{inl, inr}
+use Prim.Native.Nat.{ℕ, ◌+◌, ◌≤◌, ◌<◌}
 use native.Mathlib.Omega.{arith}
 use lib.ListN.{get_or}
-use Rattle.arith.proofs.Order.{le-or-lt}
 use Rattle.network.specs.Network.{source, sink}
 use Rattle.packed.specs.Packed.{net_in, sources_from, sinks_from}
 use Rattle.packed.proofs.Columns.{part_at, part_length}
@@ -13,7 +12,7 @@ use Rattle.paths.specs.Through.{through}
 use Rattle.memory.specs.Memory.{page_from, distances_in}
 use Rattle.memory.specs.Raised.{told_by, Greater}
 use Rattle.memory.proofs.raise.raise_at.Goals as goal
-use Rattle.memory.proofs.raise.raise_at.Goals.{After-told-x, Start}
+use Rattle.memory.proofs.raise.raise_at.Goals.{After-told-x, Start, then-old-x, else-old-x}
 
 -- the two ends, as they are read
 from : (s : Start) → get_or s.args.net.now.numbers (sources_from + s.args.i) 0 ≡ source (net_in s.args.net.now.shape s.args.net.now.numbers) s.args.i
@@ -30,10 +29,12 @@ tells : (c : After-told-x) → let n = net_in c.args.net.now.shape c.args.net.no
     told_by (through c.args.ix.now c.args.lengths.now) (distances_in c.args.t c.args.memory.now) (source n c.args.i) (sink n c.args.i)
 tells c = rw (← from (goal.at.After-told-x c).Start, ← to (goal.at.After-told-x c).Start) c.told-x.ensures
 
--- what is stored is the greater one
-greatest : {a b x r : ℕ} → r ≡ max a x → x ≡ b → Greater a b r
-greatest {a} {b} e q =
-    record { first = omega arith; second = omega arith; one = ⊎_elim (λ (h : a ≤ b). inr (omega arith)) (λ (h : b < a). inl (omega arith)) (le-or-lt a b) }
+-- the greater is taken
+risen : {a b r x : ℕ} → x ≡ b → a < x → r ≡ x → Greater a b r
+risen q b e = record { first = omega arith; second = omega arith; one = inr (e ∙ q) }
+
+left : {a b r x : ℕ} → x ≡ b → x ≤ a → r ≡ a → Greater a b r
+left q b e = record { first = omega arith; second = omega arith; one = inl e }
 
 pub told-x-requires : goal.told-x-requires
 told-x-requires c =
@@ -50,4 +51,11 @@ told-x-requires c =
 pub returns : goal.returns
 returns c =
     let place : 0 + c.args.i ≡ c.args.i = omega arith in
-    rw place (record { greater = greatest (rw place at c.max-bound.ensures) (tells (goal.at.returns c).After-told-x); stored = refl })
+    rw place (record {
+      greater =
+          elim c.if-old-x.branch [
+            | then-old-x w ↦ risen (tells (goal.at.returns c).After-told-x) (rw place at w.if-old-x.true) w.bound-is
+            | else-old-x w ↦ left (tells (goal.at.returns c).After-told-x) (rw place at w.if-old-x.false) (rw place at w.bound-is)
+          ];
+      stored = refl;
+    })
