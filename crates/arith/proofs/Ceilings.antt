@@ -24,5 +24,6 @@ pub ceil-std : (a b : ℕ) → 0 < b → div_ceil a b ≡ ceil a b
 ceil-std a b h =
     let (above, below) = div_ceil_times a b h in
     let most = lt_of_mul-lt-mul_left b {m = div_ceil a b} {n = ceil a b + 1} (omega (arith, below, ceil-above a b h)) in
-    let least = lt_of_mul-lt-mul_left b {m = ceil a b} {n = div_ceil a b + 1} (omega (arith, above, ceil-below a b h)) in
+    let least =
+    lt_of_mul-lt-mul_left b {m = ceil a b} {n = div_ceil a b + 1} (omega (arith, above, ceil-below a b h)) in
     omega arith

@@ -21,11 +21,13 @@ zero-below xs h zero = omega arith
 zero-below xs h (suc i) = h i
 
 -- A limb of 0, and on it all limbs but the highest.
-pub shifted : (xs : List ℕ) → Limbs width xs → base * from_limbs xs < limit → Writes (0 ∷ (take 4 xs ++ [])) (base * from_limbs xs)
+pub shifted : (xs : List ℕ) → Limbs width xs → base * from_limbs xs < limit
+    → Writes (0 ∷ (take 4 xs ++ [])) (base * from_limbs xs)
 unfolding from_limbs limit
 shifted xs l fits =
-    let low : from_limbs (take 4 xs) ≡ from_limbs xs = top-zero (from_limbs xs) (from_limbs (take 4 xs)) (base ^ 4) (get_or xs 4 0) (base ^ 5)
-    (sym (value-all xs l (le_refl 5)) ∙ value-take xs 4) (pow-suc base 4) fits in
+    let all = sym (value-all xs l (le_refl 5)) ∙ value-take xs 4 in
+    let low : from_limbs (take 4 xs) ≡ from_limbs xs =
+    top-zero (from_limbs xs) (from_limbs (take 4 xs)) (base ^ 4) (get_or xs 4 0) (base ^ 5) all (pow-suc base 4) fits in
     rw append-nil
     (record {
       limbs = record {

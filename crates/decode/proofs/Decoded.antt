@@ -23,7 +23,8 @@ pub record Filled (bytes : List ℕ) (k j a n : ℕ) (xs new : List ℕ) : Type 
 -- So it is where those n places were lent and read into.
 pub fills :
     (bytes : List ℕ) (k j a n : ℕ) (xs ys : List ℕ) → length ys ≡ length (packed.part a n xs) →
-    ys ≡ column bytes k j (length (packed.part a n xs)) → a + n ≤ length xs → Filled bytes k j a n xs (put_mid a (a + n - a) xs ys)
+    ys ≡ column bytes k j (length (packed.part a n xs)) → a + n ≤ length xs →
+    Filled bytes k j a n xs (put_mid a (a + n - a) xs ys)
 fills bytes k j a n xs ys same read h =
     let size = part_length a n xs h in
     record {

@@ -1,4 +1,5 @@
--- Lists of bytes, and some of them replaced: how a table of numbers changes. No contract of a call rests on it. Assumes nothing.
+-- Lists of bytes, and some of them replaced: how a table of numbers changes. No contract of a call rests on it.
+-- Assumes nothing.
 use Rattle.std.specs.Prelude.{ℕ, ◌+◌, ◌<◌, List, ◌++◌, length, get_or, take, drop}
 
 -- Every element is a byte. Past the end the default is 0, so this is what a slice of bytes tells of each index.

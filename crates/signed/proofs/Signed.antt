@@ -71,7 +71,8 @@ pub moved-size : (b : Bool) (g : ℕ) (x : ℤ) → size (moved b g x) ≤ size 
 moved-size true g x = more-size x g
 moved-size false g x = less-size x g
 
--- What std gives of an amount: its size, its two's complement, the amount of a number of 64 bits, and that above or below 0.
+-- What std gives of an amount: its size, its two's complement, the amount of a number of 64 bits,
+-- and what of it is above or below 0.
 pub size-std : (x : ℤ) → unsigned_abs x ≡ size x
 unfolding ahead back
 size-std (pos n) = omega arith

@@ -18,7 +18,9 @@ pub overflow_add-r : goal.overflow_add-r
 overflow_add-r c = omega (arith, c.loop-i.invariant, given-most (column c.args.limits.now 1 0 c.args.c) c.loop-i.i)
 
 -- the number to count is the one that is read
-present : (c : In-loop-i) → get_or (column c.args.limits.now 1 0 c.args.c) c.loop-i.i 0 ≡ number_at c.args.limits.now c.loop-i.i
+present :
+    (c : In-loop-i) →
+    get_or (column c.args.limits.now 1 0 c.args.c) c.loop-i.i 0 ≡ number_at c.args.limits.now c.loop-i.i
 present c =
     let e : 1 * c.loop-i.i + 0 ≡ c.loop-i.i = omega arith in
     get_or-column c.args.limits.now 1 0 c.args.c c.loop-i.i c.loop-i-test.true ∙ ap (number_at c.args.limits.now) e

@@ -1,4 +1,5 @@
--- `numbers::read` meets its contract: what std reads in the eight bytes from 8 * i is the number in them. Assumes nothing.
+-- `numbers::read` meets its contract: what std reads in the eight bytes from 8 * i is the number in them.
+-- Assumes nothing.
 use mathlib.Core.Path.{◌≡◌, ap, ◌∙◌}
 use Prim.Native.Nat.{◌+◌, ◌*◌, ◌-◌}
 use native.Mathlib.Omega.{arith}

@@ -10,4 +10,5 @@ loop-i-init c = refl
 
 pub loop-i-preserved : goal.loop-i-preserved
 loop-i-preserved c =
-    rw (c.loop-i.invariant, c.read.ensures) (column-more c.args.s.now c.args.out.now c.args.k c.args.j c.loop-i.i c.loop-i-test.true)
+    rw (c.loop-i.invariant, c.read.ensures)
+    (column-more c.args.s.now c.args.out.now c.args.k c.args.j c.loop-i.i c.loop-i-test.true)

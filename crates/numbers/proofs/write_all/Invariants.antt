@@ -1,4 +1,5 @@
--- `numbers::write_all` meets its contract. The loop's invariant: the first i numbers of `xs` are written. Assumes nothing.
+-- `numbers::write_all` meets its contract. The loop's invariant: the first i numbers of `xs` are written.
+-- Assumes nothing.
 use mathlib.Core.Path.{◌≡◌}
 use mathlib.Core.List.{map}
 use lib.ListN.{take}

@@ -1,4 +1,5 @@
--- `whole::put_totes` meets its contract. The loop's invariant: the numbers of the pairs before i are written. Assumes nothing.
+-- `whole::put_totes` meets its contract. The loop's invariant: the numbers of the pairs before i are written.
+-- Assumes nothing.
 use mathlib.Core.Path.{◌≡◌}
 use Rattle.numbers.specs.Numbers.{written}
 use Rattle.whole.specs.Read.{sent_in}

@@ -44,7 +44,8 @@ overflow_add-total-in-loop-e c = omega (arith, most c)
 
 pub loop-e-preserved : goal.loop-e-preserved
 loop-e-preserved c =
-    omega (arith, added c, c.loop-e.invariant, sum-next c.args.belts.now c.args.flow.now c.args.from c.args.v c.loop-e.e)
+    let next = sum-next c.args.belts.now c.args.flow.now c.args.from c.args.v c.loop-e.e in
+    omega (arith, added c, c.loop-e.invariant, next)
 
 pub returns : goal.returns
 returns c =

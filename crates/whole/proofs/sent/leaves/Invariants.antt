@@ -1,4 +1,5 @@
--- `whole::sent::leaves` meets its contract. The loop's invariant: the total is the sum over the arcs before e. Assumes nothing.
+-- `whole::sent::leaves` meets its contract. The loop's invariant: the total is the sum over the arcs before e.
+-- Assumes nothing.
 use mathlib.Core.Path.{◌≡◌}
 use Rattle.arith.specs.Sum.{sum}
 use Rattle.whole.proofs.Leaves.{over}

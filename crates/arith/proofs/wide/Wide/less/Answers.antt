@@ -11,7 +11,8 @@ above : (c : In-loop-i) → Level c.args.self.limbs c.args.other.limbs (suc (c.l
 above c = let e : suc (c.loop-i.i - 1) ≡ c.loop-i.i = omega arith in rw e c.loop-i.invariant
 
 pub returns-then-p-q : goal.returns-then-p-q
-returns-then-p-q c = level-decides c.requires.0 c.requires.1 (above (goal.at.returns-then-p-q c).In-loop-i) c.if-p-q.true
+returns-then-p-q c =
+    level-decides c.requires.0 c.requires.1 (above (goal.at.returns-then-p-q c).In-loop-i) c.if-p-q.true
 
 pub loop-i-preserved : goal.loop-i-preserved
 loop-i-preserved c = level-step (above (goal.at.loop-i-preserved c).In-loop-i) c.if-p-q.false

@@ -11,7 +11,8 @@ shifted-requires c =
 
 pub times_plus-requires : goal.times_plus-requires
 times_plus-requires c =
-    (c.requires.0, c.shifted.ensures.limbs, omega arith, omega (arith, split-product (from_limbs c.args.self.limbs) c.args.k))
+    let split = split-product (from_limbs c.args.self.limbs) c.args.k in
+    (c.requires.0, c.shifted.ensures.limbs, omega arith, omega (arith, split))
 
 pub returns : goal.returns
 returns c = record {
