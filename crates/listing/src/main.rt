@@ -13,6 +13,7 @@ fn read_full<R: Read>(from: &mut R, room: &mut [u8]) -> usize
     ensures bytes { Consumes (R.remaining from.old) (R.remaining from.new) (take result room.new) }
 {
     let mut done = 0;
+    // Kept: the loop steps by what a read gave, which no range says.
     while done < room.len() {
         match from.read(&mut room[done..]) {
             Ok(0) | Err(_) => break,

@@ -2,7 +2,7 @@
 ghost use Rattle.std.specs.Prelude.{◌≡◌, length};
 ghost use Rattle.network.specs.Refusal.{Accepted};
 ghost use Rattle.packed.specs.Packed.{network_of};
-ghost use Rattle.rows.specs.Put.{Put};
+ghost use Rattle.rows.specs.Put.{Puts};
 ghost use Rattle.report.specs.Shown.{belts_of, Belted, Ready, Showing, Shown};
 
 use bounds::{LEAST_PRECISION, MOST_ARCS};
@@ -13,8 +13,9 @@ use rows::Rows;
 fn put_belts(rows: &mut Rows, tails: &[u64], heads: &[u64], flow: &[i64], a: u64, y: u64)
     requires { Belted tails.now heads.now flow.now a rows.old.at (length rows.old.out.now) }
     ensures same_table { rows.new.out.ghost_name ≡ rows.old.out.ghost_name }
-    ensures rows { Put (belts_of tails.now heads.now flow.now a y) rows.old.out.now rows.old.at rows.new.out.now rows.new.at }
+    ensures rows { Puts (belts_of tails.now heads.now flow.now a y) rows.old rows.new }
 {
+    // Kept: arc e has a place in each of the three tables, and two zips are no plainer.
     for e in 0..tails.len() {
         let load = signed::size(flow[e]);
         rows.put_belt(tails[e], heads[e], load * a, y);

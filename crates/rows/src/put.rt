@@ -1,7 +1,7 @@
 // Bytes and numbers put behind one another into a lent table.
 ghost use Rattle.std.specs.Prelude.{◌≡◌, ◌+◌, ◌≤◌, ◌<◌, length};
 ghost use Rattle.rows.specs.Decimal.{decimal};
-ghost use Rattle.rows.specs.Put.{Put};
+ghost use Rattle.rows.specs.Put.{Puts};
 
 // The rows put so far: the next byte stands at place `at` of the table.
 #[derive(Drop)]
@@ -23,7 +23,7 @@ impl<'a> Rows<'a> {
     pub fn put(&mut self, xs: &[u8])
         requires { self.old.at + length xs.now ≤ length self.old.out.now }
         ensures same_table { self.new.out.ghost_name ≡ self.old.out.ghost_name }
-        ensures rows { Put xs.now self.old.out.now self.old.at self.new.out.now self.new.at }
+        ensures rows { Puts xs.now self.old self.new }
     {
         let end = self.at + xs.len();
         self.out[self.at..end].copy_from_slice(xs);
@@ -34,7 +34,7 @@ impl<'a> Rows<'a> {
     pub fn put_number(&mut self, x: u64)
         requires { self.old.at + length (decimal x) ≤ length self.old.out.now }
         ensures same_table { self.new.out.ghost_name ≡ self.old.out.ghost_name }
-        ensures rows { Put (decimal x) self.old.out.now self.old.at self.new.out.now self.new.at }
+        ensures rows { Puts (decimal x) self.old self.new }
     {
         if 10 <= x {
             self.put_number(x / 10);

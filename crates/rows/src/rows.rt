@@ -2,7 +2,7 @@
 ghost use Rattle.std.specs.Prelude.{◌≡◌, [], ◌∷◌, ◌+◌, ◌*◌, ◌^◌, ◌≤◌, ◌<◌, length};
 ghost use Rattle.rows.specs.Decimal.{decimal};
 ghost use Rattle.rows.specs.Rows.{answer_rows, refusal_row};
-ghost use Rattle.rows.specs.Put.{Put};
+ghost use Rattle.rows.specs.Put.{Puts};
 ghost use Rattle.rows.specs.Row.{delimited, row};
 ghost use Rattle.lines.specs.Text.{bytes};
 
@@ -15,7 +15,7 @@ impl<'a> Rows<'a> {
     fn put_fraction(&mut self, upper: u64, lower: u64)
         requires { self.old.at + 43 ≤ length self.old.out.now }
         ensures same_table { self.new.out.ghost_name ≡ self.old.out.ghost_name }
-        ensures rows { Put (delimited (decimal upper) (decimal lower ∷ [])) self.old.out.now self.old.at self.new.out.now self.new.at }
+        ensures rows { Puts (delimited (decimal upper) (decimal lower ∷ [])) self.old self.new }
     {
         self.put_number(upper);
         self.put(b",");
@@ -27,7 +27,7 @@ impl<'a> Rows<'a> {
     fn put_row(&mut self, kind: &[u8], upper: u64, lower: u64)
         requires { (length kind.now ≤ 7) × (self.old.at + 53 ≤ length self.old.out.now) }
         ensures same_table { self.new.out.ghost_name ≡ self.old.out.ghost_name }
-        ensures rows { Put (row kind.now [] [] upper lower) self.old.out.now self.old.at self.new.out.now self.new.at }
+        ensures rows { Puts (row kind.now [] [] upper lower) self.old self.new }
     {
         self.put(kind);
         self.put(b",,,");
@@ -38,7 +38,7 @@ impl<'a> Rows<'a> {
     pub fn put_belt(&mut self, tail: u64, head: u64, upper: u64, lower: u64)
         requires { self.old.at + 90 ≤ length self.old.out.now }
         ensures same_table { self.new.out.ghost_name ≡ self.old.out.ghost_name }
-        ensures rows { Put (row (bytes "belt") (decimal tail) (decimal head) upper lower) self.old.out.now self.old.at self.new.out.now self.new.at }
+        ensures rows { Puts (row (bytes "belt") (decimal tail) (decimal head) upper lower) self.old self.new }
     {
         self.put(b"belt,");
         self.put_number(tail);
@@ -52,7 +52,7 @@ impl<'a> Rows<'a> {
     pub fn put_answer(&mut self, a: Answer)
         requires { (a.total * a.capacity < 2 ^ 64) × (self.old.at + 159 ≤ length self.old.out.now) }
         ensures same_table { self.new.out.ghost_name ≡ self.old.out.ghost_name }
-        ensures rows { Put (answer_rows a) self.old.out.now self.old.at self.new.out.now self.new.at }
+        ensures rows { Puts (answer_rows a) self.old self.new }
     {
         self.put_row(b"total", a.total * a.capacity, a.load);
         self.put_row(b"bound", a.bound, a.alpha);
@@ -63,7 +63,7 @@ impl<'a> Rows<'a> {
     pub fn put_refusal(&mut self, why: Refusal)
         requires { self.old.at + 53 ≤ length self.old.out.now }
         ensures same_table { self.new.out.ghost_name ≡ self.old.out.ghost_name }
-        ensures rows { Put (refusal_row why) self.old.out.now self.old.at self.new.out.now self.new.at }
+        ensures rows { Puts (refusal_row why) self.old self.new }
     {
         let c = Code::from(why);
         self.put_row(b"refused", c.number, c.place);
