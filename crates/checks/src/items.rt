@@ -8,7 +8,7 @@ ghost use Rattle.packed.specs.Packed.{Packed, network_of};
 use crate::sizes::outside;
 use bounds::MOST_CAPACITY;
 use network::{Refusal, Verdict};
-use packed::{CAPACITIES, HEADS, LIMITS, SINKS, SOURCES, TAILS, Net};
+use packed::{CAPACITIES, HEADS, LIMITS, Net, SINKS, SOURCES, TAILS};
 
 // The number at i, 0 past the end.
 fn at(s: &[u64], i: usize) -> u64
@@ -67,8 +67,8 @@ pub fn check_commodities(n: u64, sources: &[u64], sinks: &[u64]) -> Verdict
 }
 
 // 6, 7, 14 and 8 of a network whose sizes have passed.
-pub fn check_items(net: &Net) -> Verdict
-    requires { Packed net.now.shape net.now.numbers }
+pub fn check_items(net: &Net<'_>) -> Verdict
+    requires { Packed net.now.shape net.now.numbers.now }
     ensures { result ≡ verdict (item_conditions (network_of net.now)) }
 {
     let m = net.shape.arcs;
@@ -81,5 +81,9 @@ pub fn check_items(net: &Net) -> Verdict
         &net.numbers[CAPACITIES..CAPACITIES + m],
     )?;
     check_limits(&net.numbers[LIMITS..LIMITS + given])?;
-    check_commodities(net.shape.nodes, &net.numbers[SOURCES..SOURCES + k], &net.numbers[SINKS..SINKS + k])
+    check_commodities(
+        net.shape.nodes,
+        &net.numbers[SOURCES..SOURCES + k],
+        &net.numbers[SINKS..SINKS + k],
+    )
 }

@@ -21,8 +21,8 @@ use walk::walk;
 
 // The distances to t, the sink of commodity i, are searched for, and all bounds raised by them; the lowest-numbered commodity of least bound now. i is taken
 // for the contract.
-fn look(net: &Net, into: &[u64], lengths: &[u64], t: u64, i: usize, memory: &mut [u64]) -> usize
-    requires { Looking net.now.shape net.now.numbers into.now lengths.now t i memory.old }
+fn look(net: &Net<'_>, into: &[u64], lengths: &[u64], t: u64, i: usize, memory: &mut [u64]) -> usize
+    requires { Looking net.now.shape net.now.numbers.now into.now lengths.now t i memory.old }
     ensures { Looked net.now.shape (network_of net.now) lengths.now t memory.old memory.new result }
 {
     let at = PAGES + PAGE_NUMBERS * t as usize;
@@ -33,14 +33,14 @@ fn look(net: &Net, into: &[u64], lengths: &[u64], t: u64, i: usize, memory: &mut
 // The walk of commodity i by the page of its sink; how many arcs it has, None where it is stuck or its length is not the
 // bound.
 fn follow(
-    net: &Net,
+    net: &Net<'_>,
     indexes: &[u64],
     lengths: &[u64],
     i: usize,
     memory: &[u64],
     path: &mut [u64],
 ) -> Option<usize>
-    requires { Following net.now.shape net.now.numbers indexes.now lengths.now i memory.now (length path.old) }
+    requires { Following net.now.shape net.now.numbers.now indexes.now lengths.now i memory.now (length path.old) }
     ensures { Followed (network_of net.now) lengths.now (bounds_in net.now.shape memory.now) (distances_in (sink (network_of net.now) i) memory.now) i path.new result }
 {
     let out = &indexes[OUT..OUT + INDEX_NUMBERS];
@@ -58,13 +58,13 @@ fn follow(
 // how many arcs that has, None where no commodity is joined. The commodity noted last has just been drawn, so that its
 // sink is searched first.
 pub fn nearest(
-    net: &Net,
+    net: &Net<'_>,
     indexes: &[u64],
     lengths: &[u64],
     memory: &mut [u64],
     path: &mut [u64],
 ) -> Option<usize>
-    requires { Choosing net.now.shape net.now.numbers indexes.now lengths.now memory.old (length path.old) }
+    requires { Choosing net.now.shape net.now.numbers.now indexes.now lengths.now memory.old (length path.old) }
     ensures { Nearest net.now.shape (network_of net.now) lengths.now memory.new path.new result }
 {
     let mut i = memory[LEAST] as usize;

@@ -31,13 +31,13 @@ pub const INDEXES_NUMBERS: usize = RESOURCE_CAPACITIES + MOST_ARCS;
 // The choice of an iteration, None where no commodity is joined. What its path uses are the first entries of path: the
 // arcs, and behind them the limited nodes. The memory may be used again while lengths only grow.
 pub fn choose(
-    net: &Net,
+    net: &Net<'_>,
     indexes: &[u64],
     lengths: &[u64],
     memory: &mut [u64],
     path: &mut [u64],
 ) -> Option<Selected>
-    requires { Choosing net.now.shape net.now.numbers indexes.now lengths.now memory.old (length path.old) }
+    requires { Choosing net.now.shape net.now.numbers.now indexes.now lengths.now memory.old (length path.old) }
     ensures { Left net.now.shape (network_of net.now) lengths.now result path.new memory.new }
 {
     let arcs = nearest(net, indexes, lengths, memory, path)?;

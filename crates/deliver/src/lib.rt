@@ -38,13 +38,13 @@ fn raise_count(iterations: u64, running: &mut [u8])
 // The outcome solved in lent work space of its size, and its two tables written.
 fn write_tables_in(
     q: u64,
-    net: &Net,
+    net: &Net<'_>,
     flows: &mut [i64],
     tables: &mut [u64],
     flow: &mut [u8],
     lengths: &mut [u8],
 ) -> Answer
-    requires solving { Solving net.now.shape q net.now.numbers flows.old tables.old }
+    requires solving { Solving net.now.shape q net.now.numbers.now flows.old tables.old }
     requires room { Room net.now.shape.commodities net.now.shape.arcs net.now.shape.resources flow.old lengths.old }
     ensures { TablesWritten (network_of net.now) q result flow.old lengths.old flow.new lengths.new }
 {
@@ -56,8 +56,8 @@ fn write_tables_in(
 }
 
 // The outcome solved, and its two tables written.
-fn write_tables(q: u64, net: &Net, flow: &mut [u8], lengths: &mut [u8]) -> Answer
-    requires lent { Lent net.now.shape q net.now.numbers }
+fn write_tables(q: u64, net: &Net<'_>, flow: &mut [u8], lengths: &mut [u8]) -> Answer
+    requires lent { Lent net.now.shape q net.now.numbers.now }
     requires room { Room net.now.shape.commodities net.now.shape.arcs net.now.shape.resources flow.old lengths.old }
     ensures { TablesWritten (network_of net.now) q result flow.old lengths.old flow.new lengths.new }
 {
@@ -70,11 +70,11 @@ fn write_tables(q: u64, net: &Net, flow: &mut [u8], lengths: &mut [u8]) -> Answe
 // The outcome solved and written.
 pub fn deliver(
     q: u64,
-    net: &Net,
+    net: &Net<'_>,
     tables: &mut Tables<'_>,
     running: &mut [u8],
 )
-    requires lent { Lent net.now.shape q net.now.numbers }
+    requires lent { Lent net.now.shape q net.now.numbers.now }
     requires room { Open net.now.shape.commodities net.now.shape.arcs net.now.shape.resources (slices_of tables.old running.old) }
     ensures delivered { Delivered (network_of net.now) q (slices_of tables.old running.old) (slices_of tables.new running.new) }
     ensures same { SameTables tables.old tables.new }

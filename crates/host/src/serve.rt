@@ -17,19 +17,22 @@ fn serve_in(
     s: Shape,
     q: u64,
     floor: &Floor<'_>,
-    net: &mut Net,
+    net: &mut [u64],
     tables: &mut Tables<'_>,
     running: &mut [u8],
 ) -> Verdict
     requires sizes { Sizable s q floor.now.belts.now floor.now.pairs.now floor.now.limits.now (slices_of tables.old running.old) }
-    requires shape { net.old.shape ≡ s }
-    requires places { Packed s net.old.numbers }
+    requires places { Packed s net.old }
     ensures same { SameTables tables.old tables.new }
     ensures judged { Judged (network_in s.nodes floor.now.belts.now floor.now.pairs.now floor.now.limits.now) q (slices_of tables.old running.old) (slices_of tables.new running.new) (host_number result) }
 {
-    decode(s, floor, &mut net.numbers);
-    check_items(net)?;
-    deliver(q, net, tables, running);
+    decode(s, floor, net);
+    let net = Net {
+        shape: s,
+        numbers: net,
+    };
+    check_items(&net)?;
+    deliver(q, &net, tables, running);
     Ok(())
 }
 
@@ -45,9 +48,6 @@ pub fn serve(
     ensures same { SameTables tables.old tables.new }
     ensures judged { Judged (network_in s.nodes floor.now.belts.now floor.now.pairs.now floor.now.limits.now) q (slices_of tables.old running.old) (slices_of tables.new running.new) (host_number result) }
 {
-    let mut net = Net {
-        shape: s,
-        numbers: [0; NET_NUMBERS],
-    };
+    let mut net = [0u64; NET_NUMBERS];
     serve_in(s, q, floor, &mut net, tables, running)
 }

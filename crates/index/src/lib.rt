@@ -98,8 +98,8 @@ fn limit(limits: &[u64], v: usize) -> u64
 
 // Which resource each node is: those that are limited are counted on behind the arcs, the others get a number past all
 // resources.
-fn place_nodes(net: &Net, ix: &mut [u64])
-    requires { Indexable net.now.shape net.now.numbers (length ix.old) }
+fn place_nodes(net: &Net<'_>, ix: &mut [u64])
+    requires { Indexable net.now.shape net.now.numbers.now (length ix.old) }
     ensures { Located (network_of net.now) ix.old ix.new }
 {
     let limits = &net.numbers[LIMITS..LIMITS + net.shape.limits];
@@ -116,12 +116,12 @@ fn place_nodes(net: &Net, ix: &mut [u64])
 
 // The index of the arcs by their ends in the column from here on, with their other ends in that from there on; behind
 // it the resources of the nodes.
-fn index_columns(here: usize, there: usize, net: &Net, ix: &mut [u64])
-    requires indexable { Indexable net.now.shape net.now.numbers (length ix.old) }
-    requires here { here + net.now.shape.arcs ≤ length net.now.numbers }
-    requires there { there + net.now.shape.arcs ≤ length net.now.numbers }
-    requires columns { Columns (sides here there net.now.shape net.now.numbers) }
-    ensures arcs { Index (Joins (sides here there net.now.shape net.now.numbers)) net.now.shape.nodes ix.new }
+fn index_columns(here: usize, there: usize, net: &Net<'_>, ix: &mut [u64])
+    requires indexable { Indexable net.now.shape net.now.numbers.now (length ix.old) }
+    requires here { here + net.now.shape.arcs ≤ length net.now.numbers.now }
+    requires there { there + net.now.shape.arcs ≤ length net.now.numbers.now }
+    requires columns { Columns (sides here there net.now.shape net.now.numbers.now) }
+    ensures arcs { Index (Joins (sides here there net.now.shape net.now.numbers.now)) net.now.shape.nodes ix.new }
     ensures places { Stations (network_of net.now) ix.new }
 {
     let m = net.shape.arcs;
@@ -137,24 +137,24 @@ fn index_columns(here: usize, there: usize, net: &Net, ix: &mut [u64])
 }
 
 // The index of the arcs into each node.
-pub fn index_into(net: &Net, ix: &mut [u64])
-    requires { Indexable net.now.shape net.now.numbers (length ix.old) }
+pub fn index_into(net: &Net<'_>, ix: &mut [u64])
+    requires { Indexable net.now.shape net.now.numbers.now (length ix.old) }
     ensures { Into (network_of net.now) ix.new }
 {
     index_columns(HEADS, TAILS, net, ix);
 }
 
 // The index of the arcs out of each node.
-pub fn index_out(net: &Net, ix: &mut [u64])
-    requires { Indexable net.now.shape net.now.numbers (length ix.old) }
+pub fn index_out(net: &Net<'_>, ix: &mut [u64])
+    requires { Indexable net.now.shape net.now.numbers.now (length ix.old) }
     ensures { Out (network_of net.now) ix.new }
 {
     index_columns(TAILS, HEADS, net, ix);
 }
 
 // The limits that are set, from node to node, behind the capacities of the arcs.
-fn append_limits(net: &Net, table: &mut [u64])
-    requires { Limiting net.now.shape net.now.numbers table.old }
+fn append_limits(net: &Net<'_>, table: &mut [u64])
+    requires { Limiting net.now.shape net.now.numbers.now table.old }
     ensures { table.new ≡ resource_capacities (network_of net.now) }
 {
     let limits = &net.numbers[LIMITS..LIMITS + net.shape.limits];
@@ -169,8 +169,8 @@ fn append_limits(net: &Net, table: &mut [u64])
 }
 
 // The capacities of the resources.
-pub fn resource_capacities(net: &Net, table: &mut [u64])
-    requires { Roomy net.now.shape net.now.numbers (length table.old) }
+pub fn resource_capacities(net: &Net<'_>, table: &mut [u64])
+    requires { Roomy net.now.shape net.now.numbers.now (length table.old) }
     ensures { table.new ≡ resource_capacities (network_of net.now) }
 {
     let m = net.shape.arcs;

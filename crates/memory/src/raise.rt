@@ -26,10 +26,10 @@ pub fn told(ix: &[u64], lengths: &[u64], dist: &[u64], v: u64, w: u64) -> u64
 }
 
 // The bound of commodity i is raised to what the table of t tells, where that is more; the bound.
-fn raise_at(net: &Net, ix: &[u64], lengths: &[u64], t: u64, i: usize, memory: &mut [u64]) -> u64
-    requires raising { Raising net.now.shape net.now.numbers ix.now lengths.now t memory.old }
+fn raise_at(net: &Net<'_>, ix: &[u64], lengths: &[u64], t: u64, i: usize, memory: &mut [u64]) -> u64
+    requires raising { Raising net.now.shape net.now.numbers.now ix.now lengths.now t memory.old }
     requires among { i < net.now.shape.commodities }
-    ensures { RaisedAt net.now.shape net.now.numbers ix.now lengths.now t i memory.old memory.new result }
+    ensures { RaisedAt net.now.shape net.now.numbers.now ix.now lengths.now t i memory.old memory.new result }
 {
     let at = PAGES + PAGE_NUMBERS * t as usize;
     let x = told(
@@ -47,10 +47,10 @@ fn raise_at(net: &Net, ix: &[u64], lengths: &[u64], t: u64, i: usize, memory: &m
 }
 
 // The bounds of all commodities are raised so; the lowest-numbered commodity of least bound.
-pub fn raise(net: &Net, ix: &[u64], lengths: &[u64], t: u64, memory: &mut [u64]) -> usize
-    requires raising { Raising net.now.shape net.now.numbers ix.now lengths.now t memory.old }
+pub fn raise(net: &Net<'_>, ix: &[u64], lengths: &[u64], t: u64, memory: &mut [u64]) -> usize
+    requires raising { Raising net.now.shape net.now.numbers.now ix.now lengths.now t memory.old }
     requires some { 1 ≤ net.now.shape.commodities }
-    ensures { AllRaised net.now.shape net.now.numbers ix.now lengths.now t memory.old memory.new result }
+    ensures { AllRaised net.now.shape net.now.numbers.now ix.now lengths.now t memory.old memory.new result }
 {
     let mut b = 0;
     for i in 0..net.shape.commodities {

@@ -50,7 +50,7 @@ net_in s xs =
 
 -- The network of a shape with its columns.
 abbrev pub network_of : Net → Network
-network_of net = net_in net.shape net.numbers
+network_of net = net_in net.shape net.numbers.now
 
 -- The columns do not overlap, and the slice has them all.
 pub record Packed (s : Shape) (xs : List ℕ) : Type 0 where

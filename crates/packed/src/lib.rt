@@ -42,8 +42,9 @@ pub const KEPT: usize = 2 * MOST_ARCS;
 // and how many numbers they take in all.
 pub const TABLE_NUMBERS: usize = 3 * MOST_ARCS;
 
-// A network: its shape, and its columns in one array.
-pub struct Net {
+// A network: its shape, and the slice that has its columns.
+#[derive(Clone, Copy)]
+pub struct Net<'a> {
     pub shape: Shape,
-    pub numbers: [u64; NET_NUMBERS],
+    pub numbers: &'a [u64],
 }

@@ -62,17 +62,18 @@ pub fn check_copy(
     ensures { result ≡ verdict (item_conditions (network_copied n m arcs pairs.now (take n limits.now))) }
 {
     let s = shape(n, m, pairs.len(), limits);
-    let mut net = Net {
+    let mut net = arcs;
+    complete(s, pairs, limits, &mut net);
+    let net = Net {
         shape: s,
-        numbers: arcs,
+        numbers: &net,
     };
-    complete(s, pairs, limits, &mut net.numbers);
     check_items(&net)
 }
 
 // An accepted network: the outcome takes the first places of both tables.
-fn deliver_in(q: u64, net: &Net, flow: &mut [i64], lengths: &mut [u64]) -> Answer
-    requires { Delivering net.now.shape q net.now.numbers flow.old lengths.old }
+fn deliver_in(q: u64, net: &Net<'_>, flow: &mut [i64], lengths: &mut [u64]) -> Answer
+    requires { Delivering net.now.shape q net.now.numbers.now flow.old lengths.old }
     ensures { Replied (network_of net.now) q Accepted flow.old lengths.old flow.new lengths.new (Ok result) }
 {
     let r = net.shape.resources;
@@ -98,10 +99,11 @@ pub fn deliver(
     ensures { Replied (network_copied n m arcs pairs.now (take n limits.now)) q Accepted flow.old lengths.old flow.new lengths.new (Ok result) }
 {
     let s = shape(n, m, pairs.len(), limits);
-    let mut net = Net {
+    let mut net = arcs;
+    complete(s, pairs, limits, &mut net);
+    let net = Net {
         shape: s,
-        numbers: arcs,
+        numbers: &net,
     };
-    complete(s, pairs, limits, &mut net.numbers);
     deliver_in(q, &net, flow, lengths)
 }

@@ -40,11 +40,12 @@ fn file_rows(text: &[u8], rows: &mut Rows) -> Result<(), Refusal>
         limits: 0,
         resources: file.arcs,
     };
-    let mut net = Net {
+    let mut numbers = [0u64; NET_NUMBERS];
+    pack(&file, &mut numbers);
+    let net = Net {
         shape,
-        numbers: [0; NET_NUMBERS],
+        numbers: &numbers,
     };
-    pack(&file, &mut net.numbers);
     check_items(&net)?;
     show(&net, rows);
     Ok(())

@@ -23,8 +23,8 @@ fn put_belts(rows: &mut Rows, tails: &[u64], heads: &[u64], flow: &[i64], a: u64
 }
 
 // The outcome solved in lent work space, and written. With one commodity the loads are the sizes of its amounts.
-fn show_in(net: &Net, flow: &mut [i64], tables: &mut [u64], rows: &mut Rows)
-    requires { Showing net.now.shape net.now.numbers flow.old tables.old rows.old.at (length rows.old.out.now) }
+fn show_in(net: &Net<'_>, flow: &mut [i64], tables: &mut [u64], rows: &mut Rows)
+    requires { Showing net.now.shape net.now.numbers.now flow.old tables.old rows.old.at (length rows.old.out.now) }
     ensures same_table { rows.new.out.ghost_name ≡ rows.old.out.ghost_name }
     ensures shown { Shown (network_of net.now) Accepted rows.old.out.now rows.old.at rows.new.out.now rows.new.at }
 {
@@ -36,8 +36,8 @@ fn show_in(net: &Net, flow: &mut [i64], tables: &mut [u64], rows: &mut Rows)
 }
 
 // The outcome solved and written.
-pub fn show(net: &Net, rows: &mut Rows)
-    requires { Ready net.now.shape net.now.numbers rows.old.at (length rows.old.out.now) }
+pub fn show(net: &Net<'_>, rows: &mut Rows)
+    requires { Ready net.now.shape net.now.numbers.now rows.old.at (length rows.old.out.now) }
     ensures same_table { rows.new.out.ghost_name ≡ rows.old.out.ghost_name }
     ensures shown { Shown (network_of net.now) Accepted rows.old.out.now rows.old.at rows.new.out.now rows.new.at }
 {

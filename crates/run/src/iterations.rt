@@ -26,7 +26,7 @@ fn keep(halved: bool, n: u64, memory: &mut [u64])
 pub fn iterate(
     q: u64,
     threshold: u64,
-    net: &Net,
+    net: &Net<'_>,
     indexes: &[u64],
     flow: &mut [i64],
     tables: &mut [u64],
@@ -34,7 +34,7 @@ pub fn iterate(
     path: &mut [u64],
     p: Progress,
 ) -> Progress
-    requires room { Space net.now.shape q net.now.numbers indexes.now (length tables.old) (length path.old) }
+    requires room { Space net.now.shape q net.now.numbers.now indexes.now (length tables.old) (length path.old) }
     requires iterating { Iterating net.now.shape (network_of net.now) q threshold memory.old (state_in net.now.shape flow.old tables.old p) p }
     ensures { Onward net.now.shape (network_of net.now) q (state_in net.now.shape flow.old tables.old p) (state_in net.now.shape flow.new tables.new result) memory.new result }
 {

@@ -29,7 +29,7 @@ fn begin(weight: u64) -> Progress
 // of that by one less each time.
 pub fn run(
     q: u64,
-    net: &Net,
+    net: &Net<'_>,
     indexes: &[u64],
     flow: &mut [i64],
     tables: &mut [u64],
@@ -37,7 +37,7 @@ pub fn run(
     path: &mut [u64],
     weight: u64,
 ) -> Progress
-    requires room { Space net.now.shape q net.now.numbers indexes.now (length tables.old) (length path.old) }
+    requires room { Space net.now.shape q net.now.numbers.now indexes.now (length tables.old) (length path.old) }
     requires starting { Starting net.now.shape (network_of net.now) memory.old (state_in net.now.shape flow.old tables.old begun) weight }
     ensures { state_in net.now.shape flow.new tables.new result ≡ run (network_of net.now) q }
 {

@@ -41,7 +41,7 @@ fn reset(n: u64, sink: u64, dist: &mut [u64])
 
 // The distances, with an empty list lent. Whether the order is sorted is a matter of speed alone.
 fn distances_in(
-    net: &Net,
+    net: &Net<'_>,
     into: &[u64],
     lengths: &[u64],
     sink: u64,
@@ -76,7 +76,7 @@ fn distances_in(
 
 // The distance of every node to the sink, FAR where it is not reached. The network is taken for the contract, which speaks of it; the arcs are read from
 // into, the index of those into each node.
-pub fn distances(net: &Net, into: &[u64], lengths: &[u64], sink: u64, page: &mut [u64])
+pub fn distances(net: &Net<'_>, into: &[u64], lengths: &[u64], sink: u64, page: &mut [u64])
     requires { Seeking (network_of net.now) into.now lengths.now sink page.old }
     ensures { Searched (network_of net.now) lengths.now page.new sink }
 {

@@ -41,7 +41,7 @@ fn passed_by(crowd: bool, way: u64, u: usize, dist: &[u64]) -> bool
 // The arc at place p, one of those into v, is relaxed, and the node that it comes from goes onto the list if that brings it nearer. How many are on the list now.
 // onward is what the way has beside the arc's own length: it is the same for all arcs into v, as is whether they are a crowd.
 fn reach(
-    net: &Net,
+    net: &Net<'_>,
     into: &[u64],
     lengths: &[u64],
     sink: u64,
@@ -68,7 +68,7 @@ fn reach(
 
 // Every arc into v is relaxed, one after the other. How many are on the search's list now.
 pub fn relax_into(
-    net: &Net,
+    net: &Net<'_>,
     into: &[u64],
     lengths: &[u64],
     sink: u64,

@@ -14,8 +14,8 @@ use method::Answer;
 use packed::Net;
 
 // The outcome of an accepted network: its flow table, and among the tables of the resources the kept lengths.
-pub fn solve(q: u64, net: &Net, flow: &mut [i64], tables: &mut [u64]) -> Answer
-    requires { Solving net.now.shape q net.now.numbers flow.old tables.old }
+pub fn solve(q: u64, net: &Net<'_>, flow: &mut [i64], tables: &mut [u64]) -> Answer
+    requires { Solving net.now.shape q net.now.numbers.now flow.old tables.old }
     ensures { Solved (network_of net.now) q result flow.new (kept_in net.now.shape tables.new) }
 {
     let mut indexes = [0u64; INDEXES_NUMBERS];

@@ -49,7 +49,7 @@ fn unjoined() -> Answer
 // The first choice, and the run where there is one. D of the first lengths is at hand.
 pub fn outcome(
     q: u64,
-    net: &Net,
+    net: &Net<'_>,
     indexes: &[u64],
     flow: &mut [i64],
     tables: &mut [u64],
@@ -57,7 +57,7 @@ pub fn outcome(
     path: &mut [u64],
     weight: u64,
 ) -> Answer
-    requires room { Space net.now.shape q net.now.numbers indexes.now (length tables.old) (length path.old) }
+    requires room { Space net.now.shape q net.now.numbers.now indexes.now (length tables.old) (length path.old) }
     requires cleared { Cleared net.now.shape (network_of net.now) flow.old tables.old memory.old weight }
     ensures { Solved (network_of net.now) q result flow.new (kept_in net.now.shape tables.new) }
 {

@@ -13,8 +13,8 @@ use method::Answer;
 use packed::{KEPT, LENGTHS, LOADS, Net};
 
 // Both indexes, and the capacities of the resources.
-fn index_all(net: &Net, indexes: &mut [u64])
-    requires { Laying net.now.shape net.now.numbers (length indexes.old) }
+fn index_all(net: &Net<'_>, indexes: &mut [u64])
+    requires { Laying net.now.shape net.now.numbers.now (length indexes.old) }
     ensures { Indexed (network_of net.now) indexes.new }
 {
     index::index_into(net, &mut indexes[INTO..INTO + INDEX_NUMBERS]);
@@ -29,13 +29,13 @@ fn index_all(net: &Net, indexes: &mut [u64])
 // The tables before the first choice: lengths at their start, zeros in the others; D of the lengths. q and the network are taken for the contract.
 fn prepare(
     q: u64,
-    net: &Net,
+    net: &Net<'_>,
     capacities: &[u64],
     flow: &mut [i64],
     tables: &mut [u64],
     memory: &mut [u64],
 ) -> u64
-    requires { Preparing net.now.shape q net.now.numbers capacities.now flow.old tables.old memory.old }
+    requires { Preparing net.now.shape q net.now.numbers.now capacities.now flow.old tables.old memory.old }
     ensures { Cleared net.now.shape (network_of net.now) flow.new tables.new memory.new result }
 {
     let m = net.shape.resources;
@@ -51,14 +51,14 @@ fn prepare(
 // The outcome, with work space lent.
 pub fn solve_in(
     q: u64,
-    net: &Net,
+    net: &Net<'_>,
     indexes: &mut [u64],
     flow: &mut [i64],
     tables: &mut [u64],
     memory: &mut [u64],
     path: &mut [u64],
 ) -> Answer
-    requires { Working net.now.shape q net.now.numbers indexes.old flow.old tables.old memory.old path.old }
+    requires { Working net.now.shape q net.now.numbers.now indexes.old flow.old tables.old memory.old path.old }
     ensures { Solved (network_of net.now) q result flow.new (kept_in net.now.shape tables.new) }
 {
     index_all(net, indexes);

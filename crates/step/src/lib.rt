@@ -59,7 +59,7 @@ impl Progress {
 pub fn step(
     q: u64,
     threshold: u64,
-    net: &Net,
+    net: &Net<'_>,
     capacities: &[u64],
     c: Selected,
     path: &[u64],
@@ -67,7 +67,7 @@ pub fn step(
     tables: &mut [u64],
     p: Progress,
 ) -> Progress
-    requires { Steppable net.now.shape q threshold c net.now.numbers capacities.now path.now flow.old tables.old p }
+    requires { Steppable net.now.shape q threshold c net.now.numbers.now capacities.now path.now flow.old tables.old p }
     ensures { Stepped (network_of net.now) q threshold (chosen_in c path.now) (state_in net.now.shape flow.old tables.old p) (state_in net.now.shape flow.new tables.new result) result }
 {
     let m = net.shape.resources;

@@ -19,8 +19,8 @@ pub fn draw(capacities: &[u64], path: &[u64]) -> u64
 
 // The draw g over arc e taken at node v, in the row of a flow that begins at base: forward from its tail, back from its
 // head. Its other end.
-fn cross(flow: &mut [i64], net: &Net, base: usize, g: u64, v: u64, e: usize) -> u64
-    requires { Crossing net.now.shape net.now.numbers base g e flow.old }
+fn cross(flow: &mut [i64], net: &Net<'_>, base: usize, g: u64, v: u64, e: usize) -> u64
+    requires { Crossing net.now.shape net.now.numbers.now base g e flow.old }
     ensures { (flow.new ≡ crossed (network_of net.now) base g v e flow.old) × (result ≡ beyond (network_of net.now) v e) }
 {
     let x = flow[base + e];
@@ -34,8 +34,8 @@ fn cross(flow: &mut [i64], net: &Net, base: usize, g: u64, v: u64, e: usize) -> 
 }
 
 // The draw g along the path of a commodity, in its row of the flow.
-pub fn push(flow: &mut [i64], net: &Net, commodity: usize, path: &[u64], g: u64)
-    requires packed { Packed net.now.shape net.now.numbers }
+pub fn push(flow: &mut [i64], net: &Net<'_>, commodity: usize, path: &[u64], g: u64)
+    requires packed { Packed net.now.shape net.now.numbers.now }
     requires pushing { Pushing (network_of net.now) commodity path.now g flow.old }
     ensures { flow.new ≡ pushed (network_of net.now) (commodity * arcs (network_of net.now)) g (source (network_of net.now) commodity) path.now flow.old }
 {

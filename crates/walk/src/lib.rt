@@ -26,7 +26,7 @@ fn over_at(out: &[u64], lengths: &[u64], dist: &[u64], p: usize) -> u64
 }
 
 // The place of the lowest-numbered tight arc from v.
-fn tight(net: &Net, out: &[u64], lengths: &[u64], dist: &[u64], v: u64) -> Option<usize>
+fn tight(net: &Net<'_>, out: &[u64], lengths: &[u64], dist: &[u64], v: u64) -> Option<usize>
     requires { Leaving (network_of net.now) out.now lengths.now dist.now v }
     ensures { Sought (network_of net.now) out.now lengths.now dist.now v result }
 {
@@ -43,7 +43,7 @@ fn tight(net: &Net, out: &[u64], lengths: &[u64], dist: &[u64], v: u64) -> Optio
 // The walk from the source to the sink is written into path. How many arcs it has, and no path that is as short has
 // fewer; None where it is stuck.
 pub fn walk(
-    net: &Net,
+    net: &Net<'_>,
     out: &[u64],
     lengths: &[u64],
     dist: &[u64],
@@ -66,8 +66,8 @@ pub fn walk(
 }
 
 // The resource of node v comes behind the first numbers of path, if v is limited. How many numbers there are now.
-fn enter(net: &Net, out: &[u64], v: u64, used: usize, path: &mut [u64]) -> usize
-    requires { Entering net.now.shape net.now.numbers out.now v used (length path.old) }
+fn enter(net: &Net<'_>, out: &[u64], v: u64, used: usize, path: &mut [u64]) -> usize
+    requires { Entering net.now.shape net.now.numbers.now out.now v used (length path.old) }
     ensures { Entered (network_of net.now) v used path.old path.new result }
 {
     let r = out[PLACES + v as usize];
@@ -79,8 +79,8 @@ fn enter(net: &Net, out: &[u64], v: u64, used: usize, path: &mut [u64]) -> usize
 }
 
 // The other end of arc e, seen from node v.
-fn beyond(net: &Net, v: u64, e: usize) -> u64
-    requires { Crossed net.now.shape net.now.numbers e }
+fn beyond(net: &Net<'_>, v: u64, e: usize) -> u64
+    requires { Crossed net.now.shape net.now.numbers.now e }
     ensures { result ≡ beyond (network_of net.now) v e }
 {
     let tail = net.numbers[TAILS + e];
@@ -92,8 +92,8 @@ fn beyond(net: &Net, v: u64, e: usize) -> u64
 
 // The limited nodes that the path of so many arcs visits, the source and the sink among them, are written behind its arcs. How many resources it uses.
 // Where no node is limited there is nothing to look for.
-pub fn visit(net: &Net, out: &[u64], source: u64, arcs: usize, path: &mut [u64]) -> usize
-    requires { Visiting net.now.shape net.now.numbers out.now source arcs path.old }
+pub fn visit(net: &Net<'_>, out: &[u64], source: u64, arcs: usize, path: &mut [u64]) -> usize
+    requires { Visiting net.now.shape net.now.numbers.now out.now source arcs path.old }
     ensures { Visits (network_of net.now) source arcs path.old path.new result }
 {
     if net.shape.resources == net.shape.arcs {

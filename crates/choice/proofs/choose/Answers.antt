@@ -13,7 +13,7 @@ use Rattle.choice.proofs.choose.Goals as goal
 use Rattle.choice.proofs.choose.Goals.{After-nearest, Start}
 
 abbrev net : Start → Network
-net s = net_in s.args.net.now.shape s.args.net.now.numbers
+net s = net_in s.args.net.now.shape s.args.net.now.numbers.now
 
 -- the memory and the path behind the search
 abbrev memory-at : After-nearest → List ℕ
@@ -30,9 +30,9 @@ own : (c : After-nearest) → let i = least_in (memory-at c) in get_or (memory-a
 own c = sym (part_at 0 c.args.net.now.shape.commodities (memory-at c) (least_in (memory-at c)) (among c))
 
 -- its source, as it is read
-from : (c : After-nearest) → let i = least_in (memory-at c) in get_or c.args.net.now.numbers (sources_from + i) 0 ≡ source (net (goal.at.After-nearest c).Start) i
+from : (c : After-nearest) → let i = least_in (memory-at c) in get_or c.args.net.now.numbers.now (sources_from + i) 0 ≡ source (net (goal.at.After-nearest c).Start) i
 unfolding net_in
-from c = sym (part_at sources_from c.args.net.now.shape.commodities c.args.net.now.numbers (least_in (memory-at c)) (among c))
+from c = sym (part_at sources_from c.args.net.now.shape.commodities c.args.net.now.numbers.now (least_in (memory-at c)) (among c))
 
 pub returns-in_err-arcs : goal.returns-in_err-arcs
 returns-in_err-arcs c =

@@ -14,7 +14,7 @@ use Rattle.index.proofs.append_limits.Goals as goal
 use Rattle.index.proofs.append_limits.Goals.{In-loop-v, Joined-x-ne0, Start, Then-x-ne0, then-x-ne0, else-x-ne0}
 
 abbrev net : Start → Network
-net s = net_in s.args.net.now.shape s.args.net.now.numbers
+net s = net_in s.args.net.now.shape s.args.net.now.numbers.now
 
 -- the table has just the resources' places
 size : (c : In-loop-v) → length c.loop-v.table ≡ resources (net (goal.at.In-loop-v c).Start)

@@ -5,4 +5,4 @@ use Rattle.index.proofs.Gathering.{Gathering}
 use Rattle.index.proofs.append_limits.Given as goal
 
 abbrev pub invariant-loop-v : goal.invariant-loop-v
-invariant-loop-v l = Gathering (net_in l.fn.net.shape l.net.numbers) l.table l.end l.v
+invariant-loop-v l = Gathering (net_in l.fn.net.shape l.net.numbers.now) l.table l.end l.v

@@ -22,7 +22,7 @@ overflow_add-next c =
     omega (
       arith,
       c.loop-v.invariant.next-is,
-      place-most (net_in c.args.net.now.shape c.args.net.now.numbers) c.loop-v.v,
+      place-most (net_in c.args.net.now.shape c.args.net.now.numbers.now) c.loop-v.v,
       arcs-is p.packed,
       p.packed.few-arcs,
       p.nodes,
@@ -30,7 +30,7 @@ overflow_add-next c =
 
 -- After the present node, whether it has a limit or not.
 located : (c : Joined-limit-ne0) →
-    let net = net_in c.args.net.now.shape c.args.net.now.numbers in
+    let net = net_in c.args.net.now.shape c.args.net.now.numbers.now in
     Locating net c.args.ix.now c.if-limit-ne0.ix c.if-limit-ne0.next (c.loop-v.v + 1)
 unfolding net_in
 located c =

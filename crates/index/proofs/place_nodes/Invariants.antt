@@ -5,4 +5,4 @@ use Rattle.index.proofs.Locating.{Locating}
 use Rattle.index.proofs.place_nodes.Given as goal
 
 abbrev pub invariant-loop-v : goal.invariant-loop-v
-invariant-loop-v l = Locating (net_in l.fn.net.shape l.net.numbers) l.initial.ix l.ix l.next l.v
+invariant-loop-v l = Locating (net_in l.fn.net.shape l.net.numbers.now) l.initial.ix l.ix l.next l.v

@@ -15,7 +15,7 @@ use Rattle.index.proofs.resource_capacities.Goals.{Start}
 room : (s : Start) → s.args.net.now.shape.arcs ≤ length s.args.table.now
 room s =
     let p = s.requires in
-    omega (arith, arcs-is p.packed, arcs-le (net_in s.args.net.now.shape s.args.net.now.numbers), p.whole, p.counted)
+    omega (arith, arcs-is p.packed, arcs-le (net_in s.args.net.now.shape s.args.net.now.numbers.now), p.whole, p.counted)
 
 pub append_limits-requires : goal.append_limits-requires
 unfolding net_in

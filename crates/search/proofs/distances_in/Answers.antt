@@ -31,7 +31,7 @@ begun {net} {l = l} {t = t} old S s q E =
     rw q (searching-start net l old t S.sink.1 S.index.arcs.nodes S.ordered (rw (sym (ap length q) ∙ s) S.fit) E)
 
 -- the page is as large as it was lent, so the order has room
-room : (c : At-loop-size) → order_from + (net_in c.args.net.now.shape c.args.net.now.numbers).nodes ≤ length c.loop-size.page
+room : (c : At-loop-size) → order_from + (net_in c.args.net.now.shape c.args.net.now.numbers.now).nodes ≤ length c.loop-size.page
 room c = let S = c.requires.seeking in omega (arith, c.loop-size.auto.page, S.room, S.index.arcs.nodes)
 
 pub reset-requires : goal.reset-requires
@@ -48,7 +48,7 @@ loop-size-init c =
     begun c.args.page.now c.requires.seeking c.reset.auto.dist c.reset.ensures (c.enlist-size.ensures.came refl)
 
 scanning : (c : In-loop-size) → let s = c.args in
-    Scanning (net_in s.net.now.shape s.net.now.numbers).nodes c.loop-size.page c.loop-size.listed
+    Scanning (net_in s.net.now.shape s.net.now.numbers.now).nodes c.loop-size.page c.loop-size.listed
 scanning c = let S = c.loop-size.invariant in ordered-scanning S.ordered S.worklist (room (goal.at.In-loop-size c).At-loop-size)
 
 pub scan-requires : goal.scan-requires

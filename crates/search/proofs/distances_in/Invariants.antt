@@ -8,7 +8,7 @@ use Rattle.search.proofs.distances_in.Given as goal
 
 -- no arc into a node that is not on the list shortens
 abbrev pub invariant-loop-size : goal.invariant-loop-size
-invariant-loop-size l = Searching (net_in l.net.shape l.net.numbers) l.lengths l.sink Any l.page l.listed l.size
+invariant-loop-size l = Searching (net_in l.net.shape l.net.numbers.now) l.lengths l.sink Any l.page l.listed l.size
 
 abbrev pub decreases-loop-size : goal.decreases-loop-size
-decreases-loop-size l = total (net_in l.net.shape l.net.numbers) l.page + l.size
+decreases-loop-size l = total (net_in l.net.shape l.net.numbers.now) l.page + l.size

@@ -18,7 +18,7 @@ use Rattle.step.proofs.step.Goals.{After-draw-g, Joined-better, After-load-ended
 -- The slices of the capacities and of the path hold what the definitions say, so that the draw is the method's.
 drawn : (c : After-draw-g) →
     let a = c.args in
-    let net = net_in a.net.now.shape a.net.now.numbers in
+    let net = net_in a.net.now.shape a.net.now.numbers.now in
     c.draw-g.result ≡ draw (resource_capacities net) (used_by net (chosen_in a.c a.path.now))
 drawn c = c.draw-g.ensures ∙ ap₂ draw c.requires.caps-are c.requires.path-is
 
@@ -72,7 +72,7 @@ returns c =
     let T = loaded (goal.at.returns c).After-load-ended in
     in-slice (with-lengths T c.lengthen-grown.new.lengths c.lengthen-grown.auto.lengths)
     (λ L' Y' K'.
-    Stepped (net_in a.net.now.shape a.net.now.numbers) a.q a.threshold (chosen_in a.c a.path.now) (state_in a.net.now.shape a.flow.now a.tables.now a.p)
+    Stepped (net_in a.net.now.shape a.net.now.numbers.now) a.q a.threshold (chosen_in a.c a.path.now) (state_in a.net.now.shape a.flow.now a.tables.now a.p)
     (state_of L' c.push.new.flow Y' K' c.counted.result) c.counted.result)
     (put-together _ _ _ _ _ _ _ _ a.p r.stepping.growing.same r.caps-are r.path-is r.kept.weight r.stepping.alpha
     (drawn (goal.at.returns c).After-draw-g) c.less_product-better.ensures refl c.push.ensures

@@ -13,16 +13,16 @@ use Rattle.walk.proofs.beyond.Goals as goal
 use Rattle.walk.proofs.beyond.Goals.{Start}
 
 abbrev net : Start → Network
-net s = net_in s.args.net.now.shape s.args.net.now.numbers
+net s = net_in s.args.net.now.shape s.args.net.now.numbers.now
 
 -- the two ends, as they are read
-from : (s : Start) → get_or s.args.net.now.numbers (tails_from + s.args.e) 0 ≡ tail (net s) s.args.e
+from : (s : Start) → get_or s.args.net.now.numbers.now (tails_from + s.args.e) 0 ≡ tail (net s) s.args.e
 unfolding net_in
-from s = sym (part_at tails_from s.args.net.now.shape.arcs s.args.net.now.numbers s.args.e s.requires.arc)
+from s = sym (part_at tails_from s.args.net.now.shape.arcs s.args.net.now.numbers.now s.args.e s.requires.arc)
 
-to : (s : Start) → get_or s.args.net.now.numbers (heads_from + s.args.e) 0 ≡ head (net s) s.args.e
+to : (s : Start) → get_or s.args.net.now.numbers.now (heads_from + s.args.e) 0 ≡ head (net s) s.args.e
 unfolding net_in
-to s = sym (part_at heads_from s.args.net.now.shape.arcs s.args.net.now.numbers s.args.e s.requires.arc)
+to s = sym (part_at heads_from s.args.net.now.shape.arcs s.args.net.now.numbers.now s.args.e s.requires.arc)
 
 pub returns-then-tail-v : goal.returns-then-tail-v
 returns-then-tail-v c =

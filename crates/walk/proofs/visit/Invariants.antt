@@ -6,4 +6,4 @@ use Rattle.paths.proofs.Collecting.{Collecting}
 use Rattle.walk.proofs.visit.Given as goal
 
 abbrev pub invariant-loop-i : goal.invariant-loop-i
-invariant-loop-i l = Collecting (net_in l.net.shape l.net.numbers) l.source l.arcs (take l.arcs l.initial.path) l.path l.used l.at l.i
+invariant-loop-i l = Collecting (net_in l.net.shape l.net.numbers.now) l.source l.arcs (take l.arcs l.initial.path) l.path l.used l.at l.i

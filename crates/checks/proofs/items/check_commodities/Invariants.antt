@@ -13,4 +13,3 @@ abbrev pub invariant-loop-i : goal.invariant-loop-i
 invariant-loop-i l =
     found (commodity_conditions (of_commodities l.n l.sources l.sinks)) l.i (length l.sources) ≡
     verdict (flat (commodity_conditions (of_commodities l.n l.sources l.sinks)) (up_to (length l.sources)))
-

@@ -13,7 +13,7 @@ use Rattle.checks.proofs.items.check_items.Goals as goal
 use Rattle.checks.proofs.items.check_items.Goals.{After-check_limits}
 
 abbrev net : After-check_limits → Network
-net c = net_in c.args.net.now.shape c.args.net.now.numbers
+net c = net_in c.args.net.now.shape c.args.net.now.numbers.now
 
 -- the limits that are given say what those of all nodes do
 limits-checked : (c : After-check_limits) → c.check_limits.result ≡ verdict (flat (limit_conditions (net c)) (up_to (net c).nodes))

@@ -20,7 +20,7 @@ use Rattle.choice.proofs.lazy.follow.Goals as goal
 use Rattle.choice.proofs.lazy.follow.Goals.{After-told, Start}
 
 abbrev net : Start → Network
-net s = net_in s.args.net.now.shape s.args.net.now.numbers
+net s = net_in s.args.net.now.shape s.args.net.now.numbers.now
 
 abbrev out : Start → List ℕ
 out s = part index_numbers index_numbers s.args.indexes.now
@@ -32,13 +32,13 @@ dist s = distances_in (sink (net s) s.args.i) s.args.memory.now
 among : (s : Start) → s.args.i < s.args.net.now.shape.commodities
 among s = omega (arith, s.requires.known.least.among, commodities-is s.requires.packed)
 
-from : (s : Start) → get_or s.args.net.now.numbers (sources_from + s.args.i) 0 ≡ source (net s) s.args.i
+from : (s : Start) → get_or s.args.net.now.numbers.now (sources_from + s.args.i) 0 ≡ source (net s) s.args.i
 unfolding net_in
-from s = sym (part_at sources_from s.args.net.now.shape.commodities s.args.net.now.numbers s.args.i (among s))
+from s = sym (part_at sources_from s.args.net.now.shape.commodities s.args.net.now.numbers.now s.args.i (among s))
 
-to : (s : Start) → get_or s.args.net.now.numbers (sinks_from + s.args.i) 0 ≡ sink (net s) s.args.i
+to : (s : Start) → get_or s.args.net.now.numbers.now (sinks_from + s.args.i) 0 ≡ sink (net s) s.args.i
 unfolding net_in
-to s = sym (part_at sinks_from s.args.net.now.shape.commodities s.args.net.now.numbers s.args.i (among s))
+to s = sym (part_at sinks_from s.args.net.now.shape.commodities s.args.net.now.numbers.now s.args.i (among s))
 
 source-few : (s : Start) → source (net s) s.args.i ≤ most_nodes
 source-few s = omega (arith, s.requires.survey.fit.ends.sources s.args.i s.requires.known.least.among, s.requires.survey.few)
@@ -46,7 +46,7 @@ source-few s = omega (arith, s.requires.survey.fit.ends.sources s.args.i s.requi
 sink-few : (s : Start) → sink (net s) s.args.i ≤ most_nodes
 sink-few s = omega (arith, s.requires.survey.fit.ends.sinks s.args.i s.requires.known.least.among, s.requires.survey.few)
 
-sink-read : (s : Start) → get_or s.args.net.now.numbers (sinks_from + s.args.i) 0 ≤ most_nodes
+sink-read : (s : Start) → get_or s.args.net.now.numbers.now (sinks_from + s.args.i) 0 ≤ most_nodes
 sink-read s = omega (arith, to s, sink-few s)
 
 -- and the sink a page

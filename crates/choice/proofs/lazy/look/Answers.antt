@@ -16,7 +16,7 @@ use Rattle.choice.proofs.lazy.look.Goals as goal
 use Rattle.choice.proofs.lazy.look.Goals.{After-distances, Start}
 
 abbrev net : Start → Network
-net s = net_in s.args.net.now.shape s.args.net.now.numbers
+net s = net_in s.args.net.now.shape s.args.net.now.numbers.now
 
 -- the sink is a node, and has a page in the memory
 node : (s : Start) → Node (net s) s.args.t

@@ -16,7 +16,7 @@ use Rattle.choice.proofs.lazy.nearest.Goals as goal
 use Rattle.choice.proofs.lazy.nearest.Goals.{Joined-then-is_some, then-is_some-via-then-is_some, then-is_some-via-else-is_some+then-net-i, After-follow-arcs, After-look-i, At-loop-arcs, Start}
 
 abbrev net : Start → Network
-net s = net_in s.args.net.now.shape s.args.net.now.numbers
+net s = net_in s.args.net.now.shape s.args.net.now.numbers.now
 
 -- the memory behind the search, and the path behind the walk
 abbrev memory-at : After-look-i → List ℕ
@@ -27,9 +27,9 @@ path-at c = c.follow-arcs.new.path
 
 -- a commodity is one of few, and its sink is read
 module _ (s : Start) {i : ℕ} (b : i < commodities (net s)) where
-  to : get_or s.args.net.now.numbers (sinks_from + i) 0 ≡ sink (net s) i
+  to : get_or s.args.net.now.numbers.now (sinks_from + i) 0 ≡ sink (net s) i
   unfolding net_in
-  to = sym (part_at sinks_from s.args.net.now.shape.commodities s.args.net.now.numbers i (omega (arith, commodities-is s.requires.packed)))
+  to = sym (part_at sinks_from s.args.net.now.shape.commodities s.args.net.now.numbers.now i (omega (arith, commodities-is s.requires.packed)))
 
 among : (c : At-loop-arcs) → c.loop-arcs.i < commodities (net (goal.at.At-loop-arcs c).Start)
 among c = c.loop-arcs.invariant.least.among

@@ -6,7 +6,7 @@ use Rattle.choice.proofs.Slack.{slack}
 use Rattle.choice.proofs.lazy.nearest.Given as goal
 
 abbrev pub invariant-loop-arcs : goal.invariant-loop-arcs
-invariant-loop-arcs l = Known l.net.shape (net_in l.net.shape l.net.numbers) l.lengths l.memory l.i
+invariant-loop-arcs l = Known l.net.shape (net_in l.net.shape l.net.numbers.now) l.lengths l.memory l.i
 
 abbrev pub decreases-loop-arcs : goal.decreases-loop-arcs
-decreases-loop-arcs l = slack (commodities (net_in l.net.shape l.net.numbers)) (bounds_in l.net.shape l.memory)
+decreases-loop-arcs l = slack (commodities (net_in l.net.shape l.net.numbers.now)) (bounds_in l.net.shape l.memory)

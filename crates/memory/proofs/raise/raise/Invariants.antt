@@ -19,4 +19,4 @@ pub record Passed (s : Shape) (net ix l : List ℕ) (t : ℕ) (old new : List �
   pub leading : Leading (bounds_in s new) i b
 
 abbrev pub invariant-loop-i : goal.invariant-loop-i
-invariant-loop-i l = Passed l.net.shape l.net.numbers l.ix l.lengths l.t l.initial.memory l.memory l.i l.b
+invariant-loop-i l = Passed l.net.shape l.net.numbers.now l.ix l.lengths l.t l.initial.memory l.memory l.i l.b

@@ -15,16 +15,16 @@ use Rattle.memory.proofs.raise.raise_at.Goals as goal
 use Rattle.memory.proofs.raise.raise_at.Goals.{After-told-x, Start, then-old-x, else-old-x}
 
 -- the two ends, as they are read
-from : (s : Start) → get_or s.args.net.now.numbers (sources_from + s.args.i) 0 ≡ source (net_in s.args.net.now.shape s.args.net.now.numbers) s.args.i
+from : (s : Start) → get_or s.args.net.now.numbers.now (sources_from + s.args.i) 0 ≡ source (net_in s.args.net.now.shape s.args.net.now.numbers.now) s.args.i
 unfolding net_in
-from s = sym (part_at sources_from s.args.net.now.shape.commodities s.args.net.now.numbers s.args.i s.requires.among)
+from s = sym (part_at sources_from s.args.net.now.shape.commodities s.args.net.now.numbers.now s.args.i s.requires.among)
 
-to : (s : Start) → get_or s.args.net.now.numbers (sinks_from + s.args.i) 0 ≡ sink (net_in s.args.net.now.shape s.args.net.now.numbers) s.args.i
+to : (s : Start) → get_or s.args.net.now.numbers.now (sinks_from + s.args.i) 0 ≡ sink (net_in s.args.net.now.shape s.args.net.now.numbers.now) s.args.i
 unfolding net_in
-to s = sym (part_at sinks_from s.args.net.now.shape.commodities s.args.net.now.numbers s.args.i s.requires.among)
+to s = sym (part_at sinks_from s.args.net.now.shape.commodities s.args.net.now.numbers.now s.args.i s.requires.among)
 
 -- what is told, of the commodity's own ends
-tells : (c : After-told-x) → let n = net_in c.args.net.now.shape c.args.net.now.numbers in
+tells : (c : After-told-x) → let n = net_in c.args.net.now.shape c.args.net.now.numbers.now in
     c.told-x.result ≡
     told_by (through c.args.ix.now c.args.lengths.now) (distances_in c.args.t c.args.memory.now) (source n c.args.i) (sink n c.args.i)
 tells c = rw (← from (goal.at.After-told-x c).Start, ← to (goal.at.After-told-x c).Start) c.told-x.ensures

@@ -31,7 +31,7 @@ use Rattle.run.proofs.iterations.iterate.Goals.{After-unwrap-c, After-keep, Star
 
 -- the network and the state at entry
 abbrev net : Start → Network
-net s = net_in s.args.net.now.shape s.args.net.now.numbers
+net s = net_in s.args.net.now.shape s.args.net.now.numbers.now
 
 abbrev state : Start → State
 state s = state_in s.args.net.now.shape s.args.flow.now s.args.tables.now s.args.p

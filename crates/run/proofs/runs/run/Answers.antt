@@ -17,7 +17,7 @@ use Rattle.run.proofs.runs.run.Goals.{After-iterate-p, Start}
 
 -- the network at entry
 abbrev net : Start → Network
-net s = net_in s.args.net.now.shape s.args.net.now.numbers
+net s = net_in s.args.net.now.shape s.args.net.now.numbers.now
 
 -- The table of L has a row for this many resources. It has one for this many arcs too, so that a
 -- mark by the arcs fails not here but where it has to be the method's mark.

@@ -9,9 +9,9 @@ use Rattle.run.proofs.runs.run.Given as goal
 
 abbrev pub invariant-loop-p : goal.invariant-loop-p
 invariant-loop-p l =
-    Running (net_in l.net.shape l.net.numbers) l.q (state_in l.net.shape l.flow l.tables l.p) ×
-    (Noted (net_in l.net.shape l.net.numbers) l.q l.threshold (state_in l.net.shape l.flow l.tables l.p).lengths l.p ×
-    Memory l.net.shape (net_in l.net.shape l.net.numbers) (state_in l.net.shape l.flow l.tables l.p).lengths l.memory)
+    Running (net_in l.net.shape l.net.numbers.now) l.q (state_in l.net.shape l.flow l.tables l.p) ×
+    (Noted (net_in l.net.shape l.net.numbers.now) l.q l.threshold (state_in l.net.shape l.flow l.tables l.p).lengths l.p ×
+    Memory l.net.shape (net_in l.net.shape l.net.numbers.now) (state_in l.net.shape l.flow l.tables l.p).lengths l.memory)
 
 abbrev pub decreases-loop-p : goal.decreases-loop-p
-decreases-loop-p l = left (net_in l.net.shape l.net.numbers) l.q (state_in l.net.shape l.flow l.tables l.p)
+decreases-loop-p l = left (net_in l.net.shape l.net.numbers.now) l.q (state_in l.net.shape l.flow l.tables l.p)

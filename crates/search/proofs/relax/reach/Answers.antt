@@ -25,7 +25,7 @@ place s = let P = s.requires in omega (arith, P.below, P.index.arcs.within s.arg
 
 arc :
     (s : Start) →
-    leads (net_in s.args.net.now.shape s.args.net.now.numbers) (end_at s.args.into.now s.args.p) (arc_at s.args.into.now s.args.p) ≡
+    leads (net_in s.args.net.now.shape s.args.net.now.numbers.now) (end_at s.args.into.now s.args.p) (arc_at s.args.into.now s.args.p) ≡
     some s.args.v
 arc s =
     let P = s.requires in
@@ -50,15 +50,15 @@ pub bounds-into-p-2 : goal.bounds-into-p-2
 bounds-into-p-2 c = place (goal.at.bounds-into-p-2 c).Start
 
 -- the arc can be crossed, and the way over it is as the definition says
-crossed : (s : Start) → let n = net_in s.args.net.now.shape s.args.net.now.numbers in let i = s.args.into.now in
+crossed : (s : Start) → let n = net_in s.args.net.now.shape s.args.net.now.numbers.now in let i = s.args.into.now in
     Relaxing s.args.lengths.now s.args.dist.now (node_length n s.args.lengths.now s.args.v) (end_at i s.args.p) (arc_at i s.args.p) s.args.v
 crossed s = relaxing _ _ _ s.requires.searching.fit s.requires.searching.labels.capped (arc s)
 
-way : (s : Start) → let n = net_in s.args.net.now.shape s.args.net.now.numbers in let i = s.args.into.now in let l = s.args.lengths.now in
+way : (s : Start) → let n = net_in s.args.net.now.shape s.args.net.now.numbers.now in let i = s.args.into.now in let l = s.args.lengths.now in
     most_nodes * get_or l (arc_at i s.args.p) 0 + s.args.onward ≡ via l s.args.dist.now (node_length n l s.args.v) (arc_at i s.args.p) s.args.v
 way s = omega (arith, s.requires.own)
 
-relaxes : (c : After-relax-nearer) → let n = net_in c.args.net.now.shape c.args.net.now.numbers in let i = c.args.into.now in
+relaxes : (c : After-relax-nearer) → let n = net_in c.args.net.now.shape c.args.net.now.numbers.now in let i = c.args.into.now in
     Relaxed c.args.lengths.now (node_length n c.args.lengths.now c.args.v) (end_at i c.args.p) (arc_at i c.args.p) c.args.v c.args.dist.now c.relax-nearer.result
     c.relax-nearer.new.dist
 relaxes c = taken-relaxed (way (goal.at.After-relax-nearer c).Start) c.relax-nearer.ensures

@@ -10,10 +10,10 @@ use Rattle.search.proofs.relax.relax_into.Goals as goal
 use Rattle.search.proofs.relax.relax_into.Goals.{After-through-x}
 
 -- the length of v is read by the index
-own : (c : After-through-x) → c.through-x.result ≡ node_length (net_in c.args.net.now.shape c.args.net.now.numbers) c.args.lengths.now c.args.v
+own : (c : After-through-x) → c.through-x.result ≡ node_length (net_in c.args.net.now.shape c.args.net.now.numbers.now) c.args.lengths.now c.args.v
 own c =
     c.through-x.ensures ∙
-    through-is (net_in c.args.net.now.shape c.args.net.now.numbers) c.args.lengths.now c.args.into.now c.requires.index.places c.requires.searching.fit.lengths c.args.v c.requires.node
+    through-is (net_in c.args.net.now.shape c.args.net.now.numbers.now) c.args.lengths.now c.args.into.now c.requires.index.places c.requires.searching.fit.lengths c.args.v c.requires.node
 
 pub reach-count-requires : goal.reach-count-requires
 reach-count-requires c =

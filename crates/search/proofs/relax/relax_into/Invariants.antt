@@ -15,4 +15,4 @@ pub record Relaxing (net : Network) (into l : List ℕ) (t v : ℕ) (dist₀ : L
   pub head : get_or dist v 0 ≡ get_or dist₀ v 0
 
 abbrev pub invariant-loop-p : goal.invariant-loop-p
-invariant-loop-p l = Relaxing (net_in l.net.shape l.net.numbers) l.into l.lengths l.sink l.v l.initial.dist l.size l.dist l.listed l.count l.p
+invariant-loop-p l = Relaxing (net_in l.net.shape l.net.numbers.now) l.into l.lengths l.sink l.v l.initial.dist l.size l.dist l.listed l.count l.p

@@ -27,7 +27,7 @@ use Rattle.solver.proofs.outcomes.outcome.Goals.{After-choose-first, After-run-p
 
 -- the network at entry; the lengths are those of the definition's start
 abbrev net : Start → Network
-net s = net_in s.args.net.now.shape s.args.net.now.numbers
+net s = net_in s.args.net.now.shape s.args.net.now.numbers.now
 
 first : (s : Start) → lengths_in s.args.net.now.shape s.args.tables.now ≡ (initial (net s)).lengths
 first s = ap (λ t. t.lengths) s.requires.cleared.state

@@ -22,5 +22,5 @@ resource_capacities-requires c =
 pub returns : goal.returns
 returns c =
     indexed c.args.indexes.now c.index_into.new.ix c.index_out.new.ix c.args.net.now.shape.resources c.requires.few c.requires.room
-    c.index_into.auto.ix c.index_out.auto.ix (net_in c.args.net.now.shape c.args.net.now.numbers) c.requires.indexable.counted
+    c.index_into.auto.ix c.index_out.auto.ix (net_in c.args.net.now.shape c.args.net.now.numbers.now) c.requires.indexable.counted
     c.resource_capacities.new.table c.resource_capacities.auto.table c.index_into.ensures c.index_out.ensures c.resource_capacities.ensures

@@ -25,7 +25,7 @@ few s = let a = s.requires.lent in omega (arith, a.counted, a.sound.counts.of-re
 pub start-weight-requires : goal.start-weight-requires
 start-weight-requires c =
     let a = c.requires.lent in
-    let net = net_in c.args.net.now.shape c.args.net.now.numbers in
+    let net = net_in c.args.net.now.shape c.args.net.now.numbers.now in
     let T = c.args.tables.now in
     subst (λ caps. Startable caps (part lengths_from (m (goal.at.start-weight-requires c).Start) T)) (sym c.requires.caps-are)
     (record {
@@ -56,7 +56,7 @@ cleared c = with-kept (unloaded (goal.at.After-fill-2 c).After-fill) c.fill-2.ne
 pub returns : goal.returns
 unfolding net_in
 returns c =
-    let z = c.args in let p = c.requires in let net = net_in z.net.now.shape z.net.now.numbers in
+    let z = c.args in let p = c.requires in let net = net_in z.net.now.shape z.net.now.numbers.now in
     record {
       state =
           in-slice (cleared (goal.at.returns c).After-fill-2) (λ L Y K. state_of L c.fill-3.new.self Y K begun ≡ initial net)

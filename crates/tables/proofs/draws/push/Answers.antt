@@ -41,10 +41,10 @@ unfolding net_in
 returns c =
     let a = c.args in
     push-all c.loop-e.invariant c.loop-e-test.false (ap (λ m. a.commodity * m) (sym (arcs-is c.requires.packed)))
-    (sym (part_at sources_from a.net.now.shape.commodities a.net.now.numbers a.commodity (omega (arith, c.requires.pushing.listed, commodities-is c.requires.packed))))
+    (sym (part_at sources_from a.net.now.shape.commodities a.net.now.numbers.now a.commodity (omega (arith, c.requires.pushing.listed, commodities-is c.requires.packed))))
 
 -- the commodity's place in its column
-listed : (s : Start) → (s.args.commodity < most_commodities) × (net_numbers ≤ length s.args.net.now.numbers)
+listed : (s : Start) → (s.args.commodity < most_commodities) × (net_numbers ≤ length s.args.net.now.numbers.now)
 listed s = (omega (arith, s.requires.pushing.listed, commodities-is s.requires.packed, s.requires.packed.few-commodities), s.requires.packed.places)
 
 pub overflow_add-v : goal.overflow_add-v

@@ -5,4 +5,4 @@ use Rattle.tables.proofs.Pushed.{Underway}
 use Rattle.tables.proofs.draws.push.Given as goal
 
 abbrev pub invariant-loop-e : goal.invariant-loop-e
-invariant-loop-e l = Underway (net_in l.net.shape l.net.numbers) l.base l.g l.initial.v l.path l.initial.flow l.v l.e-index l.flow
+invariant-loop-e l = Underway (net_in l.net.shape l.net.numbers.now) l.base l.g l.initial.v l.path l.initial.flow l.v l.e-index l.flow
