@@ -1,5 +1,5 @@
 -- `memory::raise::raise_at` meets its contract: the bound that is stored is the greater one. Assumes nothing.
-use mathlib.Core.Path.{◌≡◌, refl, sym, ◌∙◌}
+use mathlib.Core.Path.{◌≡◌, refl, sym, ap, ◌∙◌}
 use mathlib.Core.Logic.{inl, inr}
 use Prim.Native.Nat.{ℕ, ◌+◌, ◌≤◌, ◌<◌}
 use native.Mathlib.Omega.{arith}
@@ -55,7 +55,7 @@ returns c =
       greater =
           elim c.if-old-x.branch [
             | then-old-x w ↦ risen (tells (goal.at.returns c).After-told-x) (rw place at w.if-old-x.true) w.bound-is
-            | else-old-x w ↦ left (tells (goal.at.returns c).After-told-x) (rw place at w.if-old-x.false) (rw place at w.bound-is)
+            | else-old-x w ↦ left (tells (goal.at.returns c).After-told-x) (rw place at w.if-old-x.false) (w.bound-is ∙ ap (λ j. get_or c.args.memory.now j 0) place)
           ];
       stored = refl;
     })
