@@ -5,7 +5,6 @@ use mathlib.Core.Bool.{true, false}
 use mathlib.Core.List.{List}
 use Rattle.std.specs.Prelude.{Some, None}
 use Rattle.std.proofs.Common.{tests}
-use Rattle.std.specs.Char.{is_ascii_digit}
 use Prim.Native.Nat.{ℕ, ◌+◌, ◌*◌, ◌-◌, ◌^◌, ◌≤◌, ◌<◌}
 use native.Mathlib.Numerals.{add-one}
 use native.Mathlib.Omega.{arith}
@@ -27,10 +26,14 @@ pub digit-most : (b : ℕ) → digit b ≡ true → b ≤ 57
 unfolding digit
 digit-most b e = grind (arith, tests)
 
--- a digit, as std's test says it
-pub digit-is : (b : ℕ) → is_ascii_digit b ≡ digit b
+-- The bytes below the digits, and above them, are none.
+pub digit-below : (b : ℕ) → b < 48 → digit b ≡ false
 unfolding digit
-digit-is b = refl
+digit-below b h = rw (lt-leb 48 b h)
+
+pub digit-above : (b : ℕ) → 57 < b → digit b ≡ false
+unfolding digit
+digit-above b h = let l : 48 ≤ b = omega arith in rw (le-leb 48 b l, lt-leb b 57 h)
 
 pub digit-in : (b : ℕ) → 48 ≤ b → b ≤ 57 → digit b ≡ true
 unfolding digit

@@ -39,10 +39,11 @@ pub fn number(word: &[u8]) -> Option<u64>
     }
     let mut x: u64 = 0;
     for b in word {
-        if !b.is_ascii_digit() {
-            return None;
+        // Document 01, "Forms for specific places", asks for a match on digit ranges.
+        match *b {
+            b'0'..=b'9' => x = x * 10 + u64::from(*b - b'0'),
+            _ => return None,
         }
-        x = x * 10 + u64::from(b - b'0');
     }
     Some(x)
 }

@@ -37,8 +37,8 @@ loop-e-preserved c =
     (passes _ _ (capacity-tested (goal.at.loop-e-preserved c).After-outside) c.if-outside.false none_left)) ∙
     c.loop-e.invariant
 
-pub returns : goal.returns
-returns c = search-ends _ _ _ (omega arith) ∙ c.loop-e.invariant
+pub returns-then-e-tails : goal.returns-then-e-tails
+returns-then-e-tails c = search-ends _ _ _ c.if-e-tails.true ∙ c.loop-e.invariant
 
 pub returns-then-loose : goal.returns-then-loose
 unfolding arc_conditions

@@ -11,3 +11,6 @@ use Rattle.checks.proofs.items.check_arcs.Given as goal
 
 abbrev pub invariant-loop-e : goal.invariant-loop-e
 invariant-loop-e l = found (arc_conditions (of_arcs l.n l.tails l.heads l.capacities)) l.e (length l.tails) ≡ verdict (flat (arc_conditions (of_arcs l.n l.tails l.heads l.capacities)) (up_to (length l.tails)))
+
+abbrev pub decreases-loop-e : goal.decreases-loop-e
+decreases-loop-e l = length l.tails - l.e

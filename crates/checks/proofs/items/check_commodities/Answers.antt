@@ -29,8 +29,8 @@ unfolding commodity_conditions
 loop-i-preserved c =
     search-goes-on _ _ _ (omega arith) (passes _ _ (loose-tested (goal.at.loop-i-preserved c).After-loose) c.if-loose.false none_left) ∙ c.loop-i.invariant
 
-pub returns : goal.returns
-returns c = search-ends _ _ _ (omega arith) ∙ c.loop-i.invariant
+pub returns-then-i-sources : goal.returns-then-i-sources
+returns-then-i-sources c = search-ends _ _ _ c.if-i-sources.true ∙ c.loop-i.invariant
 
 pub returns-then-loose : goal.returns-then-loose
 unfolding commodity_conditions

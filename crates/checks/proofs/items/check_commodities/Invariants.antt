@@ -13,3 +13,6 @@ abbrev pub invariant-loop-i : goal.invariant-loop-i
 invariant-loop-i l =
     found (commodity_conditions (of_commodities l.n l.sources l.sinks)) l.i (length l.sources) ≡
     verdict (flat (commodity_conditions (of_commodities l.n l.sources l.sinks)) (up_to (length l.sources)))
+
+abbrev pub decreases-loop-i : goal.decreases-loop-i
+decreases-loop-i l = length l.sources - l.i

@@ -28,15 +28,15 @@ pub loop-v-preserved : goal.loop-v-preserved
 unfolding limit_conditions
 loop-v-preserved c =
     search-goes-on _ _ _ (omega arith)
-    (passes {t = large (goal.at.loop-v-preserved c).At-loop-v} _ _ refl (le-ltb most_capacity (present (goal.at.loop-v-preserved c).At-loop-v) (omega (arith, c.if-limit-gt-MOST_CAPACITY.false))) none_left) ∙
+    (passes {t = large (goal.at.loop-v-preserved c).At-loop-v} _ _ refl (le-ltb most_capacity (present (goal.at.loop-v-preserved c).At-loop-v) (omega (arith, c.if-at-gt-MOST_CAPACITY.false, c.at.ensures))) none_left) ∙
     c.loop-v.invariant
 
-pub returns : goal.returns
-returns c = search-ends _ _ _ (omega arith) ∙ c.loop-v.invariant
+pub returns-then-v-limits : goal.returns-then-v-limits
+returns-then-v-limits c = search-ends _ _ _ c.if-v-limits.true ∙ c.loop-v.invariant
 
-pub returns-then-limit-gt-MOST_CAPACITY : goal.returns-then-limit-gt-MOST_CAPACITY
+pub returns-then-at-gt-MOST_CAPACITY : goal.returns-then-at-gt-MOST_CAPACITY
 unfolding limit_conditions
-returns-then-limit-gt-MOST_CAPACITY c =
+returns-then-at-gt-MOST_CAPACITY c =
     search-stops _ _ _ (omega arith)
-    (decides {t = large (goal.at.returns-then-limit-gt-MOST_CAPACITY c).At-loop-v} _ refl (lt-ltb most_capacity (present (goal.at.returns-then-limit-gt-MOST_CAPACITY c).At-loop-v) (omega (arith, c.if-limit-gt-MOST_CAPACITY.true)))) ∙
+    (decides {t = large (goal.at.returns-then-at-gt-MOST_CAPACITY c).At-loop-v} _ refl (lt-ltb most_capacity (present (goal.at.returns-then-at-gt-MOST_CAPACITY c).At-loop-v) (omega (arith, c.if-at-gt-MOST_CAPACITY.true, c.at.ensures)))) ∙
     c.loop-v.invariant

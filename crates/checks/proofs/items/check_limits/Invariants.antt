@@ -11,3 +11,6 @@ use Rattle.checks.proofs.items.check_limits.Given as goal
 
 abbrev pub invariant-loop-v : goal.invariant-loop-v
 invariant-loop-v l = found (limit_conditions (of_limits l.limits)) l.v (length l.limits) ≡ verdict (flat (limit_conditions (of_limits l.limits)) (up_to (length l.limits)))
+
+abbrev pub decreases-loop-v : goal.decreases-loop-v
+decreases-loop-v l = length l.limits - l.v
