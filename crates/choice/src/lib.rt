@@ -40,6 +40,9 @@ pub fn choose(
     requires { Choosing net.now.shape net.now.numbers.now indexes.now lengths.now memory.old (length path.old) }
     ensures { Left net.now.shape (network_of net.now) lengths.now result path.new memory.new }
 {
+    // A copy of its own, which no store into path or memory can change: what it holds stays in registers.
+    let own = *net;
+    let net = &own;
     let arcs = nearest(net, indexes, lengths, memory, path)?;
     let i = memory[LEAST] as usize;
     let used = visit(

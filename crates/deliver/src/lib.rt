@@ -13,7 +13,7 @@ ghost use Rattle.call.specs.Host.{count_of, raised};
 use bounds::{MOST_ARCS, MOST_COMMODITIES};
 use call::Tables;
 use method::Answer;
-use packed::{KEPT, TABLE_NUMBERS, Net};
+use packed::{KEPT, Net, TABLE_NUMBERS};
 
 // The seven numbers of the answer.
 fn put_answer(a: Answer, answer: &mut [u8])
@@ -68,12 +68,7 @@ fn write_tables(q: u64, net: &Net<'_>, flow: &mut [u8], lengths: &mut [u8]) -> A
 }
 
 // The outcome solved and written.
-pub fn deliver(
-    q: u64,
-    net: &Net<'_>,
-    tables: &mut Tables<'_>,
-    running: &mut [u8],
-)
+pub fn deliver(q: u64, net: &Net<'_>, tables: &mut Tables<'_>, running: &mut [u8])
     requires lent { Lent net.now.shape q net.now.numbers.now }
     requires room { Open net.now.shape.commodities net.now.shape.arcs net.now.shape.resources (slices_of tables.old running.old) }
     ensures delivered { Delivered (network_of net.now) q (slices_of tables.old running.old) (slices_of tables.new running.new) }

@@ -10,7 +10,7 @@ use crate::sizes::shape;
 use checks::items::check_items;
 use method::Answer;
 use network::Verdict;
-use packed::{KEPT, LIMITS, NET_NUMBERS, SINKS, SOURCES, Shape, TABLE_NUMBERS, Net};
+use packed::{KEPT, LIMITS, NET_NUMBERS, Net, SINKS, SOURCES, Shape, TABLE_NUMBERS};
 
 // One number of each pair: the first of the two, or the second.
 fn halve(pairs: &[u64], which: usize, to: &mut [u64])

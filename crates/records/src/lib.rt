@@ -47,7 +47,5 @@ pub fn solve(
         net[MARKS + e] = a.mark;
     }
     judge::check_copy(n, m, net, pairs, limits)?;
-    Ok(judge::deliver(
-        n, q, m, net, pairs, limits, flow, lengths,
-    ))
+    Ok(judge::deliver(n, q, m, net, pairs, limits, flow, lengths))
 }

@@ -21,7 +21,7 @@ pub loop-i-preserved : goal.loop-i-preserved
 loop-i-preserved c =
     let xs = c.args.limits.now in
     let i = c.loop-i.i in
-      elim c.if-limits-i-ne0.branch [
-        | then-limits-i-ne0 w ↦ w.r-is ∙ (ap (λ r. r + 1) c.loop-i.invariant ∙ sym (given-one xs i w.if-limits-i-ne0.true))
-        | else-limits-i-ne0 w ↦ w.r-is ∙ (c.loop-i.invariant ∙ sym (given-zero xs i w.if-limits-i-ne0.false))
-      ]
+    elim c.if-limits-i-ne0.branch [
+      | then-limits-i-ne0 w ↦ w.r-is ∙ (ap (λ r. r + 1) c.loop-i.invariant ∙ sym (given-one xs i w.if-limits-i-ne0.true))
+      | else-limits-i-ne0 w ↦ w.r-is ∙ (c.loop-i.invariant ∙ sym (given-zero xs i w.if-limits-i-ne0.false))
+    ]
