@@ -1,10 +1,6 @@
 -- `site::solve_floors` meets its contract. The loop's invariant: the floors before i are sent, and each table has its length. The measure is what is
 -- left of k. Assumes nothing.
-use mathlib.Core.Path.{◌≡◌}
-use Prim.Native.Nat.{◌-◌, ◌≤◌}
-use lib.ListN.{length}
 use Rattle.call.specs.Deliver.{slices}
-use Rattle.call.specs.Host.{Slices}
 use Rattle.site.specs.Turns.{site, FloorsServed}
 use Rattle.site.proofs.solve_floors.Given as goal
 

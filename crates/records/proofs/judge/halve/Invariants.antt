@@ -1,6 +1,6 @@
 -- `records::judge::halve` meets its contract. The loop's invariant: the first i places have taken their numbers. Assumes nothing.
-use Prim.Native.Nat.{◌+◌, ◌*◌, ◌-◌}
-use lib.ListN.{length, get_or}
+use Prim.Native.Nat.{◌+◌, ◌*◌}
+use lib.ListN.{get_or}
 use Rattle.tables.proofs.Filled.{Filling}
 use Rattle.records.proofs.judge.halve.Given as goal
 

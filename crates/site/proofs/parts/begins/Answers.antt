@@ -1,8 +1,7 @@
 -- `site::parts::begins` meets its contract. The loop's invariant: the part of floor f begins at `from`. The measure is what is left of i.
 -- Assumes nothing.
-use mathlib.Core.Path.{refl, ap, ◌∙◌}
+use mathlib.Core.Path.{refl}
 use Prim.Native.Nat.{◌+◌, ◌*◌, ◌≤◌, ◌<◌}
-use native.Mathlib.Nat.{le_antisymm}
 use native.Mathlib.Omega.{arith}
 use Rattle.bounds.specs.Sites.{floor_numbers}
 use Rattle.numbers.specs.Numbers.{count}

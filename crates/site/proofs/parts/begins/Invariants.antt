@@ -1,7 +1,6 @@
 -- `site::parts::begins` meets its contract. The loop's invariant: the part of floor f begins at `from`.
 -- Assumes nothing.
 use mathlib.Core.Path.{◌≡◌}
-use Prim.Native.Nat.{◌-◌, ◌≤◌}
 use Rattle.site.specs.Parts.{begins}
 use Rattle.site.proofs.parts.begins.Given as goal
 
