@@ -27,24 +27,32 @@ fn lent(
     records::solve(n, q, &arcs[..m], pairs, limits, flow, lengths)
 }
 
-// A column of numbers, after a bar.
-fn print_all<T: Display>(rt: &impl Print, s: &[T]) -> io::Result<()> {
-    rt.write_all(b" |")?;
+// Numbers, each behind a blank and in one write.
+fn print_each<T: Display>(rt: &impl Print, s: &[T]) -> io::Result<()> {
     for x in s {
         print!(rt; " {x}")?;
     }
     Ok(())
 }
 
+// A column of numbers, after a bar.
+fn print_all<T: Display>(rt: &impl Print, s: &[T]) -> io::Result<()> {
+    rt.write_all(b" |")?;
+    print_each(rt, s)
+}
+
 fn print_reply(rt: &impl Print, r: Reply) -> io::Result<()> {
     match r {
         Err(why) => {
             let Code { number, place } = Code::from(why);
-            print!(rt; " refused {number} {place}")
+            rt.write_all(b" refused")?;
+            print_each(rt, &[number, place])
         }
-        Ok(a) => print!(rt;
-            " {} {} {} {} {} {} {}",
-            a.total, a.capacity, a.load, a.bound, a.alpha, a.count, a.best
+        Ok(a) => print_each(
+            rt,
+            &[
+                a.total, a.capacity, a.load, a.bound, a.alpha, a.count, a.best,
+            ],
         ),
     }
 }

@@ -19,7 +19,7 @@ use page::scan::scan;
 use page::sort::sort;
 
 // No path without a loop is as long: at most 63 arcs and 64 nodes of lengths below 2^40.
-const FAR_LENGTH: u64 = 0x8000_0000_0000;
+pub const FAR_LENGTH: u64 = 0x8000_0000_0000;
 
 // A distance has the number of arcs beside the length: none of such a path is as far.
 const FAR: u64 = MOST_NODES * FAR_LENGTH;

@@ -1,21 +1,13 @@
 -- The three tables of the resources in one slice: what each step leaves of them. Assumes nothing.
-use mathlib.Core.Path.{◌≡◌, refl, sym, ◌∙◌}
-use mathlib.Core.List.{List, append_assoc}
+use mathlib.Core.Path.{◌≡◌, refl, sym, ap, ◌∙◌}
+use mathlib.Core.List.{List, ◌++◌}
 use Prim.Native.Nat.{ℕ, ◌+◌, ◌-◌, ◌≤◌}
 use native.Mathlib.Omega.{arith}
-use Rattle.std.specs.List.{copy_within}
+use Rattle.std.proofs.lemmas.List.{take-append-drop, take-append-le, length-take-le}
 use lib.ListN.{length, take, drop}
-use lib.Seq.{drop-drop}
 use Rattle.bounds.specs.Bounds.{most_arcs}
 use Rattle.packed.specs.Packed.{part, put, lengths_from, loads_from, kept_from, table_numbers}
 use Rattle.packed.proofs.Columns.{part_length, put-length, part-put, part-behind, part-before}
-
--- How std says that a part is copied elsewhere, and how the checker shows that it was put there.
-copied : (a b n : ℕ) (xs : List ℕ) → copy_within xs a (a + n) b ≡ put b n xs (part a n xs)
-copied a b n xs =
-    let there : a + n - a ≡ n = omega arith in
-    let here : b + n - b ≡ n = omega arith in
-    rw (there, here, drop-drop n b xs) (append_assoc (take b xs) (take n (drop a xs)) (drop (b + n) xs))
 
 -- The slice T has the lengths L, the loads Y and the kept lengths K of m resources.
 pub record Tabled (m : ℕ) (T L Y K : List ℕ) : Type 0 where
@@ -69,12 +61,24 @@ module _ {m : ℕ} {T L Y K : List ℕ} (H : Tabled m T L Y K) where
         kept = part-put kept_from m T ys (fits kept_from (omega arith)) same;
       }
 
-  -- The lengths kept, as std says that they are copied further on.
-  pub keeps : {T' : List ℕ} → T' ≡ copy_within T lengths_from (lengths_from + m) kept_from → Tabled m T' L Y L
-  keeps e =
+  -- The lengths in what comes before the kept ones.
+  present : part lengths_from m (take kept_from T) ≡ part lengths_from m T
+  present =
+      let two = take kept_from T in
+      let long : lengths_from + m - lengths_from ≤ length two = omega (arith, H.few, length-take-le kept_from T (omega (arith, H.places))) in
+      sym (take-append-le (lengths_from + m - lengths_from) two (drop kept_from T) long) ∙ ap (λ xs. part lengths_from m xs) (take-append-drop kept_from T)
+
+  -- The lengths kept: T is cut in two before its kept lengths, and the lengths of the one part are copied into the other.
+  pub keeps : {T' F B C : List ℕ} → T' ≡ F ++ (C ++ drop m B) → F ≡ take kept_from T → B ≡ drop kept_from T →
+      C ≡ part lengths_from m F → Tabled m T' L Y L
+  keeps e front back after =
       let same = part-size lengths_from (omega arith) ∙ sym (part-size kept_from (omega arith)) in
       let k = with-kept (part lengths_from m T) same in
-      rw (e, copied lengths_from kept_from m T)
+      let there : kept_from + m - kept_from ≡ m = omega arith in
+      let copied = after ∙ ap (λ xs. part lengths_from m xs) front ∙ present in
+      let behind = part lengths_from m T ++ drop m (drop kept_from T) in
+      let as-put : put kept_from m T (part lengths_from m T) ≡ take kept_from T ++ behind = rw there refl in
+      rw (e, copied, front, back, sym as-put)
       (record { few = k.few; places = k.places; lengths = k.lengths; loads = k.loads; kept = k.kept ∙ H.lengths })
 
   -- What holds of the tables holds of those in the slice.

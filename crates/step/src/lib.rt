@@ -74,7 +74,8 @@ pub fn step(
     let g = draws::draw(capacities, path);
     let better = arith::less_product(p.weight, p.alpha, p.bound, c.alpha);
     if better {
-        tables.copy_within(LENGTHS..LENGTHS + m, KEPT);
+        let (present, kept) = tables.split_at_mut(KEPT);
+        kept[..m].copy_from_slice(&present[LENGTHS..LENGTHS + m]);
     }
     draws::push(flow, net, c.commodity, &path[..c.arcs], g);
     let ended = loads::load(
