@@ -1,10 +1,9 @@
 -- The three tables of the resources in one slice: what each step leaves of them. Assumes nothing.
-use mathlib.Core.Path.{◌≡◌, refl, sym, ap, ◌∙◌}
-use mathlib.Core.List.{List, ◌++◌}
-use Prim.Native.Nat.{ℕ, ◌+◌, ◌-◌, ◌≤◌}
+use mathlib.Core.Path.{◌≡◌, refl, sym, ◌∙◌}
+use mathlib.Core.List.{List}
+use Prim.Native.Nat.{ℕ, ◌+◌, ◌≤◌}
 use native.Mathlib.Omega.{arith}
-use Rattle.std.proofs.lemmas.List.{take-append-drop, take-append-le, length-take-le}
-use lib.ListN.{length, take, drop}
+use lib.ListN.{length}
 use Rattle.bounds.specs.Bounds.{most_arcs}
 use Rattle.packed.specs.Packed.{part, put, lengths_from, loads_from, kept_from, table_numbers}
 use Rattle.packed.proofs.Columns.{part_length, put-length, part-put, part-behind, part-before}
@@ -61,25 +60,12 @@ module _ {m : ℕ} {T L Y K : List ℕ} (H : Tabled m T L Y K) where
         kept = part-put kept_from m T ys (fits kept_from (omega arith)) same;
       }
 
-  -- The lengths in what comes before the kept ones.
-  present : part lengths_from m (take kept_from T) ≡ part lengths_from m T
-  present =
-      let two = take kept_from T in
-      let long : lengths_from + m - lengths_from ≤ length two = omega (arith, H.few, length-take-le kept_from T (omega (arith, H.places))) in
-      sym (take-append-le (lengths_from + m - lengths_from) two (drop kept_from T) long) ∙ ap (λ xs. part lengths_from m xs) (take-append-drop kept_from T)
-
-  -- The lengths kept: T is cut in two before its kept lengths, and the lengths of the one part are copied into the other.
-  pub keeps : {T' F B C : List ℕ} → T' ≡ F ++ (C ++ drop m B) → F ≡ take kept_from T → B ≡ drop kept_from T →
-      C ≡ part lengths_from m F → Tabled m T' L Y L
-  keeps e front back after =
+  -- The lengths kept: they are put in the place of those kept before.
+  pub keeps : {T' : List ℕ} → T' ≡ put kept_from m T (part lengths_from m T) → Tabled m T' L Y L
+  keeps e =
       let same = part-size lengths_from (omega arith) ∙ sym (part-size kept_from (omega arith)) in
       let k = with-kept (part lengths_from m T) same in
-      let there : kept_from + m - kept_from ≡ m = omega arith in
-      let copied = after ∙ ap (λ xs. part lengths_from m xs) front ∙ present in
-      let behind = part lengths_from m T ++ drop m (drop kept_from T) in
-      let as-put : put kept_from m T (part lengths_from m T) ≡ take kept_from T ++ behind = rw there refl in
-      rw (e, copied, front, back, sym as-put)
-      (record { few = k.few; places = k.places; lengths = k.lengths; loads = k.loads; kept = k.kept ∙ H.lengths })
+      rw e (record { few = k.few; places = k.places; lengths = k.lengths; loads = k.loads; kept = k.kept ∙ H.lengths })
 
   -- What holds of the tables holds of those in the slice.
   pub in-slice : (P : List ℕ → List ℕ → List ℕ → Type 0) → P L Y K → P (part lengths_from m T) (part loads_from m T) (part kept_from m T)

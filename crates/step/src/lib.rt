@@ -74,8 +74,7 @@ pub fn step(
     let g = draws::draw(capacities, path);
     let better = arith::less_product(p.weight, p.alpha, p.bound, c.alpha);
     if better {
-        let (present, kept) = tables.split_at_mut(KEPT);
-        kept[..m].copy_from_slice(&present[LENGTHS..LENGTHS + m]);
+        loads::copy_within(tables, LENGTHS, KEPT, m);
     }
     draws::push(flow, net, c.commodity, &path[..c.arcs], g);
     let ended = loads::load(

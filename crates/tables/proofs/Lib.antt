@@ -1,4 +1,5 @@
 pub mod Amounts
+pub mod Copied
 pub mod Crossings
 pub mod Filled
 pub mod Followed

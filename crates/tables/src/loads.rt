@@ -1,6 +1,7 @@
-// The loads of all resources: when they end the run, and which resource is fullest.
-ghost use Rattle.std.specs.Prelude.{◌≡◌, ◌-◌, ◌<◌, length};
+// The loads of all resources: when they end the run, and which resource is fullest; and a part of a table copied.
+ghost use Rattle.std.specs.Prelude.{◌≡◌, ◌+◌, ◌-◌, ◌≤◌, ◌<◌, length};
 ghost use Rattle.method.specs.Answer.{fullest};
+ghost use Rattle.packed.specs.Packed.{part, put};
 ghost use Rattle.tables.specs.Calls.{Loading, Ranking};
 ghost use Rattle.tables.specs.Results.{Loaded};
 
@@ -32,4 +33,15 @@ pub fn fullest(loads: &[u64], capacities: &[u64]) -> usize
         }
     }
     b
+}
+
+// The n numbers from one place of a table on put at another place, further on.
+// Kept: std's copy_within was tried, and the archive for C then calls memmove, which a host without libc may not have.
+pub fn copy_within(table: &mut [u64], from: usize, to: usize, n: usize)
+    requires { (from + n ≤ to) × (to + n ≤ length table.old) }
+    ensures { table.new ≡ put to n table.old (part from n table.old) }
+{
+    for e in 0..n {
+        table[to + e] = table[from + e];
+    }
 }

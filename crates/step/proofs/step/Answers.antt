@@ -41,8 +41,7 @@ kept c =
     elim c.if-better.branch [
       | then-better w ↦
           let yes : better ≡ true = w.if-better.true in
-          let cut = w.split_at_mut-present.ensures in
-          rw yes (keeps T w.tables-is cut.front cut.back w.copy_from_slice.ensures.after)
+          rw (w.tables-is, yes) (keeps T w.copy_within.ensures)
       | else-better w ↦ let no : better ≡ false = w.if-better.false in rw (w.tables-is, no) T
     ]
 
