@@ -23,14 +23,14 @@ pub fn items(s: &[u8], k: usize) -> usize
 }
 
 // Number `i` of `s`.
+// Kept: a copy into an array was tried, and is slower: copy_from_slice asks whether the two overlap.
 pub fn read(s: &[u8], i: usize) -> u64
     requires { i < count s.now }
     ensures { result ≡ number_at s.now i }
 {
     let from = 8 * i;
-    let mut bytes = [0; 8];
-    bytes.copy_from_slice(&s[from..from + 8]);
-    u64::from_le_bytes(bytes)
+    let bytes = s[from..from + 8].first_chunk().unwrap();
+    u64::from_le_bytes(*bytes)
 }
 
 // `x` as number `i` of `s`; all other bytes keep their contents.
