@@ -36,7 +36,7 @@ module _ {s : Shape} {net : Network} {l old new : List ℕ} {i j : ℕ} (lent : 
           stuck own w.0 w.1
 
   -- So the last turn has the nearest: the walk has arrived, or the sink was just searched.
-  turn_last :
+  pub turn_last :
       (path : List ℕ) (r : Option ℕ) → Followed net l (bounds_in s new) (distances_in (sink net j) new) j path r → IsSome r ⊎ (sink net j ≡ sink net i) →
       MatchOption r (far_length ≤ get_or (bounds_in s new) j 0) (Closest net l (bounds_in s new) (distances_in (sink net j) new) j path)
   turn_last path (Some x) C end = C

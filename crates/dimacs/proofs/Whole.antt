@@ -14,7 +14,7 @@ use Rattle.dimacs.specs.OneCommodity.{OneCommodity}
 use Rattle.dimacs.specs.Result.{padded, result_of, file_code, verdict_code, Read}
 use Rattle.dimacs.specs.declared.Parsed.{Parsed}
 use Rattle.dimacs.proofs.Holds.{network-sizes}
-use Rattle.dimacs.proofs.LineByLine.{long-file}
+pub use Rattle.dimacs.proofs.LineByLine.{long-file}
 
 -- The three tables have 256 places, of which the arcs fill the first ones.
 pub record Whole (r : Parsed) : Type 0 where
@@ -43,7 +43,7 @@ pub whole : (text : List ℕ) {r : Parsed} → Ok r ≡ result_of (parsed text) 
 whole text {r} e = rw (← e) at (outcome-whole (parsed text) (λ net h. network-sizes text h))
 
 -- The number and place of a verdict are the file's.
-code_of : (f : File) → file_code f ≡ verdict_code (result_of f)
+pub code_of : (f : File) → file_code f ≡ verdict_code (result_of f)
 unfolding result_of file_code verdict_code
 code_of (holds net) = refl
 code_of (refused w) = refl

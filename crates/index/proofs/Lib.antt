@@ -6,4 +6,5 @@ pub mod Limits
 pub mod Locating
 pub mod Opening
 pub mod Putting
+pub mod Seeing
 pub mod Gathering

@@ -47,7 +47,7 @@ module _ {xs caps : List ℕ} {q g : ℕ} {p : List ℕ} (w : Growing xs caps q 
     arc = get_or p j 0
 
     -- The next arc is among the arcs, and its length still below the mark.
-    next_place : arc < length caps
+    pub next_place : arc < length caps
     next_place = w.places j l
 
     pub next-short : get_or ys arc 0 < 2 ^ 40

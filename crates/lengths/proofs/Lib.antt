@@ -1,4 +1,5 @@
 pub mod Instances
 pub mod Lengthened
+pub mod Settling
 pub mod Weighable
 pub mod Weighed

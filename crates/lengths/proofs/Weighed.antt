@@ -2,7 +2,7 @@
 -- Assumes nothing.
 use mathlib.Core.Path.{◌≡◌, refl, sym, ap, ◌∙◌}
 use mathlib.Core.List.{List}
-use Prim.Native.Nat.{ℕ, ◌+◌, ◌*◌, ◌^◌, ◌<◌, suc}
+use Prim.Native.Nat.{ℕ, suc, ◌+◌, ◌*◌, ◌^◌, ◌≤◌, ◌<◌}
 use native.Mathlib.Numerals.{add-one}
 use native.Mathlib.Omega.{arith}
 use lib.ListN.{length, get_or, set}
@@ -22,30 +22,32 @@ pub weigh-none : (wanted capacities old : List ℕ) → Weighing wanted capaciti
 unfolding sum
 weigh-none wanted capacities old = record { filling = fill_none _ old; weight = refl }
 
-module _
-    {wanted capacities old : List ℕ} {n : ℕ} {new : List ℕ} {d : ℕ}
-    (w : Weighable capacities wanted) (same : length old ≡ length capacities)
-    (h : Weighing wanted capacities old n new d)
-  where
-    -- The next arc takes its length,
-    pub weigh-more :
-        (l : ℕ) → n < length capacities → l ≡ get_or wanted n 0 →
-        Weighing wanted capacities old (n + 1) (set new n l) (d + get_or capacities n 0 * l)
-    unfolding sum
-    weigh-more l b k =
-        record { filling = fill_more l h.filling (omega (arith, same)) k; weight = rw (add-one, h.weight, k) }
+-- The next arc takes its length.
+pub weigh-more :
+    {wanted capacities old : List ℕ} {n : ℕ} {new : List ℕ} {d : ℕ} (l : ℕ) → Weighing wanted capacities old n new d → n < length old →
+    l ≡ get_or wanted n 0 → Weighing wanted capacities old (n + 1) (set new n l) (d + get_or capacities n 0 * l)
+unfolding sum
+weigh-more l h b k = record { filling = fill_more l h.filling b k; weight = rw (add-one, h.weight, k) }
 
-    -- and D with its part fits a word.
-    pub weigh-most : {l : ℕ} → n < length capacities → l ≡ get_or wanted n 0 → d + get_or capacities n 0 * l < 2 ^ 58
-    unfolding sum
-    weigh-most b k = rw (h.weight, k) (sum-most w (suc n) b)
+-- All arcs have theirs.
+pub weigh-all :
+    {wanted capacities old : List ℕ} {n : ℕ} {new : List ℕ} {d : ℕ} → Weighing wanted capacities old n new d → length old ≤ n →
+    length wanted ≡ length old → length old ≡ length capacities → Weighed wanted capacities new d
+weigh-all {wanted} {capacities} {old} {n} {new} h l long same =
+    let done : new ≡ wanted = fill-all wanted h.filling l long (λ j b. refl) in
+    let all : n ≡ length capacities = omega (arith, h.filling.within) in
+    record { lengths = done; weight = h.weight ∙ (ap (λ i. sum i (term capacities wanted)) all ∙ ap (weight_of capacities) (sym done)) }
 
-    -- All arcs have theirs.
-    pub weigh-all : n ≡ length capacities → Weighed wanted capacities new d
-    weigh-all q =
-        let done : new ≡ wanted =
-        fill-all wanted h.filling (omega (arith, same)) (w.same ∙ sym same) (λ j b. refl) in
-        record {
-          lengths = done;
-          weight = h.weight ∙ (ap (λ i. sum i (term capacities wanted)) q ∙ ap (weight_of capacities) (sym done));
-        }
+-- On the way D fits a word.
+pub weighing-most :
+    {wanted capacities old : List ℕ} {n : ℕ} {new : List ℕ} {d : ℕ} → Weighable capacities wanted → Weighing wanted capacities old n new d →
+    n < length capacities → d < 2 ^ 58
+weighing-most {n = n} w h l = rw h.weight (sum-most w n (omega arith))
+
+-- and so does D with the next arc's part.
+pub weigh-most :
+    {wanted capacities old : List ℕ} {n : ℕ} {new : List ℕ} {d : ℕ} {l : ℕ} → Weighable capacities wanted →
+    Weighing wanted capacities old n new d → n < length capacities → l ≡ get_or wanted n 0 →
+    d + get_or capacities n 0 * l < 2 ^ 58
+unfolding sum
+weigh-most {n = n} w h b k = rw (h.weight, k) (sum-most w (suc n) b)

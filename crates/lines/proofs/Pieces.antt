@@ -10,6 +10,16 @@ use Rattle.arith.specs.Scan.{until}
 use Rattle.lines.specs.Pieces.{lead, pieces}
 
 module _ (f : ℕ → Bool) where
+  -- where the scan stops it goes no further
+  pub until-again : (s : List ℕ) → until f (drop (until f s) s) ≡ 0
+  unfolding until
+  until-again [] = refl
+  until-again (x ∷ xs) = by (f x) refl (until-again xs)
+    where
+      by : (t : Bool) → f x ≡ t → until f (drop (until f xs) xs) ≡ 0 → until f (drop (cond t 0 (suc (until f xs))) (x ∷ xs)) ≡ 0
+      by true e h = rw e
+      by false e h = h
+
   front : (x : ℕ) (xs : List ℕ) →
       pieces f (x ∷ xs) ≡ take (until f (x ∷ xs)) (x ∷ xs) ∷ pieces f (drop (suc (until f (x ∷ xs))) (x ∷ xs))
   unfolding pieces until lead

@@ -57,7 +57,7 @@ module _ (s : Shape) (few : s.arcs ≤ 256) (xs : List ℕ) (places : net_number
         put-length tails_from m xs t' (omega arith) nt
 
     -- The slice keeps its length.
-    filled-length : length filled ≡ length xs
+    pub filled-length : length filled ≡ length xs
     filled-length = length-set (set arced 768 source) 800 sink ∙ (length-set arced 768 source ∙ long)
 
     tails-in : part tails_from m filled ≡ t

@@ -29,7 +29,7 @@ module _ {xs caps : List ℕ} {t : ℕ} {p : List ℕ} {g : ℕ} (w : Loading xs
     arc = get_or p j 0
 
     -- The next arc is among the arcs, and its load is small.
-    next_place : arc < length xs
+    pub next_place : arc < length xs
     next_place = omega (arith, w.adding.places j l)
 
     pub next-load : get_or ys arc 0 < 2 ^ 32 + 128 * 1000

@@ -3,7 +3,7 @@
 use mathlib.Core.Path.{◌≡◌, sym, ◌∙◌}
 use Prim.Native.Nat.{◌+◌, ◌*◌, ◌^◌, ◌<◌}
 use native.Mathlib.Omega.{arith}
-use lib.ListN.{get_or}
+use lib.ListN.{get_or, length-map}
 use Rattle.arith.proofs.Lists.{map_at}
 use Rattle.length.specs.Length.{start}
 use Rattle.lengths.specs.Results.{first_lengths}
@@ -19,14 +19,14 @@ first c = c.start-first.ensures.value ∙ sym (map_at start c.args.capacities.no
 -- and D with its part fits.
 fits : (c : After-start-first) →
     c.loop-e.d + get_or c.args.capacities.now c.loop-e.e 0 * c.start-first.result.value < 2 ^ 58
-fits c = let r = c.requires in weigh-most (first-weighable r) r.same c.loop-e.invariant (omega arith) (first c)
+fits c = weigh-most (first-weighable c.requires) c.loop-e.invariant (omega arith) (first c)
 
 pub loop-e-init : goal.loop-e-init
 loop-e-init c = weigh-none _ _ _
 
 pub loop-e-preserved : goal.loop-e-preserved
 loop-e-preserved c =
-    let r = c.requires in weigh-more (first-weighable r) r.same c.loop-e.invariant _ (omega arith) (first c)
+    weigh-more _ c.loop-e.invariant (omega (arith, c.requires.same)) (first c)
 
 pub overflow_mul-d : goal.overflow_mul-d
 overflow_mul-d c = omega (arith, fits c)
@@ -35,4 +35,6 @@ pub overflow_add-d : goal.overflow_add-d
 overflow_add-d c = omega (arith, fits c)
 
 pub returns : goal.returns
-returns c = let r = c.requires in weigh-all (first-weighable r) r.same c.loop-e.invariant (omega arith)
+returns c =
+    let r = c.requires in
+    weigh-all c.loop-e.invariant (omega (arith, r.same)) (length-map c.args.capacities.now start ∙ sym r.same) r.same
