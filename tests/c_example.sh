@@ -4,12 +4,20 @@
 # (tests/second), meets every refusal from C (tests/refusals.c), holds the whole totes of
 # pairs to their amounts (tests/totes.c) and sites to their floors sent singly
 # (tests/site.c), and tries what the header adds to the calls (tests/helpers.c), and the
-# floor that README has in two ways. The header's times are those of docs/SPEED.md.
+# floor that README has in two ways. The header's times are those of docs/SPEED.md. The
+# archive asks a host without libc for memcpy and memset, and for nothing more.
 set -eu
 cd "$(dirname "$0")/.."
 tests/second/archive.sh
 made=target/second
 archive=target/staticlib/libvithmork.a
+
+nm --defined-only "$archive" | awk 'NF == 3 { print $3 }' | sort -u >"$made/defined"
+lacking=$(nm --undefined-only "$archive" | awk '$1 == "U" { print $2 }' | sort -u | comm -13 "$made/defined" - | tr '\n' ' ')
+if [ "$lacking" != "memcpy memset " ]; then
+    echo "c_example: the archive asks for $lacking"
+    exit 1
+fi
 
 strict=(-Wall -Wextra -Wpedantic -Werror -Iinclude)
 echo '#include "vithmork.h"' >"$made/header.cpp"
